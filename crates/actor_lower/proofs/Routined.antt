@@ -27,7 +27,7 @@ use Rattle.expr_lower.proofs.Served.{sizes_of}
 use Rattle.stmt_lower.specs.Acting.{HasCells}
 use Rattle.stmt_lower.specs.Bodies.{AreLaid}
 use Rattle.stmt_lower.specs.Calls.{HasRunRoutines}
-use Rattle.stmt_lower.specs.Proceeding.{AreProcRoutines, FitsAsProc, ProcSized, no_procedure, procedure_more}
+use Rattle.stmt_lower.specs.Proceeding.{FitsAsProc, ProcSized, no_procedure, procedure_more}
 use Rattle.stmt_lower.specs.Procedures.{Procedure, procedure_named}
 use Rattle.stmt_lower.proofs.FittedProcs.{proc_fits}
 use Rattle.stmt_lower.proofs.ProcServed.{proc_grows}

@@ -1,5 +1,5 @@
 -- The actor that keeps the doubles of its last two tokens is sound.
-use Rattle.std.proofs.Common.{◌≡◌, ℕ, zero, suc, ◌<◌, ◌≤◌, ◌⊎◌, inl, inr, ⊎_elim, true, false, List, [], ◌∷◌, codes, length, refl, ap, ◌∙◌, arith, None, Some}
+use Rattle.std.proofs.Common.{◌≡◌, ℕ, zero, suc, ◌≤◌, ◌⊎◌, inl, inr, ⊎_elim, true, false, [], ◌∷◌, codes, length, refl, ap, ◌∙◌, arith, None, Some}
 use Rattle.std.proofs.lemmas.Int.{ints}
 use Rattle.std.specs.Prelude.{Contains, slice_get, ◌==◌}
 use Rattle.rvc_base.specs.declared.scalar.Scalar.TheVariants as scalar

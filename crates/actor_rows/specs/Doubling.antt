@@ -1,6 +1,6 @@
 -- An actor that keeps the doubles of its last two tokens, as its meaning sees it.
 -- Not trusted: no promise is read with it.
-use Rattle.std.specs.Prelude.{List, [], ◌∷◌, codes, pos, true, false, None}
+use Rattle.std.specs.Prelude.{[], ◌∷◌, codes, pos, true, false, None}
 use Rattle.rvc_base.specs.declared.scalar.Scalar.TheVariants as scalar
 use Rattle.cal_ast.specs.Tree as tree
 use Rattle.cal_ast.specs.Tree.{Tree, listed}

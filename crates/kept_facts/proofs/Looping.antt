@@ -8,7 +8,7 @@ use Rattle.code_ir.specs.declared.instr.Instr.TheVariants as op
 use Rattle.lowered_actor.specs.Actor.{Action, Actor}
 use Rattle.kept_facts.specs.declared.body.Body.{Body}
 use Rattle.kept_facts.specs.declared.body.Last.{Last}
-use Rattle.kept_facts.specs.Rows.{Enters, Flows, FlowsAt, is_among, is_set, row_at, writes}
+use Rattle.kept_facts.specs.Rows.{Enters, Flows, is_among, is_set, row_at, writes}
 use Rattle.kept_facts.specs.Fitting.{AreRoutines, AreSet, FitsAll, FitsAt, IsRoutine, MayCall, MayEnter, Sends}
 use Rattle.kept_facts.proofs.Alike.{both-true, either-true}
 

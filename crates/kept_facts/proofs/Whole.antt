@@ -1,7 +1,7 @@
 -- Actions whose bodies fit keep the facts.
-use Rattle.std.proofs.Common.{false, true, subst, All}
+use Rattle.std.proofs.Common.{false, true, All}
 use Rattle.lowered_actor.specs.Actor.{Actor}
-use Rattle.lowered_actor.specs.Facts.{IsFiring, IsGuard, RunRight}
+use Rattle.lowered_actor.specs.Facts.{RunRight}
 use Rattle.lowered_actor.proofs.Running.{all-among, all-at}
 use Rattle.kept_facts.specs.Fitting.{HasBodies, HasBody}
 use Rattle.kept_facts.proofs.Facts.{OneEnd, firing-keeps, guard-keeps}

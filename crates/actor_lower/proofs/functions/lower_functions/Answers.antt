@@ -1,8 +1,8 @@
-use Rattle.std.proofs.Common.{◌∙◌, ap, arith, length, sym}
+use Rattle.std.proofs.Common.{ap, arith}
 use Rattle.std.proofs.lemmas.List.{length-map}
 use Rattle.cal_model.specs.View.{actor_of, fun_view}
 use Rattle.expr_lower.specs.Callees.{functions_view}
-use Rattle.actor_lower.proofs.Chosen.{functions-at-first, all-functions}
+use Rattle.actor_lower.proofs.Chosen.{functions-at-first}
 use Rattle.actor_lower.proofs.functions.lower_functions.Goals as goal
 
 pub lower_left-requires-clause-so_far : goal.lower_left-requires-clause-so_far

@@ -1,9 +1,9 @@
-use Rattle.std.proofs.Common.{◌∙◌, ap, arith, length, sym}
+use Rattle.std.proofs.Common.{ap, arith}
 use Rattle.std.proofs.lemmas.List.{length-map}
 use Rattle.cal_model.specs.View.{actor_of, proc_view}
 use Rattle.expr_lower.specs.Callees.{functions_view}
 use Rattle.stmt_lower.specs.Procedures.{procedures_view}
-use Rattle.actor_lower.proofs.Chosen.{procedures-at-first, all-procedures}
+use Rattle.actor_lower.proofs.Chosen.{procedures-at-first}
 use Rattle.actor_lower.proofs.procedures.lower_procedures.Goals as goal
 
 pub lower_left-requires-clause-so_far : goal.lower_left-requires-clause-so_far

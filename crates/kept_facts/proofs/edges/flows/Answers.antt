@@ -1,5 +1,4 @@
 use Rattle.std.proofs.Common.{◌≤◌, Bool, List, length, subst}
-use Rattle.kept_facts.specs.Rows.{row_at}
 use Rattle.kept_facts.proofs.Looping.{flows-all}
 use Rattle.kept_facts.proofs.edges.flows.Goals as goal
 

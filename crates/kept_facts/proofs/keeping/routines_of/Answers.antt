@@ -1,4 +1,4 @@
-use Rattle.std.proofs.Common.{List, Option, subst}
+use Rattle.std.proofs.Common.{subst}
 use Rattle.lowered_actor.specs.Actor.{actor_of}
 use Rattle.kept_facts.specs.Fitting.{IsRoutine}
 use Rattle.kept_facts.proofs.Looping.{routines-more}
