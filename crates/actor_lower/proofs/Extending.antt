@@ -87,6 +87,7 @@ coded-more actor a coded old new grown h = record {
   firsts = h.firsts;
   fires = fires-more actor a coded.fire h.firsts old new grown h.fires;
   sends = h.sends;
+  inside = λ act port e. let one = h.inside act port e in let le = grown.cells in omega (arith, one, le);
 }
 
 -- code of a firing fires where it stands, in code that has the routines

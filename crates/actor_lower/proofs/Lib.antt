@@ -9,3 +9,5 @@ pub mod Rowed
 pub mod Routined
 pub mod Chosen
 pub mod Cleared
+pub mod Inside
+pub mod Together

@@ -5,6 +5,7 @@ use Rattle.std.specs.List.{range_with_len}
 use Rattle.cal_model.specs.Actor.{Action, Actor}
 use Rattle.cal_model.specs.ActorState.{IsActorState, AreTokensOf}
 use Rattle.cal_model.specs.Eligible.{eligible}
+use Rattle.cal_model.specs.Rates.{given_on}
 use Rattle.cal_model.specs.Selection.{State, has_its_tokens}
 use Rattle.code_ir.specs.declared.instr.Instr.{Instr}
 use Rattle.code_ir.specs.Code.{Code}
@@ -38,6 +39,11 @@ FiresFrom actor a entry firsts draft =
     → has_its_tokens actor u a ≡ true → HoldVars actor x cells
     → Fires actor a act firsts whole entry x u cells
 
+-- the cells of what an action sends to each port are there
+abbrev pub SendsInside : Actor → ℕ → List ℕ → Draft → Type 0
+SendsInside actor a firsts draft = (act : Action) (port : ℕ) → slice_get actor.actions a ≡ Some act
+    → first_on act.outputs firsts port + given_on port act.outputs ≤ draft.cells
+
 -- for each output port the first cell of what an action sends there
 abbrev pub AreSends : Actor → ℕ → List ℕ → List ℕ → Type 0
 AreSends actor a firsts sends = (act : Action) → slice_get actor.actions a ≡ Some act
@@ -50,6 +56,7 @@ pub record IsCodedAction (actor : Actor) (a : ℕ) (coded : ActionCode) (draft :
   pub firsts : List ℕ
   pub fires : FiresFrom actor a coded.fire firsts draft
   pub sends : AreSends actor a firsts coded.sends.items
+  pub inside : SendsInside actor a firsts draft
 
 -- .. so it is with the first n actions
 pub record AreCodedActions (actor : Actor) (n : ℕ) (actions : List ActionCode) (draft : Draft) : Type 0 where

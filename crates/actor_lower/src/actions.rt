@@ -7,7 +7,7 @@ ghost use Rattle.stmt_lower.specs.Procedures.{routines_of};
 ghost use Rattle.action_lower.specs.GuardWords.{AnswerAsGuards};
 ghost use Rattle.action_lower.specs.Seats.{state_cells};
 ghost use Rattle.actor_tables.specs.Tables.{AreRates, AreRatesOf};
-ghost use Rattle.actor_lower.specs.Coded.{AddsBodies, AreCodedActions, FiresFrom, IsCodedAction, IsMore, all_entries, entries_of};
+ghost use Rattle.actor_lower.specs.Coded.{AddsBodies, AreCodedActions, FiresFrom, IsCodedAction, IsMore, SendsInside, all_entries, entries_of};
 ghost use Rattle.actor_lower.specs.Drafted.{IsServed};
 ghost use Rattle.actor_lower.specs.Faults.{AreWhole, IsWhyAction, IsWhyActions, left_out_at};
 
@@ -127,6 +127,8 @@ fn lower_entries(
     ensures bodies { IfOk result (λ entries.
         AddsBodies (entries.guards.items ++ entries.fire ∷ []) draft.old draft.new) }
     ensures fires { IfOk result (λ entries. FiresFrom (actor_of b.now) action entries.fire
+        entries.firsts.items draft.new) }
+    ensures inside { IfOk result (λ entries. SendsInside (actor_of b.now) action
         entries.firsts.items draft.new) }
     ensures more { OnOk result (IsMore draft.old draft.new) }
     ensures whole { OnOk result

@@ -3,6 +3,8 @@
 ghost use Rattle.std.specs.Prelude.{IfErr, IfOk, OnOk};
 ghost use Rattle.cal_model.specs.Sound.{IsSound};
 ghost use Rattle.cal_model.specs.View.{actor_of};
+ghost use Rattle.lowered_actor.specs.Actor.{actor_of as parts_view};
+ghost use Rattle.lowered_actor.specs.Facts.{FitTogether};
 ghost use Rattle.actor_lower.specs.Coded.{IsMadeOf};
 ghost use Rattle.actor_lower.specs.Faults.{IsActorFault, IsCodeFault, IsWhole};
 ghost use Rattle.actor_lower.specs.Standing.{StandsForActor};
@@ -73,14 +75,12 @@ pub fn lower(alloc: Global, b: &Bound) -> Result<Lowered, ActorFault>
     of_parts(alloc, parts)
 }
 
-/// The lowered actor of parts, if they are seen to fit together and to keep the facts.
+/// The lowered actor of parts that fit together, if they are seen to keep the facts.
 fn of_parts(alloc: Global, parts: Parts) -> Result<Lowered, ActorFault>
+    requires fits { FitTogether (parts_view parts) }
     ensures made { IfOk result (IsMadeOf parts) }
     ensures fault { IfErr result IsCodeFault }
 {
-    if !parts.fit() {
-        return Err(ActorFault::NotSeen);
-    }
     let keep = keep_facts(alloc, &parts)?;
     if !keep {
         return Err(ActorFault::NotSeen);

@@ -8,7 +8,7 @@ ghost use Rattle.stmt_lower.specs.Procedures.{routines_of};
 ghost use Rattle.action_lower.specs.FiringWords.{left_out_of};
 ghost use Rattle.action_lower.specs.Seats.{state_cells};
 ghost use Rattle.action_lower.specs.SendWords.{IsSendFault};
-ghost use Rattle.actor_lower.specs.Coded.{AddsBodies, FiresFrom, IsMore};
+ghost use Rattle.actor_lower.specs.Coded.{AddsBodies, FiresFrom, IsMore, SendsInside};
 ghost use Rattle.actor_lower.specs.Drafted.{IsServed, SetsZero};
 
 use action_lower::{Firing, lower_firing};
@@ -38,6 +38,8 @@ pub(crate) fn put_firing(
     ensures fires { IfOk result (λ f. FiresFrom (actor_of b.now) action f.entry f.firsts.items
         draft.new) }
     ensures bodies { IfOk result (λ f. AddsBodies (f.entry ∷ []) draft.old draft.new) }
+    ensures inside { IfOk result (λ f. SendsInside (actor_of b.now) action f.firsts.items
+        draft.new) }
     ensures more { OnOk result (IsMore draft.old draft.new) }
     ensures whole { OnOk result
         (left_out_of (routines_of callees.now procedures.now) b.now action ≡ None) }
@@ -66,6 +68,8 @@ fn put_plain(
     ensures fires { IfOk result (λ f. FiresFrom (actor_of b.now) action f.entry f.firsts.items
         draft.new) }
     ensures bodies { IfOk result (λ f. AddsBodies (f.entry ∷ []) draft.old draft.new) }
+    ensures inside { IfOk result (λ f. SendsInside (actor_of b.now) action f.firsts.items
+        draft.new) }
     ensures more { OnOk result (IsMore draft.old draft.new) }
     ensures whole { OnOk result
         (left_out_of (routines_of callees.now procedures.now) b.now action ≡ None) }
@@ -93,6 +97,8 @@ fn put_cleared(
     ensures fires { IfOk result (λ f. FiresFrom (actor_of b.now) action f.entry f.firsts.items
         draft.new) }
     ensures bodies { IfOk result (λ f. AddsBodies (f.entry ∷ []) draft.old draft.new) }
+    ensures inside { IfOk result (λ f. SendsInside (actor_of b.now) action f.firsts.items
+        draft.new) }
     ensures more { OnOk result (IsMore draft.old draft.new) }
     ensures whole { OnOk result
         (left_out_of (routines_of callees.now procedures.now) b.now action ≡ None) }

@@ -1,10 +1,12 @@
-use Rattle.std.proofs.Common.{subst, sym}
+use Rattle.std.proofs.Common.{◌≡◌, ◌∙◌, ap, arith, subst, sym}
 use Rattle.std.proofs.lemmas.Result.{IfErr-weaker, IfOk-weaker}
 use Rattle.cal_model.specs.View.{actor_of}
-use Rattle.actor_lower.specs.Coded.{AreBodiesOf}
+use Rattle.lowered_actor.specs.declared.parts.Parts.{Parts}
+use Rattle.actor_lower.specs.Coded.{AreBodiesOf, all_entries}
 use Rattle.actor_lower.specs.Faults.{IsActorFault, IsWhole}
 use Rattle.actor_lower.proofs.Chosen.{code-why, if-ok, is-whole, served-same, whole-why, why-err}
 use Rattle.actor_lower.proofs.Rowed.{bodies-of}
+use Rattle.actor_lower.proofs.Together.{parts-fit}
 use Rattle.actor_lower.proofs.Tabled.{parts-stand}
 use Rattle.actor_lower.proofs.actor.lower.Goals as goal
 
@@ -13,7 +15,7 @@ returns-clause-stands_for c =
     let tables = c.in_ok-tables.ensures in
     IfOk-weaker c.of_parts.result _ _ (λ l made.
     parts-stand c.args.b.now _ c.lower_actions.new.draft tables.schedule tables.start tables.priority c.in_ok-actions.ensures.coded tables.kept tables.saved tables.ins tables.outs
-    l made c.requires.sound c.in_ok-code.ensures.code c.in_ok-first.ensures
+    l made c.requires.sound c.in_ok-code.ensures.code c.in_ok-first.ensures.first
     c.tables_are_meant.ensures.rates c.runs_suffice.ensures.guards c.runs_suffice.ensures.firings c.lowered_actors_behave_as_meant.ensures)
     c.of_parts.ensures.made
 
@@ -54,3 +56,42 @@ returns-clause-fault c =
     (code-why c.args.b.now
     (is-whole c.args.b.now c.in_ok-called.called.callees.items c.deref.result.now c.in_ok-called.called.procedures.items c.deref-2.result.now c.deref.ensures.value c.deref-2.ensures.value c.in_ok-called.ensures.settled
     c.in_ok-actions.ensures.whole)) c.of_parts.ensures.fault
+
+pub first_numbers-requires : goal.first_numbers-requires
+first_numbers-requires c = record {
+  sound = c.requires.sound;
+  room =
+      let state = c.in_ok-called.ensures.served.state in
+      let below = c.in_ok-called.ensures.served.below in
+      let le = c.in_ok-actions.ensures.more.cells in
+      let same = c.in_ok-code.ensures.code.cells in
+      let is = c.cells.ensures in
+      omega (arith, state, below, le, same, is);
+}
+
+pub of_parts-requires : goal.of_parts-requires
+of_parts-requires c =
+    let tables = c.in_ok-tables.ensures in
+    let parts : Parts = record {
+      code = c.in_ok-code.code;
+      fsm = c.in_ok-tables.tables.fsm;
+      order = c.in_ok-tables.tables.order;
+      actions = c.in_ok-actions.actions;
+      first = c.in_ok-first.first;
+      kept = c.in_ok-tables.tables.kept;
+      start = c.in_ok-tables.tables.start;
+      saved = c.in_ok-tables.tables.saved;
+      ins = c.in_ok-tables.tables.ins;
+      outs = c.in_ok-tables.tables.outs;
+    } in
+    let entries : c.in_ok-code.code.entries ≡ all_entries c.in_ok-actions.actions.items = c.in_ok-code.ensures.entries ∙ ap all_entries c.deref-4.ensures.value in
+    record {
+      fits = parts-fit c.args.b.now parts c.lower_actions.new.draft tables.schedule tables.priority c.in_ok-actions.ensures.coded c.in_ok-code.ensures.code entries tables.ins tables.outs
+          (c.in_ok-first.ensures.size ∙ c.cells.ensures) tables.begins
+          (let state = c.in_ok-called.ensures.served.state in
+          let below = c.in_ok-called.ensures.served.below in
+          let le = c.in_ok-actions.ensures.more.cells in
+          let same = c.in_ok-code.ensures.code.cells in
+          let kept = tables.kept in
+          omega (arith, state, below, le, same, kept)) tables.inside;
+    }
