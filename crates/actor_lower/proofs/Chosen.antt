@@ -22,7 +22,8 @@ use Rattle.action_lower.specs.FiringCode.{globals_of}
 use Rattle.actor_lower.specs.Drafted.{AddsFunction, AddsProcedure, FunctionsSoFar, HasFunctionAt, HasProcedureAt, HoldsFunctions, HoldsProcedures, IsLeft, IsServed, NoFunctionMore, NoProcedureMore, ProceduresSoFar}
 use Rattle.actor_lower.specs.declared.fault.ActorFault.{ActorFault}
 use Rattle.actor_lower.specs.declared.fault.ActorFault.TheVariants.{Memory, NotLowered, NotSeen, TooLarge}
-use Rattle.actor_lower.specs.Faults.{AreWhole, IsActorFault, IsCodeFault, IsLeftOut, IsRoutineFault, IsWhole, IsWhyAction, IsWhyActions, actor_fault}
+use Rattle.actor_lower.specs.Faults.{AreWhole, IsActorFault, IsCodeFault, IsLeftOut, IsPartsFault, IsRoutineFault, IsWhole, IsWhyAction, IsWhyActions, actor_fault}
+use Rattle.lowered_actor.specs.declared.parts.ActionCode.{ActionCode}
 use Rattle.actor_lower.specs.Settled.{AllFunctions, AllProcedures, AreFunctions, AreProcedures, AreSettled, HasFunction, HasProcedure, IsFunction, IsProcedure, calling, function_more, no_function, no_procedure, procedure_more}
 use Rattle.actor_lower.proofs.Likeness.{mapped}
 use Rattle.actor_lower.proofs.Sent.{below, found}
@@ -216,7 +217,13 @@ pub code-why : (b : Bound) → IsWhole b → (e : ActorFault) → IsCodeFault e 
 code-why b whole Memory h = tt
 code-why b whole (NotLowered at) h = absurd h
 code-why b whole TooLarge h = tt
-code-why b whole NotSeen h = whole
+code-why b whole NotSeen h = absurd h
+
+pub parts-why : (b : Bound) (actions : List ActionCode) → IsWhole b → length actions ≡ length b.actions.items → (e : ActorFault) → IsPartsFault actions e → IsActorFault b e
+parts-why b actions whole many Memory h = tt
+parts-why b actions whole many (NotLowered at) h = absurd h
+parts-why b actions whole many TooLarge h = absurd h
+parts-why b actions whole many NotSeen h = (whole, omega (arith, h, many))
 
 pub routine-why : (b : Bound) (e : ActorFault) → IsRoutineFault e → IsActorFault b e
 routine-why b Memory h = tt

@@ -1,6 +1,6 @@
 -- Why an actor isn't lowered.
--- Trusted but for `IsWhyAction`, `IsWhyActions` and `IsRoutineFault`: part of what a promise means.
-use Rattle.std.specs.Prelude.{◌≡◌, ℕ, ◌<◌, length, Option, None, Some}
+-- Trusted but for `IsCodeFault`, `IsPartsFault`, `IsWhyAction`, `IsWhyActions` and `IsRoutineFault`: part of what a promise means.
+use Rattle.std.specs.Prelude.{◌≡◌, ℕ, ◌<◌, List, length, Option, None, Some}
 use Rattle.cal_model.specs.declared.bound.Bound.{Bound}
 use Rattle.cal_model.specs.View.{actor_of}
 use Rattle.expr_lower.specs.declared.fault.LowerFault.{LowerFault}
@@ -9,6 +9,7 @@ use Rattle.expr_lower.specs.Growing.{◌or_else◌}
 use Rattle.stmt_lower.specs.Procedures.{Routines}
 use Rattle.action_lower.specs.GuardWords.{left_out_action}
 use Rattle.action_lower.specs.FiringWords.{left_out_of}
+use Rattle.lowered_actor.specs.declared.parts.ActionCode.{ActionCode}
 use Rattle.actor_lower.specs.Settled.{AreSettled}
 use Rattle.actor_lower.specs.declared.fault.ActorFault.{ActorFault}
 use Rattle.actor_lower.specs.declared.fault.ActorFault.TheVariants.{Memory, NotLowered, TooLarge, NotSeen}
@@ -52,12 +53,12 @@ pub record IsWhole (b : Bound) : Type 0 where
 
 -- ---- causes
 
--- a part is left out only if it is the first one, and code that isn't seen to keep the facts is whole
+-- a part is left out only if it is the first one, and code that isn't seen to keep the facts is whole and has actions
 abbrev pub IsActorFault : Bound → ActorFault → Type 0
 IsActorFault b Memory = Unit {0}
 IsActorFault b (NotLowered at) = IsPartLeftOut b at
 IsActorFault b TooLarge = Unit {0}
-IsActorFault b NotSeen = IsWhole b
+IsActorFault b NotSeen = IsWhole b × (0 < length b.actions.items)
 
 -- .. of all actions, if firings may call these
 abbrev pub IsWhyActions : Routines → Bound → ActorFault → Type 0
@@ -71,7 +72,14 @@ abbrev pub IsCodeFault : ActorFault → Type 0
 IsCodeFault Memory = Unit {0}
 IsCodeFault (NotLowered at) = ⊥
 IsCodeFault TooLarge = Unit {0}
-IsCodeFault NotSeen = Unit {0}
+IsCodeFault NotSeen = ⊥
+
+-- .. and only code of actions may not be seen to keep the facts
+abbrev pub IsPartsFault : List ActionCode → ActorFault → Type 0
+IsPartsFault actions Memory = Unit {0}
+IsPartsFault actions (NotLowered at) = ⊥
+IsPartsFault actions TooLarge = ⊥
+IsPartsFault actions NotSeen = 0 < length actions
 
 -- .. and routines alone can't be seen to keep the facts or not
 abbrev pub IsRoutineFault : ActorFault → Type 0

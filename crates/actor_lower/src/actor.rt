@@ -6,7 +6,7 @@ ghost use Rattle.cal_model.specs.View.{actor_of};
 ghost use Rattle.lowered_actor.specs.Actor.{actor_of as parts_view};
 ghost use Rattle.lowered_actor.specs.Facts.{FitTogether};
 ghost use Rattle.actor_lower.specs.Coded.{IsMadeOf};
-ghost use Rattle.actor_lower.specs.Faults.{IsActorFault, IsCodeFault, IsWhole};
+ghost use Rattle.actor_lower.specs.Faults.{IsActorFault, IsPartsFault, IsWhole};
 ghost use Rattle.actor_lower.specs.Standing.{StandsForActor};
 
 use crate::actions::lower_actions;
@@ -79,7 +79,7 @@ pub fn lower(alloc: Global, b: &Bound) -> Result<Lowered, ActorFault>
 fn of_parts(alloc: Global, parts: Parts) -> Result<Lowered, ActorFault>
     requires fits { FitTogether (parts_view parts) }
     ensures made { IfOk result (IsMadeOf parts) }
-    ensures fault { IfErr result IsCodeFault }
+    ensures fault { IfErr result (IsPartsFault parts.actions.items) }
 {
     let keep = keep_facts(alloc, &parts)?;
     if !keep {

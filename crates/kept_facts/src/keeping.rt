@@ -1,6 +1,6 @@
 //! Whether the parts of a lowered actor keep the facts of guards and firings.
 
-ghost use Rattle.std.specs.Prelude.{◌≡◌, ◌<◌, IfOk, IsTrue, Some, false, length, true};
+ghost use Rattle.std.specs.Prelude.{◌≡◌, ◌<◌, [], IfOk, IsTrue, Some, false, length, true};
 ghost use Rattle.lowered_actor.specs.Actor.{action_of, actor_of};
 ghost use Rattle.lowered_actor.specs.Facts.{Fits, FitTogether, RunRight};
 ghost use Rattle.kept_facts.specs.declared.body.Body.{Body as DeclaredBody};
@@ -15,7 +15,7 @@ use std::alloc::{AllocError, Global};
 
 /// Whether it is seen that each guard and each firing of the parts keeps the facts of lowered actors. Code that fills a
 /// list item by item and has no instruction that sets the list before isn't seen to keep them, nor is a body with
-/// several ends.
+/// several ends. If there are no actions, it is seen.
 ///
 /// # Errors
 ///
@@ -23,6 +23,7 @@ use std::alloc::{AllocError, Global};
 pub fn keep_facts(alloc: Global, parts: &Parts) -> Result<bool, AllocError>
     requires fits { FitTogether (actor_of parts.now) }
     ensures right { IfOk result (λ keep. IsTrue keep → RunRight (actor_of parts.now)) }
+    ensures none { (actor_of parts.now).actions ≡ [] → IfOk result (λ keep. IsTrue keep) }
 {
     // it tells that a run has one end
     has_one_end();

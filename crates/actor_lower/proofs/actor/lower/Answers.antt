@@ -4,7 +4,7 @@ use Rattle.cal_model.specs.View.{actor_of}
 use Rattle.lowered_actor.specs.declared.parts.Parts.{Parts}
 use Rattle.actor_lower.specs.Coded.{AreBodiesOf, all_entries}
 use Rattle.actor_lower.specs.Faults.{IsActorFault, IsWhole}
-use Rattle.actor_lower.proofs.Chosen.{code-why, if-ok, is-whole, served-same, whole-why, why-err}
+use Rattle.actor_lower.proofs.Chosen.{code-why, if-ok, is-whole, parts-why, served-same, whole-why, why-err}
 use Rattle.actor_lower.proofs.Rowed.{bodies-of}
 use Rattle.actor_lower.proofs.Together.{parts-fit}
 use Rattle.actor_lower.proofs.Tabled.{parts-stand}
@@ -53,9 +53,9 @@ returns-clause-whole c =
 pub returns-clause-fault : goal.returns-clause-fault
 returns-clause-fault c =
     IfErr-weaker c.of_parts.result _ (IsActorFault c.args.b.now)
-    (code-why c.args.b.now
+    (parts-why c.args.b.now c.in_ok-actions.actions.items
     (is-whole c.args.b.now c.in_ok-called.called.callees.items c.deref.result.now c.in_ok-called.called.procedures.items c.deref-2.result.now c.deref.ensures.value c.deref-2.ensures.value c.in_ok-called.ensures.settled
-    c.in_ok-actions.ensures.whole)) c.of_parts.ensures.fault
+    c.in_ok-actions.ensures.whole) c.in_ok-actions.ensures.coded.count) c.of_parts.ensures.fault
 
 pub first_numbers-requires : goal.first_numbers-requires
 first_numbers-requires c = record {

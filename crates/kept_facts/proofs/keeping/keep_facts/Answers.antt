@@ -30,11 +30,9 @@ loop-action-preserved c =
     (subst (λ (l : List ActionCode). c.action-item.result ≡ slice_index_or l c.loop-action.action-index c.action-item.result) c.deref-action-items.ensures.value c.action-item.is)
     c.loop-action.invariant (c.in_ok-keeps.ensures c.if-not-keeps.false)
 
-pub returns : goal.returns
-returns c = record {
-  right = λ done.
-      run-right (actor_of c.args.parts.now) c.has_one_end.ensures.once
-      (All-map (HasBodies (actor_of c.args.parts.now)) action_of c.args.parts.now.actions.items
-      (all-whole (λ a. HasBodies (actor_of c.args.parts.now) (action_of a)) c.args.parts.now.actions.items c.loop-action.action-index
-      (subst (λ (l : List ActionCode). length l ≤ c.loop-action.action-index) c.deref-action-items.ensures.value c.loop-action-test.false) c.loop-action.invariant));
-}
+pub returns-clause-right : goal.returns-clause-right
+returns-clause-right c = λ done.
+    run-right (actor_of c.args.parts.now) c.has_one_end.ensures.once
+    (All-map (HasBodies (actor_of c.args.parts.now)) action_of c.args.parts.now.actions.items
+    (all-whole (λ a. HasBodies (actor_of c.args.parts.now) (action_of a)) c.args.parts.now.actions.items c.loop-action.action-index
+    (subst (λ (l : List ActionCode). length l ≤ c.loop-action.action-index) c.deref-action-items.ensures.value c.loop-action-test.false) c.loop-action.invariant))
