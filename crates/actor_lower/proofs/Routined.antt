@@ -253,6 +253,7 @@ module _ (actor : Actor) (sound : IsSound actor) where
             let fit : FitsAsRoutine whole (length old.routines.items) whole.cells base one.code =
             routine_fits whole (length old.routines.items) whole.cells globals fs f g base old.cells new.cells one.code has (below-cells old.cells holds.state) sized room one.has in
             record { body = fit.body; is = fit.is; fits = subst (λ n. Fits whole (length old.routines.items) whole.cells base 0 fit.body n (base + length fit.body) n) (sym one.results) fit.fits });
+        count = let c = holds.count in let l = length-append fs (g ∷ []) in omega (arith, many, c, l);
       })
 
   pub procedures-more : (fs : List Function) (ps now : List Procedure) (k : ℕ) (p : Proc) (old new : Draft) → HoldsProcedures actor fs ps old → slice_get actor.procs k ≡ Some p → AddsProcedure globals fs p ps now old new
@@ -299,6 +300,7 @@ module _ (actor : Actor) (sound : IsSound actor) where
             proc_fits whole (length old.routines.items) whole.cells (calling fs ps) has globals p g base old.cells new.cells one.code (below-cells old.cells holds.state) laid.2 sized room
             (stood-in whole old.instrs.items new.instrs.items one.code b.more one.is b.instrs) one.has in
             record { body = fit.body; is = fit.is; fits = subst (λ n. Fits whole (length old.routines.items) whole.cells base 0 fit.body n (base + length fit.body) n) (sym one.results) fit.fits });
+        count = let c = holds.count in let l = length-append ps (g ∷ []) in omega (arith, many, c, l);
       })
 
   -- ---- at first, and behind all
@@ -312,6 +314,7 @@ module _ (actor : Actor) (sound : IsSound actor) where
         let begin : starts draft ≡ [] = ap (map (λ r. r.start)) routines in
         subst (λ es. AreBodies whole 0 0 (es ++ rest)) (sym begin)
         (subst (λ n. AreBodies whole n 0 rest) (ap length instrs) (subst (λ k. AreBodies whole (length draft.instrs.items) k rest) (ap length routines) rows));
+    count = ap length routines;
   }
 
   pub no-procedures : (fs : List Function) (draft : Draft) → HoldsFunctions actor fs draft → HoldsProcedures actor fs [] draft
@@ -320,6 +323,7 @@ module _ (actor : Actor) (sound : IsSound actor) where
     stand = λ whole b. no_procedure draft.cells (holds.stand whole b);
     called = λ whole b. record { functions = holds.called whole b; procedures = λ text p e. absurd (cc) };
     bodies = holds.bodies;
+    count = let c = holds.count in omega (arith, c);
   }
 
   pub all-served : (fs : List Function) (ps : List Procedure) (draft : Draft) → HoldsProcedures actor fs ps draft → IsServed actor (calling fs ps) draft

@@ -1,16 +1,14 @@
 -- The parts of a lowered actor fit together.
-use Rattle.std.proofs.Common.{◌≡◌, ℕ, zero, suc, ◌+◌, ◌<◌, ◌≤◌, ◌⊎◌, inl, inr, Bool, true, false, List, [], ◌∷◌, ◌++◌, map, length, refl, sym, ap, subst, ◌∙◌, None, Some, arith}
+use Rattle.std.proofs.Common.{◌≡◌, ℕ, zero, suc, ◌<◌, ◌≤◌, Bool, true, false, List, [], ◌∷◌, ◌++◌, length, refl, sym, ap, ◌∙◌, None, Some, arith}
 use Rattle.std.specs.Prelude.{All, ◌||◌, ◌==◌, slice_get, slice_index_or}
-use Rattle.std.specs.List.{range_with_len}
 use Rattle.std.proofs.lemmas.Bool.{eq-eqb}
 use Rattle.std.proofs.lemmas.List.{length-map}
 use Rattle.std.proofs.lemmas.List.Elements.{All-map}
 use Rattle.std.proofs.lemmas.List.FromFn.{get_or-map-range_with_len, length-map-range_with_len}
 use Rattle.std.proofs.lemmas.Option.{slice_get-get_or}
 use Rattle.cal_model.specs.declared.bound.Bound.{Bound}
-use Rattle.cal_model.specs.Actor.{Action, Actor}
+use Rattle.cal_model.specs.Actor.{Actor}
 use Rattle.cal_model.specs.Rates.{give, given_on, need}
-use Rattle.cal_model.specs.Sound.{scalars_of_vars}
 use Rattle.cal_model.specs.View.{action_view, actor_of, port_view}
 use Rattle.code_ir.specs.Code.{is_among}
 use Rattle.expr_lower.specs.declared.draft.Draft.{Draft}

@@ -1,6 +1,6 @@
 -- Drafts that begin with the routines of functions and procedures.
 -- Not trusted: no promise is read with it.
-use Rattle.std.specs.Prelude.{◌≡◌, ℕ, ◌-◌, ◌≤◌, ◌⊎◌, List, [], ◌∷◌, ◌++◌, length, map, None, Some, slice_get}
+use Rattle.std.specs.Prelude.{◌≡◌, ℕ, ◌+◌, ◌-◌, ◌≤◌, ◌⊎◌, List, [], ◌∷◌, ◌++◌, length, map, None, Some, slice_get}
 use Rattle.cal_model.specs.Actor.{Actor, Fun, Proc}
 use Rattle.code_ir.specs.declared.instr.Instr.{Instr}
 use Rattle.code_ir.specs.declared.instr.Instr.TheVariants as op
@@ -48,6 +48,7 @@ pub record HoldsFunctions (actor : Actor) (fs : List Function) (draft : Draft) :
   pub called : (whole : Code) → BeginsWith draft whole
       → HasRoutines whole (length draft.routines.items) draft.cells fs
   pub bodies : HoldsRoutines draft
+  pub count : length draft.routines.items ≡ length fs
 
 -- one function more has a routine
 pub record AddsFunction (globals : List Name) (f : Fun) (before now : List Function) (old new : Draft) : Type 0 where
@@ -94,6 +95,7 @@ pub record HoldsProcedures (actor : Actor) (fs : List Function) (ps : List Proce
   pub called : (whole : Code) → BeginsWith draft whole
       → HasRunRoutines whole (length draft.routines.items) draft.cells (calling fs ps)
   pub bodies : HoldsRoutines draft
+  pub count : length draft.routines.items ≡ length fs + length ps
 
 pub record AddsProcedure (globals : List Name) (fs : List Function) (p : Proc) (before now : List Procedure) (old new : Draft) : Type 0 where
   pub procedure : Procedure

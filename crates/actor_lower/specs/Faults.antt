@@ -1,8 +1,9 @@
 -- Why an actor isn't lowered.
--- Trusted but for `IsCodeFault`, `IsPartsFault`, `IsWhyAction`, `IsWhyActions` and `IsRoutineFault`: part of what a promise means.
-use Rattle.std.specs.Prelude.{◌≡◌, ℕ, ◌<◌, List, length, Option, None, Some}
+-- Trusted but for `IsCodeFault`, `IsFaultOfMany`, `IsPartsFault`, `IsWhyAction`, `IsWhyActions` and `IsRoutineFault`: part of what a promise means.
+use Rattle.std.specs.Prelude.{◌≡◌, ℕ, ◌+◌, ◌^◌, ◌<◌, ◌≤◌, ◌⊎◌, List, length, Option, None, Some}
 use Rattle.cal_model.specs.declared.bound.Bound.{Bound}
 use Rattle.cal_model.specs.View.{actor_of}
+use Rattle.expr_lower.specs.declared.draft.Draft.{Draft}
 use Rattle.expr_lower.specs.declared.fault.LowerFault.{LowerFault}
 use Rattle.expr_lower.specs.declared.fault.LowerFault.TheVariants as lowering
 use Rattle.expr_lower.specs.Growing.{◌or_else◌}
@@ -51,28 +52,34 @@ pub record IsWhole (b : Bound) : Type 0 where
   pub settled : AreSettled (actor_of b) routines
   pub actions : AreWhole routines b (length b.actions.items)
 
+-- an actor has functions, procedures or actions, of which code is made
+abbrev pub HasCode : Bound → Type 0
+HasCode b = 0 < length b.funs.items + length b.procs.items + length b.actions.items
+
 -- ---- causes
 
--- a part is left out only if it is the first one, and code that isn't seen to keep the facts is whole and has actions
+-- a part is left out only if it is the first one; code that is too large is there; and code that isn't seen to keep the
+-- facts is whole and has actions
 abbrev pub IsActorFault : Bound → ActorFault → Type 0
 IsActorFault b Memory = Unit {0}
 IsActorFault b (NotLowered at) = IsPartLeftOut b at
-IsActorFault b TooLarge = Unit {0}
+IsActorFault b TooLarge = HasCode b
 IsActorFault b NotSeen = IsWhole b × (0 < length b.actions.items)
 
 -- .. of all actions, if firings may call these
 abbrev pub IsWhyActions : Routines → Bound → ActorFault → Type 0
 IsWhyActions rs b Memory = Unit {0}
 IsWhyActions rs b (NotLowered at) = IsLeftOut rs b at
-IsWhyActions rs b TooLarge = Unit {0}
+IsWhyActions rs b TooLarge = 0 < length b.actions.items
 IsWhyActions rs b NotSeen = ⊥
 
--- once code was made of all parts, none is left out
-abbrev pub IsCodeFault : ActorFault → Type 0
-IsCodeFault Memory = Unit {0}
-IsCodeFault (NotLowered at) = ⊥
-IsCodeFault TooLarge = Unit {0}
-IsCodeFault NotSeen = ⊥
+-- once code was made of all parts, none is left out, and code that is too large has so many instructions or routines
+abbrev pub IsCodeFault : Draft → ActorFault → Type 0
+IsCodeFault draft Memory = Unit {0}
+IsCodeFault draft (NotLowered at) = ⊥
+IsCodeFault draft TooLarge = (2 ^ 32 ≤ length draft.instrs.items)
+    ⊎ (2 ^ 32 ≤ length draft.routines.items)
+IsCodeFault draft NotSeen = ⊥
 
 -- .. and only code of actions may not be seen to keep the facts
 abbrev pub IsPartsFault : List ActionCode → ActorFault → Type 0
@@ -81,7 +88,14 @@ IsPartsFault actions (NotLowered at) = ⊥
 IsPartsFault actions TooLarge = ⊥
 IsPartsFault actions NotSeen = 0 < length actions
 
--- .. and routines alone can't be seen to keep the facts or not
+-- .. of so many functions or procedures
+abbrev pub IsFaultOfMany : ℕ → ActorFault → Type 0
+IsFaultOfMany n Memory = Unit {0}
+IsFaultOfMany n (NotLowered at) = ⊥
+IsFaultOfMany n TooLarge = 0 < n
+IsFaultOfMany n NotSeen = ⊥
+
+-- .. and of one routine
 abbrev pub IsRoutineFault : ActorFault → Type 0
 IsRoutineFault Memory = Unit {0}
 IsRoutineFault (NotLowered at) = ⊥

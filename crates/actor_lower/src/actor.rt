@@ -30,8 +30,9 @@ use std::alloc::Global;
 /// of the first part of a guard or a firing for which no code is made, in the first action that has one, as
 /// [`lower_guards`](action_lower::lower_guards) and [`lower_firing`](action_lower::lower_firing) say. A guard calls
 /// nothing yet, and a firing each function and each procedure of which no part is left out: a call of another one is such
-/// a part. `TooLarge` if the code has 2 to the power of 32 instructions or routines or its cells can't be counted; `NotSeen` if code was made of all parts, but it isn't seen that it keeps the facts of a lowered actor. The code is always
-/// admitted.
+/// a part. `TooLarge` if the code has 2 to the power of 32 instructions or routines or its cells can't be counted, and
+/// never if there are no functions, procedures and actions. `NotSeen` if code was made of all parts, but it isn't seen
+/// that it keeps the facts of a lowered actor, and never if there are no actions. The code is always admitted.
 pub fn lower(alloc: Global, b: &Bound) -> Result<Lowered, ActorFault>
     requires sound { IsSound (actor_of b.now) }
     ensures stands_for { IfOk result (StandsForActor (actor_of b.now)) }

@@ -27,7 +27,7 @@ pub(crate) fn admitted(
     requires bodies { AreBodiesOf actions.now draft }
     ensures code { IfOk result (IsCodeOf draft) }
     ensures entries { IfOk result (λ code. code.entries ≡ all_entries actions.now) }
-    ensures fault { IfErr result IsCodeFault }
+    ensures fault { IfErr result (IsCodeFault draft) }
 {
     // it tells that such bodies are admitted
     bodies_are_admitted();

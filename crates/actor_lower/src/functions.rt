@@ -9,7 +9,7 @@ ghost use Rattle.expr_lower.specs.Names.{names_view};
 ghost use Rattle.expr_lower.specs.Routining.{left_out_fun};
 ghost use Rattle.action_lower.specs.FiringCode.{globals_of};
 ghost use Rattle.actor_lower.specs.Drafted.{AddsFunction, FunctionsSoFar, HasFunctionAt, HoldsFunctions, IsWholeFunction, NoFunctionMore};
-ghost use Rattle.actor_lower.specs.Faults.{IsRoutineFault};
+ghost use Rattle.actor_lower.specs.Faults.{IsFaultOfMany, IsRoutineFault};
 ghost use Rattle.actor_lower.specs.Settled.{AllFunctions, AreFunctions};
 
 use crate::fault::ActorFault;
@@ -33,9 +33,12 @@ pub(crate) fn lower_functions(
         AreFunctions (actor_of b.now) (functions_view callees.items)) }
     ensures all { IfOk result (λ callees.
         AllFunctions (actor_of b.now) (functions_view callees.items)) }
-    ensures fault { IfErr result IsRoutineFault }
+    ensures fault { IfErr result (IsFaultOfMany (length b.now.funs.items)) }
 {
     let mut callees = Vec::new(alloc);
+    if b.funs.len() == 0 {
+        return Ok(callees);
+    }
     let mut left = all_numbers(alloc, b.funs.len())?;
     lower_left(alloc, b, names, &mut callees, &mut left, draft)?;
     Ok(callees)

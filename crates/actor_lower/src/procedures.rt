@@ -10,7 +10,7 @@ ghost use Rattle.stmt_lower.specs.Proceeding.{left_out_proc};
 ghost use Rattle.stmt_lower.specs.Procedures.{procedures_view};
 ghost use Rattle.action_lower.specs.FiringCode.{globals_of};
 ghost use Rattle.actor_lower.specs.Drafted.{AddsProcedure, HasProcedureAt, HoldsProcedures, IsWholeProcedure, NoProcedureMore, ProceduresSoFar};
-ghost use Rattle.actor_lower.specs.Faults.{IsRoutineFault};
+ghost use Rattle.actor_lower.specs.Faults.{IsFaultOfMany, IsRoutineFault};
 ghost use Rattle.actor_lower.specs.Settled.{AllProcedures, AreProcedures, calling};
 
 use crate::fault::ActorFault;
@@ -37,9 +37,12 @@ pub(crate) fn lower_procedures(
         AreProcedures (actor_of b.now) (functions_view callees.now) (procedures_view procedures.items)) }
     ensures all { IfOk result (λ procedures.
         AllProcedures (actor_of b.now) (functions_view callees.now) (procedures_view procedures.items)) }
-    ensures fault { IfErr result IsRoutineFault }
+    ensures fault { IfErr result (IsFaultOfMany (length b.now.procs.items)) }
 {
     let mut procedures = Vec::new(alloc);
+    if b.procs.len() == 0 {
+        return Ok(procedures);
+    }
     let mut left = all_numbers(alloc, b.procs.len())?;
     lower_left(alloc, b, names, callees, &mut procedures, &mut left, draft)?;
     Ok(procedures)

@@ -1,12 +1,12 @@
 //! The functions and the procedures of an actor as routines.
 
-ghost use Rattle.std.specs.Prelude.{◌≡◌, [], IfErr, IfOk};
+ghost use Rattle.std.specs.Prelude.{◌≡◌, ◌+◌, [], IfErr, IfOk, length};
 ghost use Rattle.cal_model.specs.Sound.{IsSound};
 ghost use Rattle.cal_model.specs.View.{actor_of};
 ghost use Rattle.stmt_lower.specs.Procedures.{routines_of};
 ghost use Rattle.action_lower.specs.Seats.{state_cells};
 ghost use Rattle.actor_lower.specs.Drafted.{HoldsRoutines, IsServed};
-ghost use Rattle.actor_lower.specs.Faults.{IsRoutineFault};
+ghost use Rattle.actor_lower.specs.Faults.{IsFaultOfMany};
 ghost use Rattle.actor_lower.specs.Settled.{AreSettled};
 
 use crate::fault::ActorFault;
@@ -41,7 +41,10 @@ pub(crate) fn lower_routines(
     ensures served { IfOk result (λ called. IsServed (actor_of b.now)
         (routines_of called.callees.items called.procedures.items) draft.new) }
     ensures bodies { IfOk result (λ called. HoldsRoutines draft.new) }
-    ensures fault { IfErr result IsRoutineFault }
+    ensures count { IfOk result (λ called. length draft.new.routines.items
+        ≡ length called.callees.items + length called.procedures.items) }
+    ensures fault { IfErr result
+        (IsFaultOfMany (length b.now.funs.items + length b.now.procs.items)) }
 {
     let names = global_names(alloc, b)?;
     let callees = lower_functions(alloc, b, &names, draft)?;

@@ -1,10 +1,10 @@
-use Rattle.std.proofs.Common.{◌≡◌, ◌∙◌, ap, arith, subst, sym}
+use Rattle.std.proofs.Common.{◌≡◌, ◌∙◌, ap, arith, length, subst, sym}
 use Rattle.std.proofs.lemmas.Result.{IfErr-weaker, IfOk-weaker}
 use Rattle.cal_model.specs.View.{actor_of}
 use Rattle.lowered_actor.specs.declared.parts.Parts.{Parts}
 use Rattle.actor_lower.specs.Coded.{AreBodiesOf, all_entries}
 use Rattle.actor_lower.specs.Faults.{IsActorFault, IsWhole}
-use Rattle.actor_lower.proofs.Chosen.{code-why, if-ok, is-whole, parts-why, served-same, whole-why, why-err}
+use Rattle.actor_lower.proofs.Chosen.{code-why, if-ok, is-whole, parts-why, routine-why, served-same, whole-why, why-err}
 use Rattle.actor_lower.proofs.Rowed.{bodies-of}
 use Rattle.actor_lower.proofs.Together.{parts-fit}
 use Rattle.actor_lower.proofs.Tabled.{parts-stand}
@@ -40,9 +40,16 @@ admitted-requires c = record {
 pub returns-in_err-code-clause-fault : goal.returns-in_err-code-clause-fault
 returns-in_err-code-clause-fault c =
     why-err c.from_residual-in_err-code.result _ (IsActorFault c.args.b.now) c.from_residual-in_err-code.ensures.1
-    (λ e is. subst (IsActorFault c.args.b.now) (sym is) (code-why c.args.b.now
-    (is-whole c.args.b.now c.in_ok-called.called.callees.items c.deref.result.now c.in_ok-called.called.procedures.items c.deref-2.result.now c.deref.ensures.value c.deref-2.ensures.value c.in_ok-called.ensures.settled
-    c.in_ok-actions.ensures.whole) c.in_err-code.field-0.0 c.in_err-code.ensures.fault))
+    (λ e is. subst (IsActorFault c.args.b.now) (sym is)
+    (code-why c.args.b.now c.in_ok-called.called.callees.items c.in_ok-called.called.procedures.items c.in_ok-actions.actions.items c.lower_actions.new.draft c.in_ok-called.ensures.settled
+    (ap length c.in_ok-actions.ensures.more.routines ∙ c.in_ok-called.ensures.count) c.in_ok-actions.ensures.coded.count
+    (bodies-of c.in_ok-actions.actions.items c.lower_routines.new.draft c.lower_actions.new.draft c.in_ok-called.ensures.bodies c.in_ok-actions.ensures.more c.in_ok-actions.ensures.bodies)
+    c.in_err-code.field-0.0 c.in_err-code.ensures.fault))
+
+pub returns-in_err-called-clause-fault : goal.returns-in_err-called-clause-fault
+returns-in_err-called-clause-fault c =
+    why-err c.from_residual-in_err-called.result _ (IsActorFault c.args.b.now) c.from_residual-in_err-called.ensures.1
+    (λ e is. subst (IsActorFault c.args.b.now) (sym is) (routine-why c.args.b.now c.in_err-called.field-0.0 c.in_err-called.ensures.fault))
 
 pub returns-clause-whole : goal.returns-clause-whole
 returns-clause-whole c =
