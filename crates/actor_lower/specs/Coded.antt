@@ -32,7 +32,8 @@ pub record IsMore (old new : Draft) : Type 0 where
 -- the actor in which it is eligible, whose variables the state cells hold, over tokens of its ports.
 abbrev pub FiresFrom : Actor → ℕ → ℕ → List ℕ → Draft → Type 0
 FiresFrom actor a entry firsts draft =
-    (act : Action) (whole : Code) (more : List Instr) (x : State) (u : List (List ℤ)) (cells : List ℤ)
+    (act : Action) (whole : Code) (more : List Instr) (x : State) (u : List (List ℤ))
+    (cells : List ℤ)
     → slice_get actor.actions a ≡ Some act → GoesOn draft whole more
     → draft.cells ≤ length cells
     → IsActorState actor x → AreTokensOf actor u → eligible actor x.at a ≡ true

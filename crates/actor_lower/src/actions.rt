@@ -87,7 +87,8 @@ fn lower_action(
     requires action { action < length b.now.actions.items }
     requires kept { kept ≡ state_cells (actor_of b.now) }
     requires served { IsServed (actor_of b.now) (routines_of callees.now procedures.now) draft.old }
-    requires rates { AreRatesOf (actor_of b.now) action rates.now.needs.items rates.now.gives.items }
+    requires rates { AreRatesOf (actor_of b.now) action rates.now.needs.items
+        rates.now.gives.items }
     ensures coded { IfOk result (λ coded. IsCodedAction (actor_of b.now) action coded draft.new) }
     ensures bodies { IfOk result (λ coded. AddsBodies (entries_of coded) draft.old draft.new) }
     ensures more { OnOk result (IsMore draft.old draft.new) }

@@ -44,7 +44,8 @@ pub(crate) fn put_firing(
     ensures whole { OnOk result
         (left_out_of (routines_of callees.now procedures.now) b.now action ≡ None) }
     ensures fault { IfErr result
-        (IsSendFault (left_out_of (routines_of callees.now procedures.now) b.now action) draft.new) }
+        (IsSendFault (left_out_of (routines_of callees.now procedures.now) b.now action)
+        draft.new) }
 {
     let fills = may_fill(alloc, b, callees, procedures, kept, action, draft)?;
     if fills {
@@ -74,7 +75,8 @@ fn put_plain(
     ensures whole { OnOk result
         (left_out_of (routines_of callees.now procedures.now) b.now action ≡ None) }
     ensures fault { IfErr result
-        (IsSendFault (left_out_of (routines_of callees.now procedures.now) b.now action) draft.new) }
+        (IsSendFault (left_out_of (routines_of callees.now procedures.now) b.now action)
+        draft.new) }
 {
     let firing = lower_firing(alloc, b, action, callees, procedures, draft)?;
     Ok(firing)
@@ -103,7 +105,8 @@ fn put_cleared(
     ensures whole { OnOk result
         (left_out_of (routines_of callees.now procedures.now) b.now action ≡ None) }
     ensures fault { IfErr result
-        (IsSendFault (left_out_of (routines_of callees.now procedures.now) b.now action) draft.new) }
+        (IsSendFault (left_out_of (routines_of callees.now procedures.now) b.now action)
+        draft.new) }
 {
     let entry = next_place(draft)?;
     put(draft, Instr::Zero(0, 0))?;

@@ -67,9 +67,11 @@ fn lower_left(
 ) -> Result<(), ActorFault>
     requires sound { IsSound (actor_of b.now) }
     requires names { names_view names.now ≡ globals_of (actor_of b.now) }
-    requires so_far { FunctionsSoFar (actor_of b.now) (functions_view callees.old.items) left.old.items draft.old }
+    requires so_far { FunctionsSoFar (actor_of b.now) (functions_view callees.old.items)
+        left.old.items draft.old }
     ensures so_far { OnOk result
-        (FunctionsSoFar (actor_of b.now) (functions_view callees.new.items) left.new.items draft.new) }
+        (FunctionsSoFar (actor_of b.now) (functions_view callees.new.items) left.new.items
+        draft.new) }
     ensures none { OnOk result
         (NoFunctionMore (actor_of b.now) (functions_view callees.new.items) left.new.items) }
     ensures fault { IfErr result IsRoutineFault }
@@ -121,7 +123,8 @@ fn is_whole_at(
         → HasFunctionAt (actor_of b.now) (functions_view callees.now) k) }
     ensures no { IfOk result (λ whole. whole ≡ false → (f : Of)
         → slice_get (actor_of b.now).funs k ≡ Some f
-        → (at : ℕ) × left_out_fun (functions_view callees.now) (globals_of (actor_of b.now)) f ≡ Some at) }
+        → (at : ℕ) × left_out_fun (functions_view callees.now) (globals_of (actor_of b.now)) f ≡
+        Some at) }
     ensures fault { IfErr result IsRoutineFault }
 {
     match b.funs.get(k) {
@@ -138,9 +141,11 @@ fn is_whole(
     f: &BoundFun,
 ) -> Result<bool, ActorFault>
     ensures yes { IfOk result (λ whole. whole ≡ true
-        → left_out_fun (functions_view callees.now) (names_view names.now) (fun_view f.now) ≡ None) }
+        → left_out_fun (functions_view callees.now) (names_view names.now) (fun_view f.now) ≡
+        None) }
     ensures no { IfOk result (λ whole. whole ≡ false
-        → (at : ℕ) × left_out_fun (functions_view callees.now) (names_view names.now) (fun_view f.now) ≡ Some at) }
+        → (at : ℕ) × left_out_fun (functions_view callees.now) (names_view names.now)
+        (fun_view f.now) ≡ Some at) }
     ensures fault { IfErr result IsRoutineFault }
 {
     let mut trial = Draft {
@@ -169,11 +174,13 @@ fn lower_at(
 ) -> Result<(), ActorFault>
     requires sound { IsSound (actor_of b.now) }
     requires names { names_view names.now ≡ globals_of (actor_of b.now) }
-    requires so_far { FunctionsSoFar (actor_of b.now) (functions_view callees.old.items) left.old.items draft.old }
+    requires so_far { FunctionsSoFar (actor_of b.now) (functions_view callees.old.items)
+        left.old.items draft.old }
     requires whole { IsWholeFunction (actor_of b.now) (functions_view callees.old.items)
         left.old.items place }
     ensures so_far { OnOk result
-        (FunctionsSoFar (actor_of b.now) (functions_view callees.new.items) left.new.items draft.new) }
+        (FunctionsSoFar (actor_of b.now) (functions_view callees.new.items) left.new.items
+        draft.new) }
     ensures fewer { OnOk result (length left.new.items < length left.old.items) }
     ensures fault { IfErr result IsRoutineFault }
 {
@@ -189,7 +196,8 @@ fn add_function(
     f: &BoundFun,
     draft: &mut Draft,
 ) -> Result<(), ActorFault>
-    requires whole { left_out_fun (functions_view callees.old.items) (names_view names.now) (fun_view f.now) ≡ None }
+    requires whole { left_out_fun (functions_view callees.old.items) (names_view names.now)
+        (fun_view f.now) ≡ None }
     ensures added { OnOk result (AddsFunction (names_view names.now) (fun_view f.now)
         (functions_view callees.old.items) (functions_view callees.new.items) draft.old draft.new) }
     ensures fault { IfErr result IsRoutineFault }

@@ -32,11 +32,14 @@ pub(crate) fn lower_procedures(
     requires names { names_view names.now ≡ globals_of (actor_of b.now) }
     requires none { HoldsProcedures (actor_of b.now) (functions_view callees.now) [] draft.old }
     ensures holds { IfOk result (λ procedures.
-        HoldsProcedures (actor_of b.now) (functions_view callees.now) (procedures_view procedures.items) draft.new) }
+        HoldsProcedures (actor_of b.now) (functions_view callees.now)
+        (procedures_view procedures.items) draft.new) }
     ensures are { IfOk result (λ procedures.
-        AreProcedures (actor_of b.now) (functions_view callees.now) (procedures_view procedures.items)) }
+        AreProcedures (actor_of b.now) (functions_view callees.now)
+        (procedures_view procedures.items)) }
     ensures all { IfOk result (λ procedures.
-        AllProcedures (actor_of b.now) (functions_view callees.now) (procedures_view procedures.items)) }
+        AllProcedures (actor_of b.now) (functions_view callees.now)
+        (procedures_view procedures.items)) }
     ensures fault { IfErr result (IsFaultOfMany (length b.now.procs.items)) }
 {
     let mut procedures = Vec::new(alloc);
@@ -60,11 +63,14 @@ fn lower_left(
 ) -> Result<(), ActorFault>
     requires sound { IsSound (actor_of b.now) }
     requires names { names_view names.now ≡ globals_of (actor_of b.now) }
-    requires so_far { ProceduresSoFar (actor_of b.now) (functions_view callees.now) (procedures_view procedures.old.items) left.old.items draft.old }
+    requires so_far { ProceduresSoFar (actor_of b.now) (functions_view callees.now)
+        (procedures_view procedures.old.items) left.old.items draft.old }
     ensures so_far { OnOk result
-        (ProceduresSoFar (actor_of b.now) (functions_view callees.now) (procedures_view procedures.new.items) left.new.items draft.new) }
+        (ProceduresSoFar (actor_of b.now) (functions_view callees.now)
+        (procedures_view procedures.new.items) left.new.items draft.new) }
     ensures none { OnOk result
-        (NoProcedureMore (actor_of b.now) (functions_view callees.now) (procedures_view procedures.new.items) left.new.items) }
+        (NoProcedureMore (actor_of b.now) (functions_view callees.now)
+        (procedures_view procedures.new.items) left.new.items) }
     ensures fault { IfErr result IsRoutineFault }
 {
     let found = first_whole(alloc, b, names, callees, procedures, left)?;
@@ -88,9 +94,11 @@ fn first_whole(
 ) -> Result<Option<usize>, ActorFault>
     requires names { names_view names.now ≡ globals_of (actor_of b.now) }
     ensures some { IfOk result (λ found. (place : ℕ) → found ≡ Some place
-        → IsWholeProcedure (actor_of b.now) (functions_view callees.now) (procedures_view procedures.now) left.now place) }
+        → IsWholeProcedure (actor_of b.now) (functions_view callees.now)
+        (procedures_view procedures.now) left.now place) }
     ensures none { IfOk result (λ found. found ≡ None
-        → NoProcedureMore (actor_of b.now) (functions_view callees.now) (procedures_view procedures.now) left.now) }
+        → NoProcedureMore (actor_of b.now) (functions_view callees.now)
+        (procedures_view procedures.now) left.now) }
     ensures fault { IfErr result IsRoutineFault }
 {
     for place in 0..left.len() {
@@ -113,10 +121,12 @@ fn is_whole_at(
 ) -> Result<bool, ActorFault>
     requires names { names_view names.now ≡ globals_of (actor_of b.now) }
     ensures yes { IfOk result (λ whole. whole ≡ true
-        → HasProcedureAt (actor_of b.now) (functions_view callees.now) (procedures_view procedures.now) k) }
+        → HasProcedureAt (actor_of b.now) (functions_view callees.now)
+        (procedures_view procedures.now) k) }
     ensures no { IfOk result (λ whole. whole ≡ false → (p : Of)
         → slice_get (actor_of b.now).procs k ≡ Some p
-        → (at : ℕ) × left_out_proc (calling (functions_view callees.now) (procedures_view procedures.now)) (globals_of (actor_of b.now)) p ≡ Some at) }
+        → (at : ℕ) × left_out_proc (calling (functions_view callees.now)
+        (procedures_view procedures.now)) (globals_of (actor_of b.now)) p ≡ Some at) }
     ensures fault { IfErr result IsRoutineFault }
 {
     match b.procs.get(k) {
@@ -134,9 +144,11 @@ fn is_whole(
     p: &BoundProc,
 ) -> Result<bool, ActorFault>
     ensures yes { IfOk result (λ whole. whole ≡ true
-        → left_out_proc (calling (functions_view callees.now) (procedures_view procedures.now)) (names_view names.now) (proc_view p.now) ≡ None) }
+        → left_out_proc (calling (functions_view callees.now) (procedures_view procedures.now))
+        (names_view names.now) (proc_view p.now) ≡ None) }
     ensures no { IfOk result (λ whole. whole ≡ false
-        → (at : ℕ) × left_out_proc (calling (functions_view callees.now) (procedures_view procedures.now)) (names_view names.now) (proc_view p.now) ≡ Some at) }
+        → (at : ℕ) × left_out_proc (calling (functions_view callees.now)
+        (procedures_view procedures.now)) (names_view names.now) (proc_view p.now) ≡ Some at) }
     ensures fault { IfErr result IsRoutineFault }
 {
     let mut trial = Draft {
@@ -166,11 +178,14 @@ fn lower_at(
 ) -> Result<(), ActorFault>
     requires sound { IsSound (actor_of b.now) }
     requires names { names_view names.now ≡ globals_of (actor_of b.now) }
-    requires so_far { ProceduresSoFar (actor_of b.now) (functions_view callees.now) (procedures_view procedures.old.items) left.old.items draft.old }
-    requires whole { IsWholeProcedure (actor_of b.now) (functions_view callees.now) (procedures_view procedures.old.items)
+    requires so_far { ProceduresSoFar (actor_of b.now) (functions_view callees.now)
+        (procedures_view procedures.old.items) left.old.items draft.old }
+    requires whole { IsWholeProcedure (actor_of b.now) (functions_view callees.now)
+        (procedures_view procedures.old.items)
         left.old.items place }
     ensures so_far { OnOk result
-        (ProceduresSoFar (actor_of b.now) (functions_view callees.now) (procedures_view procedures.new.items) left.new.items draft.new) }
+        (ProceduresSoFar (actor_of b.now) (functions_view callees.now)
+        (procedures_view procedures.new.items) left.new.items draft.new) }
     ensures fewer { OnOk result (length left.new.items < length left.old.items) }
     ensures fault { IfErr result IsRoutineFault }
 {
@@ -187,9 +202,12 @@ fn add_procedure(
     p: &BoundProc,
     draft: &mut Draft,
 ) -> Result<(), ActorFault>
-    requires whole { left_out_proc (calling (functions_view callees.now) (procedures_view procedures.old.items)) (names_view names.now) (proc_view p.now) ≡ None }
-    ensures added { OnOk result (AddsProcedure (names_view names.now) (functions_view callees.now) (proc_view p.now)
-        (procedures_view procedures.old.items) (procedures_view procedures.new.items) draft.old draft.new) }
+    requires whole { left_out_proc (calling (functions_view callees.now)
+        (procedures_view procedures.old.items)) (names_view names.now) (proc_view p.now) ≡ None }
+    ensures added { OnOk result (AddsProcedure (names_view names.now) (functions_view callees.now)
+        (proc_view p.now)
+        (procedures_view procedures.old.items) (procedures_view procedures.new.items) draft.old
+        draft.new) }
     ensures fault { IfErr result IsRoutineFault }
 {
     if draft.routines.len() >= u32::MAX as usize {
