@@ -6,3 +6,8 @@ pub mod Tabled
 pub mod FiringFits
 pub mod BodyRows
 pub mod Rowed
+pub mod Routined
+pub mod Chosen
+pub mod Cleared
+pub mod Inside
+pub mod Together

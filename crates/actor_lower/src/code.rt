@@ -1,6 +1,6 @@
 //! The code of all actions, and the numbers in its cells at first.
 
-ghost use Rattle.std.specs.Prelude.{◌≡◌, [], IfErr, IfOk, take};
+ghost use Rattle.std.specs.Prelude.{◌≡◌, ◌≤◌, IfErr, IfOk, length, take};
 ghost use Rattle.cal_model.specs.Selection.{start_of};
 ghost use Rattle.cal_model.specs.Sound.{IsSound};
 ghost use Rattle.cal_model.specs.View.{actor_of};
@@ -25,9 +25,9 @@ pub(crate) fn admitted(
     actions: &[ActionCode],
 ) -> Result<Admitted, ActorFault>
     requires bodies { AreBodiesOf actions.now draft }
-    requires routines { draft.routines.items ≡ [] }
     ensures code { IfOk result (IsCodeOf draft) }
-    ensures fault { IfErr result IsCodeFault }
+    ensures entries { IfOk result (λ code. code.entries ≡ all_entries actions.now) }
+    ensures fault { IfErr result (IsCodeFault draft) }
 {
     // it tells that such bodies are admitted
     bodies_are_admitted();
@@ -65,8 +65,10 @@ fn entries_of(alloc: Global, actions: &[ActionCode]) -> Result<Vec<u32>, AllocEr
 /// What so many cells hold at first: those of the state what the variables begin with, and the others 0.
 pub(crate) fn first_numbers(alloc: Global, b: &Bound, cells: u32) -> Result<Vec<Num>, Memory>
     requires sound { IsSound (actor_of b.now) }
-    ensures { IfOk result (λ first. take (state_cells (actor_of b.now)) first.items
+    requires room { state_cells (actor_of b.now) ≤ cells }
+    ensures first { IfOk result (λ first. take (state_cells (actor_of b.now)) first.items
         ≡ numbers_of_vars (start_of (actor_of b.now)).vars) }
+    ensures size { IfOk result (λ first. length first.items ≡ cells) }
 {
     let mut first = first_cells(alloc, b)?;
     for _k in first.len()..cells as usize {

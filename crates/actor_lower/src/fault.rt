@@ -13,8 +13,8 @@ pub enum ActorFault {
     NotLowered { at: u32 },
     /// The code has so many instructions or cells that 32 bits don't count them.
     TooLarge,
-    /// Code was made of all parts, but it isn't seen that they fit together ([`Parts::fit`](lowered_actor::Parts::fit))
-    /// and that the code keeps the facts of a lowered actor ([`keep_facts`](kept_facts::keep_facts)).
+    /// Code was made of all parts, but it isn't seen that it keeps the facts of a lowered actor
+    /// ([`keep_facts`](kept_facts::keep_facts)).
     NotSeen,
 }
 

@@ -13,6 +13,7 @@ returns-clause-coded c = record {
   guards = c.in_ok-entries.ensures.guards;
   firsts = c.in_ok-entries.entries.firsts.items;
   fires = c.in_ok-entries.ensures.fires;
+  inside = c.in_ok-entries.ensures.inside;
   sends =
       let count : c.len.result ≡ length c.args.b.now.outs.items = let e = c.len.ensures in omega (arith, e) in
       let sends : AreSends (actor_of c.args.b.now) c.args.action c.in_ok-entries.entries.firsts.items c.in_ok-sends.sends.items =

@@ -1,7 +1,12 @@
-use Rattle.std.proofs.Common.{◌∙◌, subst, sym}
-use Rattle.std.proofs.lemmas.Result.{IfOk-weaker}
-use Rattle.actor_lower.specs.Coded.{AreBodiesOf}
+use Rattle.std.proofs.Common.{◌≡◌, ◌∙◌, ap, arith, length, subst, sym}
+use Rattle.std.proofs.lemmas.Result.{IfErr-weaker, IfOk-weaker}
+use Rattle.cal_model.specs.View.{actor_of}
+use Rattle.lowered_actor.specs.declared.parts.Parts.{Parts}
+use Rattle.actor_lower.specs.Coded.{AreBodiesOf, all_entries}
+use Rattle.actor_lower.specs.Faults.{IsActorFault, IsWhole}
+use Rattle.actor_lower.proofs.Chosen.{code-why, if-ok, is-whole, parts-why, routine-why, served-same, whole-why, why-err}
 use Rattle.actor_lower.proofs.Rowed.{bodies-of}
+use Rattle.actor_lower.proofs.Together.{parts-fit}
 use Rattle.actor_lower.proofs.Tabled.{parts-stand}
 use Rattle.actor_lower.proofs.actor.lower.Goals as goal
 
@@ -10,14 +15,90 @@ returns-clause-stands_for c =
     let tables = c.in_ok-tables.ensures in
     IfOk-weaker c.of_parts.result _ _ (λ l made.
     parts-stand c.args.b.now _ c.lower_actions.new.draft tables.schedule tables.start tables.priority c.in_ok-actions.ensures.coded tables.kept tables.saved tables.ins tables.outs
-    l made c.requires.sound c.in_ok-code.ensures.code c.in_ok-first.ensures
+    l made c.requires.sound c.in_ok-code.ensures.code c.in_ok-first.ensures.first
     c.tables_are_meant.ensures.rates c.runs_suffice.ensures.guards c.runs_suffice.ensures.firings c.lowered_actors_behave_as_meant.ensures)
     c.of_parts.ensures.made
 
-pub admitted-requires-clause-bodies : goal.admitted-requires-clause-bodies
-admitted-requires-clause-bodies c =
-    subst (λ xs. AreBodiesOf xs c.lower_actions.new.draft) (sym c.deref-2.ensures.value)
-    (bodies-of c.in_ok-actions.actions.items (record { instrs = c.new.result; routines = c.new-2.result; cells = c.in_ok-tables.tables.kept }) c.lower_actions.new.draft c.new.ensures.items c.in_ok-actions.ensures.bodies)
+pub lower_actions-requires-clause-served : goal.lower_actions-requires-clause-served
+lower_actions-requires-clause-served c =
+    served-same (actor_of c.args.b.now) c.in_ok-called.called.callees.items c.deref.result.now c.in_ok-called.called.procedures.items c.deref-2.result.now c.lower_routines.new.draft
+    c.deref.ensures.value c.deref-2.ensures.value c.in_ok-called.ensures.served
 
-pub admitted-requires-clause-routines : goal.admitted-requires-clause-routines
-admitted-requires-clause-routines c = c.in_ok-actions.ensures.more.routines ∙ c.new-2.ensures.items
+pub returns-in_err-actions-clause-fault : goal.returns-in_err-actions-clause-fault
+returns-in_err-actions-clause-fault c =
+    why-err c.from_residual-in_err-actions.result _ (IsActorFault c.args.b.now) c.from_residual-in_err-actions.ensures.1
+    (λ e is. subst (IsActorFault c.args.b.now) (sym is)
+    (whole-why c.args.b.now c.in_ok-called.called.callees.items c.deref.result.now c.in_ok-called.called.procedures.items c.deref-2.result.now c.deref.ensures.value c.deref-2.ensures.value c.in_ok-called.ensures.settled
+    c.in_err-actions.field-0.0 c.in_err-actions.ensures.fault))
+
+pub admitted-requires : goal.admitted-requires
+admitted-requires c = record {
+  bodies = subst (λ xs. AreBodiesOf xs c.lower_actions.new.draft) (sym c.deref-4.ensures.value)
+      (bodies-of c.in_ok-actions.actions.items c.lower_routines.new.draft c.lower_actions.new.draft c.in_ok-called.ensures.bodies c.in_ok-actions.ensures.more c.in_ok-actions.ensures.bodies);
+}
+
+pub returns-in_err-code-clause-fault : goal.returns-in_err-code-clause-fault
+returns-in_err-code-clause-fault c =
+    why-err c.from_residual-in_err-code.result _ (IsActorFault c.args.b.now) c.from_residual-in_err-code.ensures.1
+    (λ e is. subst (IsActorFault c.args.b.now) (sym is)
+    (code-why c.args.b.now c.in_ok-called.called.callees.items c.in_ok-called.called.procedures.items c.in_ok-actions.actions.items c.lower_actions.new.draft c.in_ok-called.ensures.settled
+    (ap length c.in_ok-actions.ensures.more.routines ∙ c.in_ok-called.ensures.count) c.in_ok-actions.ensures.coded.count
+    (bodies-of c.in_ok-actions.actions.items c.lower_routines.new.draft c.lower_actions.new.draft c.in_ok-called.ensures.bodies c.in_ok-actions.ensures.more c.in_ok-actions.ensures.bodies)
+    c.in_err-code.field-0.0 c.in_err-code.ensures.fault))
+
+pub returns-in_err-called-clause-fault : goal.returns-in_err-called-clause-fault
+returns-in_err-called-clause-fault c =
+    why-err c.from_residual-in_err-called.result _ (IsActorFault c.args.b.now) c.from_residual-in_err-called.ensures.1
+    (λ e is. subst (IsActorFault c.args.b.now) (sym is) (routine-why c.args.b.now c.in_err-called.field-0.0 c.in_err-called.ensures.fault))
+
+pub returns-clause-whole : goal.returns-clause-whole
+returns-clause-whole c =
+    if-ok c.of_parts.result (IsWhole c.args.b.now)
+    (is-whole c.args.b.now c.in_ok-called.called.callees.items c.deref.result.now c.in_ok-called.called.procedures.items c.deref-2.result.now c.deref.ensures.value c.deref-2.ensures.value c.in_ok-called.ensures.settled
+    c.in_ok-actions.ensures.whole)
+
+pub returns-clause-fault : goal.returns-clause-fault
+returns-clause-fault c =
+    IfErr-weaker c.of_parts.result _ (IsActorFault c.args.b.now)
+    (parts-why c.args.b.now c.in_ok-actions.actions.items
+    (is-whole c.args.b.now c.in_ok-called.called.callees.items c.deref.result.now c.in_ok-called.called.procedures.items c.deref-2.result.now c.deref.ensures.value c.deref-2.ensures.value c.in_ok-called.ensures.settled
+    c.in_ok-actions.ensures.whole) c.in_ok-actions.ensures.coded.count) c.of_parts.ensures.fault
+
+pub first_numbers-requires : goal.first_numbers-requires
+first_numbers-requires c = record {
+  sound = c.requires.sound;
+  room =
+      let state = c.in_ok-called.ensures.served.state in
+      let below = c.in_ok-called.ensures.served.below in
+      let le = c.in_ok-actions.ensures.more.cells in
+      let same = c.in_ok-code.ensures.code.cells in
+      let is = c.cells.ensures in
+      omega (arith, state, below, le, same, is);
+}
+
+pub of_parts-requires : goal.of_parts-requires
+of_parts-requires c =
+    let tables = c.in_ok-tables.ensures in
+    let parts : Parts = record {
+      code = c.in_ok-code.code;
+      fsm = c.in_ok-tables.tables.fsm;
+      order = c.in_ok-tables.tables.order;
+      actions = c.in_ok-actions.actions;
+      first = c.in_ok-first.first;
+      kept = c.in_ok-tables.tables.kept;
+      start = c.in_ok-tables.tables.start;
+      saved = c.in_ok-tables.tables.saved;
+      ins = c.in_ok-tables.tables.ins;
+      outs = c.in_ok-tables.tables.outs;
+    } in
+    let entries : c.in_ok-code.code.entries ≡ all_entries c.in_ok-actions.actions.items = c.in_ok-code.ensures.entries ∙ ap all_entries c.deref-4.ensures.value in
+    record {
+      fits = parts-fit c.args.b.now parts c.lower_actions.new.draft tables.schedule tables.priority c.in_ok-actions.ensures.coded c.in_ok-code.ensures.code entries tables.ins tables.outs
+          (c.in_ok-first.ensures.size ∙ c.cells.ensures) tables.begins
+          (let state = c.in_ok-called.ensures.served.state in
+          let below = c.in_ok-called.ensures.served.below in
+          let le = c.in_ok-actions.ensures.more.cells in
+          let same = c.in_ok-code.ensures.code.cells in
+          let kept = tables.kept in
+          omega (arith, state, below, le, same, kept)) tables.inside;
+    }

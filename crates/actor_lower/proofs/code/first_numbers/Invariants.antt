@@ -7,3 +7,4 @@ use Rattle.actor_lower.proofs.code.first_numbers.Given as goal
 abbrev pub invariant-loop-k : goal.invariant-loop-k
 invariant-loop-k l = (take (state_cells (actor_of l.b)) l.first.items ≡ numbers_of_vars (start_of (actor_of l.b)).vars)
     × (state_cells (actor_of l.b) ≤ length l.first.items)
+    × (length l.first.items ≡ l._k)
