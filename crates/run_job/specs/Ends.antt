@@ -27,7 +27,7 @@ use Rattle.run_report.specs.Report.{report, run_lines}
 use Rattle.run_report.specs.declared.status.ReadAt.TheVariants.{File, Feed}
 use Rattle.run_report.specs.declared.status.Status.{Status}
 use Rattle.run_report.specs.declared.status.Status.TheVariants as status
-use Rattle.run_job.specs.Commands.{AreCertified, AreGiven, Command, HasFiles, IsToRun, OpenedNothing, about_files, about_net, port_names, run_over, top_of, words_of}
+use Rattle.run_job.specs.Commands.{AreCertified, AreGiven, Command, HasFiles, IsToRun, OpenedNothing, TouchesOnly, about_files, about_net, port_names, run_over, top_of, words_of}
 
 -- ---- a run that came to its end
 
@@ -40,6 +40,7 @@ pub record Ran (cmd : Command) (end : Line) (counts : Counts) (lines : List ℕ)
   pub leaves : (inputs : List (List ℕ)) → AreGiven cmd net inputs
       → HasEnded (run_over cmd net inputs) end counts cmd.channels_after
   pub within : counts.firings ≤ cmd.job.budget
+  pub touches : TouchesOnly cmd net
   pub certified : ℕ
   pub are_certified : AreCertified is_to_run.files.means.actors certified
   pub about_is : about ≡ about_net cmd is_to_run.files.names net
@@ -72,6 +73,7 @@ pub record FeedBroke (cmd : Command) (net : Network State) (feed : ℕ) : Type 0
   pub leaves : (inputs : List (List ℕ)) → AreGiven cmd net inputs
       → WasCut (run_over cmd net inputs) counts cmd.channels_after
   pub within : counts.firings ≤ cmd.job.budget
+  pub touches : TouchesOnly cmd net
 
 pub record WasUnread (cmd : Command) (feed : ℕ) (about : About) : Type 0 where
   pub net : Network State
@@ -88,6 +90,7 @@ pub record WasUnwritten (cmd : Command) (channel : ℕ) : Type 0 where
   pub is_channel : IsChannelOf (port_names net.outs) (words_of cmd) channel
   pub leaves : (inputs : List (List ℕ)) → AreGiven cmd net inputs
       → WasBroken (run_over cmd net inputs) cmd.channels_after
+  pub touches : TouchesOnly cmd net
 
 -- ---- no run
 
