@@ -113,13 +113,25 @@ const ROWS: &[Row] = &[
         (1, 0, 0),
         (2, "read fault Inc.cal\n", "", NO_BYTES),
     ),
+    (RUN, BYTES, (0, 1, 0), (2, "read fault in\n", "", NO_BYTES)),
     (
         RUN,
         BYTES,
-        (0, 1, 0),
-        (2, "read fault in\n", "", NO_BYTES),
+        (0, 2, 0),
+        (
+            2,
+            "read fault in\n",
+            "rvc-trace 1 1 2\ni 0 Inc Inc\n",
+            NO_BYTES,
+        ),
     ),
     (RUN, BYTES, (0, 0, 1), (3, "write fault 1\n", "", NO_BYTES)),
+    (
+        "rvc run None.cal --trace t",
+        BYTES,
+        (0, 0, 1),
+        (3, "", "", NO_BYTES),
+    ),
 ];
 
 /// The words of a line, which one blank each parts.
@@ -197,8 +209,16 @@ fn runs_leave_their_report_trace_and_output(rt: HostRuntime) -> Result<(), Fail>
     for &(line, bytes, failing, left) in ROWS {
         let ran = run_line(&rt, rt.alloc(), line, bytes, failing)?;
         assert!(rt; ran.status.code() == left.0, "{}: {:?}", line, ran.status);
-        assert!(rt; ran.drains.held(0) == left.1.as_bytes(), "report of {}", line);
-        assert!(rt; ran.drains.held(1) == left.2.as_bytes(), "trace of {}", line);
+        assert!(rt;
+            ran.drains.held(0) == left.1.as_bytes(),
+            "report of {}",
+            line
+        );
+        assert!(rt;
+            ran.drains.held(1) == left.2.as_bytes(),
+            "trace of {}",
+            line
+        );
         assert!(rt; ran.drains.held(2) == left.3, "output of {}", line);
     }
     Ok(())
