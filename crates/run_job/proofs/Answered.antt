@@ -1,5 +1,5 @@
 -- How a command is answered, by whether its report was put.
-use Rattle.std.proofs.Common.{◌≡◌, ◌⊎◌, inl, inr, ⊎_elim, ℕ, ◌≤◌, true, List, [], ◌++◌, refl, sym, ap, subst, ◌∙◌}
+use Rattle.std.proofs.Common.{◌≡◌, ⊎_elim, ℕ, ◌≤◌, List, [], ◌++◌, refl, sym, ap, subst, ◌∙◌}
 use Rattle.std.specs.Prelude.{string_bytes}
 use Rattle.std.specs.declared.result.Result.{Result}
 use Rattle.std.specs.declared.result.Result.TheVariants.{Ok, Err}
@@ -32,7 +32,6 @@ use Rattle.network_job.specs.declared.outcome.JobFault.{JobFault}
 use Rattle.network_job.specs.declared.outcome.JobFault.TheVariants as fault
 use Rattle.network_job.specs.declared.outcome.Outcome.{Outcome}
 use Rattle.run_report.specs.About.{About}
-use Rattle.run_report.specs.Puts.{GetsLess, GetsText}
 use Rattle.run_report.specs.Report.{last_line, report}
 use Rattle.run_report.specs.declared.status.Status.{Status}
 use Rattle.run_report.specs.declared.status.Status.TheVariants as status

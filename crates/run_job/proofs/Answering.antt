@@ -1,6 +1,6 @@
 -- To what a command comes, by what a run of its image comes to.
-use Rattle.std.proofs.Common.{◌≡◌, ◌⊎◌, inl, inr, ⊎_elim, ℕ, ◌+◌, ◌<◌, ◌≤◌, true, false, List, [], ◌∷◌, ◌++◌, length, map, refl, sym, ap, subst, ◌∙◌, arith, Contains}
-use Rattle.std.specs.Prelude.{string_bytes, Some, slice_get, take}
+use Rattle.std.proofs.Common.{◌≡◌, ◌⊎◌, inl, inr, ℕ, ◌≤◌, true, false, List, ◌∷◌, ◌++◌, length, refl, sym, ap, subst, ◌∙◌, arith, Contains}
+use Rattle.std.specs.Prelude.{string_bytes, take}
 use Rattle.std.specs.Arc.{arc_value}
 use Rattle.std.specs.declared.result.Result.{Result}
 use Rattle.std.specs.declared.result.Result.TheVariants.{Ok, Err}
@@ -9,12 +9,11 @@ use Rattle.std.proofs.lemmas.List.Elements.{Contains-append_right}
 use Rattle.std.proofs.lemmas.Option.{slice_get_within}
 use Rattle.rvc_base.specs.declared.refusal.Refusal.{Refusal}
 use Rattle.rvc_base.specs.declared.refusal.Rule.{Rule}
-use Rattle.rvc_io.specs.Channels.{Appends, Channels, WritesOnlyAt}
+use Rattle.rvc_io.specs.Channels.{Channels, WritesOnlyAt}
 use Rattle.rvc_io.specs.Count.{HasRisen}
 use Rattle.rvc_io.specs.Feeds.{Inputs}
 use Rattle.rvc_words.specs.Words.{PortText}
 use Rattle.rvc_words.specs.declared.job.Job.{Job}
-use Rattle.channel_writer.specs.Held.{AppendsFront}
 use Rattle.trace_text.specs.declared.line.Line.{Line}
 use Rattle.trace_text.specs.declared.line.Line.TheVariants.{Budget as BudgetLine}
 use Rattle.cal_model.specs.Actor.{Actor}
@@ -22,24 +21,22 @@ use Rattle.cal_model.specs.Selection.{State as ActorState}
 use Rattle.net_model.specs.declared.wiring.Counts.{Counts}
 use Rattle.net_model.specs.declared.wiring.Link.{Link}
 use Rattle.net_model.specs.Network.{Network}
-use Rattle.net_model.specs.State.{start_of}
 use Rattle.net_state.proofs.Gaining.{some_is}
 use Rattle.actor_files.specs.Loading as loading
 use Rattle.actor_files.specs.Views.{file_names}
 use Rattle.actor_files.specs.declared.names.Names.{Names}
 use Rattle.source_network.specs.Files.{class_asked, files_of}
 use Rattle.port_words.specs.Matching.{AreMatched, BreaksRule, IsWrong, IsWrongWord, is_named, is_port}
-use Rattle.port_words.specs.Opening.{ChannelFails, Opening, channels_of, feeds_of}
-use Rattle.conforming_jobs.specs.Conforming.{Conforms, names_of_ports}
+use Rattle.port_words.specs.Opening.{ChannelFails, channels_of}
+use Rattle.conforming_jobs.specs.Conforming.{names_of_ports}
 use Rattle.round_runner.specs.declared.outcome.RunEnd.{RunEnd}
 use Rattle.round_runner.specs.declared.outcome.RunEnd.TheVariants as end
 use Rattle.network_cells.specs.SourceRuns.{SourcesAreActorNetworks}
 use Rattle.network_cells.specs.Sources.{IsActorNetwork}
 use Rattle.rvc_engine.specs.Built.{HasImage, IsBuilt}
-use Rattle.rvc_engine.specs.Images.{MeansNet}
 use Rattle.rvc_engine.specs.Top.{top_asked}
 use Rattle.rvc_engine.specs.declared.image.Image.{Image}
-use Rattle.network_job.specs.Answering.{EndIsCaused, HeadFails, IfStarted, IsUnread, IsUnwritten, LeavesJob}
+use Rattle.network_job.specs.Answering.{EndIsCaused, HeadFails, IsUnread, LeavesJob}
 use Rattle.network_job.specs.Files.{IsChannelOf, IsFeedOf, OpensOnly, WritesOnly}
 use Rattle.network_job.specs.Leaving.{Came, LeavesRun, ending_of}
 use Rattle.network_job.specs.Network as asks
@@ -48,13 +45,9 @@ use Rattle.network_job.specs.declared.outcome.JobFault.TheVariants as fault
 use Rattle.network_job.specs.declared.outcome.Outcome.{Outcome}
 use Rattle.network_job.proofs.Numbered.{is_channel}
 use Rattle.run_report.specs.About.{About}
-use Rattle.run_report.specs.Puts.{GetsLess, GetsText}
-use Rattle.run_report.specs.Report.{report, run_lines}
-use Rattle.run_report.specs.declared.status.Status.{Status}
-use Rattle.run_report.specs.declared.status.Status.TheVariants as status
-use Rattle.run_job.specs.Commands.{AreCertified, AreGiven, Command, HasFiles, IsToRun, OpenedNothing, TouchesOnly, about_net, count_none, port_names, run_over, top_of, words_of}
+use Rattle.run_job.specs.Commands.{AreCertified, AreGiven, Command, HasFiles, IsToRun, OpenedNothing, TouchesOnly, about_net, count_none, port_names, run_over}
 use Rattle.run_job.specs.Ends.{Comes, IsRefused, Ran, by_words}
-use Rattle.run_job.specs.Steps.{CellsRan, ImageRan, about_image, lines_at, status_at, status_of}
+use Rattle.run_job.specs.Steps.{CellsRan, about_image, lines_at, status_at, status_of}
 use Rattle.run_job.proofs.Cells.{many_leaves}
 use Rattle.run_job.proofs.Leaving.{same_names}
 use Rattle.run_job.proofs.Reported.{broken, cut, ended, risen_from, risen_to}

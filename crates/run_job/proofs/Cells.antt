@@ -1,5 +1,5 @@
 -- The cells of an image are those of its source network, and can be run.
-use Rattle.std.proofs.Common.{◌≡◌, ℕ, ◌≤◌, List, [], ◌∷◌, length, map, refl, sym, ap, subst, ◌∙◌, arith}
+use Rattle.std.proofs.Common.{◌≡◌, ℕ, List, [], ◌∷◌, length, map, refl, sym, ap, subst, ◌∙◌, arith}
 use Rattle.std.specs.Prelude.{string_bytes}
 use Rattle.std.specs.Arc.{arc_value}
 use Rattle.std.proofs.lemmas.List.{length-map}
@@ -14,15 +14,12 @@ use Rattle.net_model.specs.declared.wiring.Wiring.{Wiring}
 use Rattle.net_model.specs.Cell.{Cell}
 use Rattle.net_model.specs.Network.{Leaf, Network}
 use Rattle.net_model.specs.Ready.{given_state, port_of}
-use Rattle.net_model.specs.State.{State, start_of}
+use Rattle.net_model.specs.State.{start_of}
 use Rattle.net_model.specs.Alike.{StatesAlike}
-use Rattle.network_runner.specs.Asking.{CanRun}
-use Rattle.round_runner.specs.declared.outcome.Plan.{Plan}
 use Rattle.source_network.specs.Actors.{head_of}
 use Rattle.fnl_flatten.proofs.Wired.{flat_wired}
-use Rattle.fnl_flatten.specs.declared.flat.Flat.{Flat}
 use Rattle.network_cells.specs.Cells.{AreCellsOf}
-use Rattle.network_cells.specs.Runnable.{CanBeWired, CanRunWith, IsCodedNetwork, IsPlanFor, IsWiringOf}
+use Rattle.network_cells.specs.Runnable.{CanRunWith, IsCodedNetwork, IsPlanFor, IsWiringOf}
 use Rattle.network_cells.specs.SourceRuns.{LoweredCanBeWired}
 use Rattle.network_cells.specs.Sources.{IsActorNetwork, StandForActors, lowered_leaves, lowered_network, may_come_at, stands_at}
 use Rattle.network_cells.proofs.Lawlike.{starts_alike}

@@ -1,13 +1,12 @@
 -- What a run of an image's cells leaves, said of its source network.
-use Rattle.std.proofs.Common.{◌≡◌, ℕ, List, map, sym, ap, subst, ◌∙◌}
-use Rattle.std.specs.Prelude.{string_bytes}
+use Rattle.std.proofs.Common.{◌≡◌, ℕ, List, map, ap, subst, ◌∙◌}
 use Rattle.std.specs.Arc.{arc_value}
 use Rattle.std.proofs.lemmas.Simd.{map-map}
 use Rattle.std.specs.declared.result.Result.{Result}
 use Rattle.std.specs.declared.result.Result.TheVariants.{Ok, Err}
 use Rattle.rvc_io.specs.Channels.{Channels}
 use Rattle.rvc_io.specs.Feeds.{Inputs}
-use Rattle.rvc_words.specs.Words.{IsWithin, PortText, job_text}
+use Rattle.rvc_words.specs.Words.{IsWithin, job_text}
 use Rattle.rvc_words.specs.declared.job.Job.{Job}
 use Rattle.cal_model.specs.Actor.{Actor}
 use Rattle.cal_model.specs.Selection.{State as ActorState}

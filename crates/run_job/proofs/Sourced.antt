@@ -1,6 +1,5 @@
 -- What a run of lowered actors leaves, a run of the actors leaves for which they stand.
-use Rattle.std.proofs.Common.{◌≡◌, ◌⊎◌, inl, inr, ⊎_elim, ℕ, ◌+◌, List, [], ◌∷◌, ◌++◌, refl, sym, ap, subst, ◌∙◌}
-use Rattle.std.specs.Prelude.{Some}
+use Rattle.std.proofs.Common.{◌≡◌, inl, inr, ⊎_elim, ℕ, ◌+◌, List, [], ◌∷◌, ◌++◌, refl, subst}
 use Rattle.std.specs.declared.result.Result.{Result}
 use Rattle.std.specs.declared.result.Result.TheVariants.{Ok, Err}
 use Rattle.rvc_io.specs.Channels.{Channels}
@@ -14,17 +13,15 @@ use Rattle.net_model.specs.declared.wiring.Counts.{Counts}
 use Rattle.net_model.specs.Network.{Network}
 use Rattle.net_model.specs.State.{State}
 use Rattle.net_model.specs.Alike.{AreAlike, StatesAlike}
-use Rattle.net_model.specs.Paced.{IsBegun, IsPaced, Moment, Pace}
+use Rattle.net_model.specs.Paced.{IsBegun, IsPaced, Moment}
 use Rattle.net_model.specs.Trace.{KeepsFrom, PlaysFrom, bytes_out, text}
 use Rattle.net_model.specs.Counted.{IsCounted}
 use Rattle.net_model.proofs.Rounds.{begun_play, paced_play}
-use Rattle.round_runner.specs.declared.outcome.RunEnd.{RunEnd}
-use Rattle.round_runner.specs.declared.outcome.RunEnd.TheVariants as end
 use Rattle.network_cells.specs.Sources.{IsActorNetwork, StandForActors, lowered_network, may_come_at, stands_at}
 use Rattle.network_cells.proofs.Lawlike.{begun_alike, bytes_alike, counted_alike, keep_alike, paced_alike, texts_alike}
 use Rattle.network_cells.proofs.LikeSources.{lowered_alike}
 use Rattle.network_job.specs.Answering.{LeavesJob}
-use Rattle.network_job.specs.Leaving.{AreBegunOrPaced, ArePermitted, Came, Ending, HasEnded, Holds, HoldsPrefix, LeavesRun, Setting, Unread, Unwritten, WasBroken, WasCut, Wrote, WrotePrefixes, ending_of, pace_of, setting_of}
+use Rattle.network_job.specs.Leaving.{Came, Ending, HasEnded, Holds, HoldsPrefix, LeavesRun, Setting, Unread, Unwritten, WasBroken, WasCut, Wrote, WrotePrefixes, ending_of, pace_of, setting_of}
 use Rattle.network_job.specs.declared.outcome.JobFault.{JobFault}
 use Rattle.network_job.specs.declared.outcome.JobFault.TheVariants as fault
 use Rattle.network_job.specs.declared.outcome.Outcome.{Outcome}

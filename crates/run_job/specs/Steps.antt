@@ -6,7 +6,7 @@ use Rattle.std.specs.declared.result.Result.TheVariants.{Ok, Err}
 use Rattle.rvc_io.specs.declared.Failed.{Failed}
 use Rattle.rvc_io.specs.Channels.{Channels}
 use Rattle.rvc_io.specs.Feeds.{Inputs}
-use Rattle.rvc_words.specs.Words.{PortText, port_text}
+use Rattle.rvc_words.specs.Words.{port_text}
 use Rattle.rvc_words.specs.declared.job.Job.{Job}
 use Rattle.cal_model.specs.Actor.{Actor}
 use Rattle.cal_model.specs.Selection.{State}

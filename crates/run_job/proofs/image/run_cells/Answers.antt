@@ -1,8 +1,10 @@
-use Rattle.std.proofs.Common.{ap, map, subst}
+use Rattle.std.proofs.Common.{map, subst}
 use Rattle.std.specs.Arc.{arc_value}
 use Rattle.actor_cell.specs.Core.{seen}
 use Rattle.network_cells.specs.Cells.{AreCellsOf}
 use Rattle.network_cells.specs.Runnable.{CanRunWith}
+use Rattle.network_job.specs.Answering.{IsUnread}
+use Rattle.network_job.specs.Network.{in_names, words_of}
 use Rattle.run_job.proofs.Cells.{can_run_all}
 use Rattle.run_job.proofs.Leaving.{source_leaves, when_unstarted, when_unread}
 use Rattle.run_job.proofs.image.run_cells.Goals as goal
@@ -35,7 +37,8 @@ returns g c =
       matched = c.run_network.ensures.matched;
       refused = c.run_network.ensures.refused;
       unstarted = when_unstarted g.F.Feeds.feeds g.D.Drains.channels c.args.feeds.now c.run_network.new.feeds c.args.drains.now c.run_network.new.drains c.run_network.result c.run_network.ensures.unstarted;
-      unread = when_unread g.D.Drains.channels c.args.drains.now c.run_network.new.drains c.run_network.result _ c.run_network.ensures.unread;
+      unread = when_unread g.D.Drains.channels c.args.drains.now c.run_network.new.drains c.run_network.result
+          (IsUnread image.flat.links.items (in_names image.flat) (words_of job) (g.F.Feeds.feeds c.args.feeds.now) (g.F.Feeds.feeds c.run_network.new.feeds)) c.run_network.ensures.unread;
       unwritten = c.run_network.ensures.unwritten;
       faults = c.run_network.ensures.faults;
       report = c.run_network.ensures.report;

@@ -8,7 +8,7 @@ use Rattle.rvc_engine.specs.Images.{MeansNet}
 use Rattle.rvc_engine.specs.NotBuilt.{IsNoImage, IsUnbuilt}
 use Rattle.rvc_engine.specs.Top.{top_asked}
 use Rattle.run_job.specs.Steps.{IsPut, about_words, status_of_build}
-use Rattle.run_job.proofs.Answered.{image_answered, image_complete, unbuilt_answered, unbuilt_complete, workers_answered, workers_complete}
+use Rattle.run_job.proofs.Answered.{image_answered, image_complete, unbuilt_answered, unbuilt_complete, workers_answered}
 use Rattle.run_job.proofs.running.run_job.Goals as goal
 
 pub returns-then-job-gt1-clause-answered : goal.returns-then-job-gt1-clause-answered
