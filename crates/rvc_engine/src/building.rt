@@ -10,7 +10,6 @@ ghost use Rattle.network_files.specs.Views.{files_in};
 ghost use Rattle.source_network.specs.Library.{IsLibraryNetwork};
 ghost use Rattle.rvc_engine.specs.Built.{IsBuilt, IsImageOf};
 ghost use Rattle.rvc_engine.specs.Checked.{HasSource};
-ghost use Rattle.rvc_engine.specs.Formed.{SpelledAreFormed};
 ghost use Rattle.rvc_base.specs.Rules.{not_built};
 ghost use Rattle.cal_imports.specs.Answer.{Gives};
 ghost use Rattle.cal_imports.specs.Resolved.{resolved};
@@ -59,7 +58,6 @@ pub fn build<L: Library>(
     names: &mut Names,
 ) -> Result<Image, BuildFault>
     requires fresh { file_names names.old ≡ [] }
-    requires formed { SpelledAreFormed }
     ensures built { IfOk result (IsBuilt (L.file library.old) (top_asked top.now)
         (file_names names.new)) }
     ensures fault { IfErr result (IsNoImage (L.file library.old) (top_asked top.now)
@@ -93,7 +91,6 @@ fn build_top<L: Library>(
     names: &mut Names,
 ) -> Result<Image, BuildFault>
     requires fresh { file_names names.old ≡ [] }
-    requires formed { SpelledAreFormed }
     ensures built { IfOk result (IsBuilt (L.file library.old) (top_asked top.now)
         (file_names names.new)) }
     ensures fault { IfErr result (IsNoImage (L.file library.old) (top_asked top.now)

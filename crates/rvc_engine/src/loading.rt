@@ -3,7 +3,6 @@
 ghost use Rattle.std.specs.Prelude.{◌≡◌, ◌≤◌, ℕ, List, [], IfErr, IfOk};
 ghost use Rattle.actor_files.specs.Views.{file_names};
 ghost use Rattle.network_files.specs.Views.{asked_of};
-ghost use Rattle.rvc_engine.specs.Formed.{SpelledAreFormed};
 ghost use Rattle.rvc_engine.specs.Refused.{IsFault};
 ghost use Rattle.rvc_engine.specs.Steps.{IsHeld};
 ghost use Rattle.rvc_engine.specs.Top.{top_asked};
@@ -11,6 +10,7 @@ ghost use Rattle.rvc_engine.specs.Top.{top_asked};
 use crate::checking::check_files;
 use crate::fault::{BuildFault, of_front, of_load};
 use crate::held::Held;
+use crate::laws::spelled_actors_are_formed;
 use crate::top::kind_of;
 use actor_files::{Names, class_of};
 use distinct_names::said_files_are_spelled;
@@ -27,7 +27,6 @@ pub(crate) fn held_of_top<L: Library>(
     names: &mut Names,
 ) -> Result<Held, BuildFault>
     requires fresh { file_names names.old ≡ [] }
-    requires formed { SpelledAreFormed }
     ensures held { IfOk result (IsHeld (L.file library.old) (top_asked top.now) (file_names names.new)) }
     ensures fault { IfErr result (IsFault (L.file library.old) (top_asked top.now)
         (record { old = L.misses library.old; new = L.misses library.new })
@@ -52,7 +51,6 @@ fn held_of_class<L: Library>(
     names: &mut Names,
 ) -> Result<Held, BuildFault>
     requires fresh { file_names names.old ≡ [] }
-    requires formed { SpelledAreFormed }
     ensures held { IfOk result (IsHeld (L.file library.old) (asked_of class.now kind)
         (file_names names.new)) }
     ensures fault { IfErr result (IsFault (L.file library.old) (asked_of class.now kind)
@@ -64,6 +62,7 @@ fn held_of_class<L: Library>(
     ensures misses_stay { L.misses library.old ≤ L.misses library.new }
 {
     said_files_are_spelled();
+    spelled_actors_are_formed();
     match load_network(alloc, library, class, kind, names) {
         Ok(files) => match check_files(alloc, &files, class) {
             Ok(checked) => Ok(Held { files, checked }),

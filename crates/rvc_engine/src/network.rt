@@ -8,7 +8,6 @@ ghost use Rattle.cal_model.specs.Selection.{State};
 ghost use Rattle.net_model.specs.Network.{Network};
 ghost use Rattle.source_network.specs.Library.{IsLibraryNetwork};
 ghost use Rattle.rvc_engine.specs.Checked.{HasNetwork, IsChecked};
-ghost use Rattle.rvc_engine.specs.Formed.{SpelledAreFormed};
 ghost use Rattle.rvc_engine.specs.Refused.{IsFault, IsOutside, RefusesTop};
 ghost use Rattle.rvc_engine.specs.Top.{top_asked};
 
@@ -43,7 +42,6 @@ pub fn check_network<L: Library>(
     names: &mut Names,
 ) -> Result<Checked, BuildFault>
     requires fresh { file_names names.old ≡ [] }
-    requires formed { SpelledAreFormed }
     ensures checked { IfOk result (IsChecked (L.file library.old) (top_asked top.now)
         (file_names names.new)) }
     ensures fault { IfErr result (IsFault (L.file library.old) (top_asked top.now)
@@ -76,7 +74,6 @@ fn check_top<L: Library>(
     names: &mut Names,
 ) -> Result<Checked, BuildFault>
     requires fresh { file_names names.old ≡ [] }
-    requires formed { SpelledAreFormed }
     ensures checked { IfOk result (IsChecked (L.file library.old) (top_asked top.now)
         (file_names names.new)) }
     ensures fault { IfErr result (IsFault (L.file library.old) (top_asked top.now)
