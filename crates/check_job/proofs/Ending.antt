@@ -1,10 +1,11 @@
--- How a check ends, from what the engine and the port words answer.
+-- How a command ends, from what the engine and the port words answer.
 use Rattle.std.proofs.Common.{◌≡◌, ℕ, suc, List, [], ◌∷◌, ◌++◌, length, map, refl, sym, ap, subst, ◌∙◌}
 use Rattle.std.specs.Prelude.{string_bytes}
 use Rattle.std.proofs.lemmas.List.{length-map}
 use Rattle.rvc_base.specs.declared.refusal.Refusal.{Refusal}
-use Rattle.rvc_io.specs.Channels.{Channels}
-use Rattle.actor_files.specs.Loading.{Counts, Library, TellsAll}
+use Rattle.actor_files.specs.Loading.{TellsAll}
+use Rattle.actor_files.specs.Views.{file_names}
+use Rattle.actor_files.specs.declared.names.Names.{Names}
 use Rattle.cal_model.specs.Actor.{Actor}
 use Rattle.cal_model.specs.Selection.{State}
 use Rattle.conforming_jobs.specs.Conforming.{names_of_ports}
@@ -14,6 +15,8 @@ use Rattle.net_model.specs.Network.{Leaf as NetLeaf, Network}
 use Rattle.net_model.specs.Ready.{port_of}
 use Rattle.net_model.specs.declared.wiring.Port.{Port}
 use Rattle.port_words.specs.Matching.{AreMatched, IsWrongWord, names_of}
+use Rattle.run_report.specs.About.{About}
+use Rattle.run_report.specs.Report.{report, size_lines}
 use Rattle.run_report.specs.declared.status.Status.{Status}
 use Rattle.run_report.specs.declared.status.Status.TheVariants as status
 use Rattle.rvc_engine.specs.Checked.{AreLeavesOf, IsChecked}
@@ -25,10 +28,9 @@ use Rattle.rvc_words.specs.Words.{PortText, port_text}
 use Rattle.rvc_words.specs.declared.job.Job.{Job}
 use Rattle.rvc_words.specs.declared.job.PortWord.{PortWord}
 use Rattle.source_network.specs.Answers.{HasWiring}
-use Rattle.source_network.specs.Library.{IsLibraryNetwork}
-use Rattle.check_job.specs.Ends.{Ends, IsDone, IsRefused, end_report}
-use Rattle.check_job.specs.Job.{in_top, in_words, top_of, words_of}
-use Rattle.check_job.specs.Steps.{IsEnded, IsPut, sizes_report, status_of}
+use Rattle.check_job.specs.Commands.{Command, HasFiles, about_files, about_net, top_of, words_of}
+use Rattle.check_job.specs.Ends.{Comes, Conformed, by_files, by_words}
+use Rattle.check_job.specs.Steps.{IsEnded, IsPut, about_checked, status_of}
 
 -- ---- the network that was checked
 
@@ -36,12 +38,17 @@ own_names : (ports : List Port) → map (λ p. p.name) (map port_of ports) ≡ n
 own_names [] = refl
 own_names (p ∷ ports) = ap (λ names. string_bytes p.name ∷ names) (own_names ports)
 
+-- the names of its inputs, and those of its outputs
+in_names : (flat : Flat) (net : Network State) → HasWiring flat net → map (λ p. p.name) net.ins ≡ names_of flat.ins.items
+in_names flat net h = ap (λ ports. map (λ p. p.name) ports) h.ins ∙ own_names flat.ins.items
+
+out_names : (flat : Flat) (net : Network State) → HasWiring flat net → map (λ p. p.name) net.outs ≡ names_of flat.outs.items
+out_names flat net h = ap (λ ports. map (λ p. p.name) ports) h.outs ∙ own_names flat.outs.items
+
 port_names : (flat : Flat) (net : Network State) → HasWiring flat net → names_of_ports net ≡ names_of flat.ins.items ++ names_of flat.outs.items
 port_names flat net h =
-    ap (λ ports. map (λ p. p.name) ports ++ map (λ p. p.name) net.outs) h.ins
-    ∙ ap (λ ports. map (λ p. p.name) (map port_of flat.ins.items) ++ map (λ p. p.name) ports) h.outs
-    ∙ ap (λ names. names ++ map (λ p. p.name) (map port_of flat.outs.items)) (own_names flat.ins.items)
-    ∙ ap (λ names. names_of flat.ins.items ++ names) (own_names flat.outs.items)
+    ap (λ names. names ++ map (λ p. p.name) net.outs) (in_names flat net h)
+    ∙ ap (λ names. names_of flat.ins.items ++ names) (out_names flat net h)
 
 leaf_count : (paths classes : List (List ℕ)) (actors : List Actor) (xs : List (NetLeaf State)) → AreLeavesOf paths classes actors xs → length xs ≡ length paths
 leaf_count [] [] [] [] h = refl
@@ -53,61 +60,63 @@ leaf_count (p ∷ paths) (c ∷ classes) [] xs h = absurd h
 leaf_count (p ∷ paths) (c ∷ classes) (a ∷ actors) [] h = absurd h
 leaf_count (p ∷ paths) (c ∷ classes) (a ∷ actors) (x ∷ xs) h = ap suc (leaf_count paths classes actors xs h.1)
 
-library_network : (library : Library) (job : Job) (names : List (List ℕ)) (c : Checked) → (h : IsChecked library (top_of job) names c) → TellsAll library → IsLibraryNetwork library (top_of job) h.source.net
-library_network library job names c h tells = record {
-  reads = h.reads;
-  are_loaded = h.are_read.are_loaded tells;
-  means = h.source.means;
-}
+-- what a report speaks of, by its parts
+about_same : (job : Job) (names : List (List ℕ)) (net : Network State) (c : Checked) (n : ℕ) → n ≡ length net.leaves → c.flat.links.items ≡ net.links
+    → names_of c.flat.ins.items ≡ map (λ p. p.name) net.ins → names_of c.flat.outs.items ≡ map (λ p. p.name) net.outs
+    → record { files = names; trace = string_bytes job.trace; words = words_of job; instances = n; links = c.flat.links.items; ins = names_of c.flat.ins.items; outs = names_of c.flat.outs.items }
+    ≡ about_net job names net
+about_same job names net c n a b d e = λ i. record { files = names; trace = string_bytes job.trace; words = words_of job; instances = a i; links = b i; ins = d i; outs = e i }
 
--- ---- ends
+about_is : (job : Job) (names : Names) (c : Checked) (net : Network State) → AreLeavesOf (map string_bytes c.flat.paths.items) (map string_bytes c.flat.classes.items) (actors_at_leaves c.actors) net.leaves
+    → HasWiring c.flat net → about_checked c names job ≡ about_net job (file_names names) net
+about_is job names c net leaves h = about_same job (file_names names) net c (length c.flat.paths.items)
+    (sym (leaf_count (map string_bytes c.flat.paths.items) (map string_bytes c.flat.classes.items) (actors_at_leaves c.actors) net.leaves leaves ∙ length-map c.flat.paths.items string_bytes))
+    (sym h.links) (sym (in_names c.flat net h)) (sym (out_names c.flat net h))
 
-pub done : (library : Library) (job : Job) (names : List (List ℕ)) (c : Checked) → AreMatched (names_of c.flat.ins.items ++ names_of c.flat.outs.items) (words_of job)
-    → IsChecked library (top_of job) names c
-    → IsDone library job (sizes_report (length c.flat.paths.items) (length c.flat.links.items))
-done library job names c matched h = record {
-  net = h.source.net;
-  conforms = λ tells. record {
-    means = library_network library job names c h tells;
-    matched = subst (λ ports. AreMatched ports (words_of job)) (sym (port_names c.flat h.source.net h.source.has_net.is_net.wiring)) matched;
-  };
-  report_is =
-      ap (λ n. sizes_report n (length c.flat.links.items))
-      (sym (leaf_count (map string_bytes c.flat.paths.items) (map string_bytes c.flat.classes.items) (actors_at_leaves c.actors) h.source.net.leaves h.source.has_net.is_net.leaves ∙ length-map c.flat.paths.items string_bytes))
-      ∙ ap (λ links. sizes_report (length h.source.net.leaves) (length links)) (sym h.source.has_net.is_net.wiring.links);
-}
+abbrev has_files : (cmd : Command) (names : List (List ℕ)) (c : Checked) → (h : IsChecked cmd.library (top_of cmd.job) names c) → HasFiles cmd h.source.net
+has_files cmd names c h = record { names = names; reads = h.reads; are_read = h.are_read; means = h.source.means }
 
-pub wrong : (library : Library) (job : Job) (misses : Counts) (names : List (List ℕ)) (c : Checked) (r : Refusal)
-    → IsWrongWord (names_of c.flat.ins.items ++ names_of c.flat.outs.items) (words_of job) r
-    → IsChecked library (top_of job) names c
-    → IsRefused library job misses r (end_report names (status.Refused r))
-wrong library job misses names c r is h = record {
-  names = names;
-  broken = λ tells. in_words r h.source.net (library_network library job names c h tells)
-      (subst (λ ports. IsWrongWord ports (words_of job) r) (sym (port_names c.flat h.source.net h.source.has_net.is_net.wiring)) is);
-  report_is = refl;
-}
+-- ---- what it comes to
 
-pub failed : (library : Library) (job : Job) (misses faults : Counts) (names : List (List ℕ)) (f : BuildFault) → IsFault library (top_of job) misses faults names f
-    → Ends library job misses faults (end_report names (status_of f)) (status_of f)
-failed library job misses faults names (fault.Refused r) h = record {
-  names = names;
-  broken = λ tells. in_top r (h tells);
-  report_is = refl;
-}
-failed library job misses faults names (fault.ReadFault file) h = record {
-  file = file;
-  at_is = refl;
-  counted = h.0;
-  names = names;
-  failed = h.1;
-  report_is = refl;
-}
-failed library job misses faults names fault.Memory h = refl
+pub conformed : (cmd : Command) (names : Names) (c : Checked) → AreMatched (names_of c.flat.ins.items ++ names_of c.flat.outs.items) (words_of cmd.job)
+    → IsChecked cmd.library (top_of cmd.job) (file_names names) c
+    → Conformed cmd (size_lines (about_checked c names cmd.job)) (about_checked c names cmd.job)
+conformed cmd names c matched h =
+    let same = sym (port_names c.flat h.source.net h.source.has_net.is_net.wiring) in
+    let fit : AreMatched (names_of_ports h.source.net) (words_of cmd.job) = subst (λ ports. AreMatched ports (words_of cmd.job)) same matched in
+    record {
+      net = h.source.net;
+      is_of_job = record {
+        files = has_files cmd (file_names names) c h;
+        matched = fit;
+        conforms = λ tells. record {
+          means = record { reads = h.reads; are_loaded = h.are_read.are_loaded tells; means = h.source.means };
+          matched = fit;
+        };
+      };
+      about_is = about_is cmd.job names c h.source.net h.source.has_net.is_net.leaves h.source.has_net.is_net.wiring;
+      lines_are = refl;
+    }
 
-pub ended : (library : Library) (job : Job) (misses faults : Counts) (old new : Channels) (report : List ℕ) (end answer : Status)
-    → Ends library job misses faults report end → IsPut report end old new answer → IsEnded library job misses faults old new answer
-ended library job misses faults old new report end answer ends put = record { report = report; end = end; ends = ends; is_put = put }
+pub wrong : (cmd : Command) (names : List (List ℕ)) (c : Checked) (r : Refusal) (lines : List ℕ)
+    → IsWrongWord (names_of c.flat.ins.items ++ names_of c.flat.outs.items) (words_of cmd.job) r
+    → IsChecked cmd.library (top_of cmd.job) names c
+    → Comes cmd (status.Refused r) lines (about_files cmd.job names)
+wrong cmd names c r lines is h = by_words names h.source.net (record {
+  files = has_files cmd names c h;
+  names_are = refl;
+  wrong = subst (λ ports. IsWrongWord ports (words_of cmd.job) r) (sym (port_names c.flat h.source.net h.source.has_net.is_net.wiring)) is;
+})
+
+pub failed : (cmd : Command) (names : List (List ℕ)) (f : BuildFault) (lines : List ℕ) → IsFault cmd.library (top_of cmd.job) cmd.misses cmd.faults names f
+    → Comes cmd (status_of f) lines (about_files cmd.job names)
+failed cmd names (fault.Refused r) lines h = by_files names (record { why = h })
+failed cmd names (fault.ReadFault file) lines h = record { counted = h.0; names = names; told = h.1; about_is = refl }
+failed cmd names fault.Memory lines h = tt
+
+pub ended : (cmd : Command) (said answer : Status) (lines : List ℕ) (about : About)
+    → Comes cmd said lines about → IsPut said (report lines about said) cmd.channels cmd.channels_after answer → IsEnded cmd answer
+ended cmd said answer lines about comes put = record { said = said; lines = lines; about = about; comes = comes; is_put = put }
 
 -- what is said of lists holds of the same lists
 pub moved : (P : List (List ℕ) → List PortText → Type 0) (ins those_ins outs those_outs : List Port) (words those_words : List PortWord)

@@ -1,138 +1,111 @@
--- How a check ends, and its report.
+-- To what a command comes that checks a job, and what it reports: a case for each status.
 -- Trusted: part of what a promise means.
 use Rattle.std.specs.Prelude.{◌≡◌, ℕ, List, [], ◌∷◌, ◌++◌, codes, decimal, length}
 use Rattle.rvc_base.specs.declared.refusal.Refusal.{Refusal}
-use Rattle.rvc_io.specs.Channels.{Channels}
+use Rattle.rvc_io.specs.Channels.{Appends, Channels}
 use Rattle.rvc_io.specs.Count.{HasRisen}
-use Rattle.actor_files.specs.Loading.{Counts, Library, TellsAll}
+use Rattle.actor_files.specs.Loading.{TellsAll}
 use Rattle.cal_model.specs.Selection.{State}
+use Rattle.channel_writer.specs.Held.{AppendsFront}
+use Rattle.conforming_jobs.specs.Conforming.{names_of_ports}
 use Rattle.net_model.specs.Network.{Network}
 use Rattle.network_files.specs.Loading.{IsFaulted}
+use Rattle.port_words.specs.Matching.{IsWrongWord}
 use Rattle.run_report.specs.About.{About}
 use Rattle.run_report.specs.Line.{line}
-use Rattle.run_report.specs.Puts.{GetsLess, GetsText}
-use Rattle.run_report.specs.Report.{last_line}
-use Rattle.run_report.specs.declared.status.ReadAt.{ReadAt}
-use Rattle.run_report.specs.declared.status.ReadAt.TheVariants.{File}
+use Rattle.run_report.specs.Report.{report, size_lines}
+use Rattle.run_report.specs.declared.status.ReadAt.TheVariants.{File, Feed}
 use Rattle.run_report.specs.declared.status.Status.{Status}
 use Rattle.run_report.specs.declared.status.Status.TheVariants as status
-use Rattle.rvc_words.specs.declared.job.Job.{Job}
-use Rattle.check_job.specs.Job.{JobConforms, RefusesJob, top_of}
+use Rattle.rvc_engine.specs.Refused.{RefusesTop}
+use Rattle.check_job.specs.Commands.{Command, HasFiles, IsOfJob, about_files, about_net, top_of, words_of}
 
--- ---- reports
+-- ---- what it comes to
 
--- the report of a network that was checked: its numbers of instances and of links
+-- The files and the words conform, and the report has the numbers of their network.
+pub record Conformed (cmd : Command) (lines : List ℕ) (about : About) : Type 0 where
+  pub net : Network State
+  pub is_of_job : IsOfJob cmd net
+  pub about_is : about ≡ about_net cmd.job is_of_job.files.names net
+  pub lines_are : lines ≡ size_lines about
+
+-- the files that the top needs break a rule; the file of the refusal is one of these names
+pub record BreaksFiles (cmd : Command) (names : List (List ℕ)) (r : Refusal) : Type 0 where
+  pub why : TellsAll cmd.library → RefusesTop cmd.library (top_of cmd.job) cmd.misses names r
+
+-- the first port word that names no port of the network, or one that a word before it names
+pub record HasWrongWord (cmd : Command) (names : List (List ℕ)) (net : Network State) (r : Refusal) : Type 0 where
+  pub files : HasFiles cmd net
+  pub names_are : names ≡ files.names
+  pub wrong : IsWrongWord (names_of_ports net) (words_of cmd.job) r
+
+-- Why the job is refused.
+pub data IsRefused (cmd : Command) (r : Refusal) : About → Type 0 where
+  by_files : (names : List (List ℕ)) → BreaksFiles cmd names r
+      → IsRefused cmd r (about_files cmd.job names)
+  by_words : (names : List (List ℕ)) (net : Network State) → HasWrongWord cmd names net r
+      → IsRefused cmd r (about_files cmd.job names)
+
+-- the reading of a file failed, which was counted; the file is one of these names
+pub record FileUnread (cmd : Command) (file : ℕ) (about : About) : Type 0 where
+  pub counted : HasRisen cmd.faults.old cmd.faults.new
+  pub names : List (List ℕ)
+  pub told : TellsAll cmd.library → IsFaulted cmd.library (top_of cmd.job) file names
+  pub about_is : about ≡ about_files cmd.job names
+
+-- ---- each status
+
+-- What a command has come to, but for its report: with these lines of the verb, and speaking of this. It never ends by
+-- another status, nor by a feed or a channel that it opened, for it opens none.
+abbrev pub Comes : Command → Status → (lines : List ℕ) → About → Type 0
+Comes cmd status.Done lines about = Conformed cmd lines about
+Comes cmd (status.Refused r) lines about = IsRefused cmd r about
+Comes cmd (status.ReadFault (File file)) lines about = FileUnread cmd file about
+Comes cmd (status.ReadFault (Feed feed)) lines about = ⊥
+Comes cmd status.OutOfMemory lines about = Unit {0}
+Comes cmd (status.WriteFault channel) lines about = ⊥
+Comes cmd status.Quiet lines about = ⊥
+Comes cmd (status.Trapped inst action trap) lines about = ⊥
+Comes cmd (status.Stalled inst action link) lines about = ⊥
+Comes cmd (status.Budget firings) lines about = ⊥
+Comes cmd (status.Usage cause) lines about = ⊥
+Comes cmd (status.NotRun number why) lines about = ⊥
+Comes cmd (status.Uncertified inst state first second reason) lines about = ⊥
+
+-- How a command is answered. Its report was put behind what channel 0 held, which is what the status says; or a put of it
+-- failed, which was counted, and channel 0 got a prefix of it: then the status is that of channel 0, whatever the command
+-- had come to.
+pub data IsAnswered (cmd : Command) : Status → Type 0 where
+  is_reported : {said : Status} (lines : List ℕ) (about : About) → Comes cmd said lines about
+      → Appends 0 cmd.channels cmd.channels_after (report lines about said)
+      → IsAnswered cmd said
+  is_unreported : (said : Status) (lines : List ℕ) (about : About) → Comes cmd said lines about
+      → AppendsFront 0 cmd.channels cmd.channels_after (report lines about said)
+      → HasRisen cmd.channels.faults cmd.channels_after.faults
+      → IsAnswered cmd (status.WriteFault 0)
+
+-- ---- completeness
+
+-- the report of a network that was checked: its numbers of instances and of links, and that it conforms
 abbrev pub network_report : Network State → List ℕ
 network_report net =
     line (codes "instances") (decimal (length net.leaves) ∷ [])
     ++ line (codes "links") (decimal (length net.links) ∷ [])
     ++ line (codes "done") []
 
--- names of files: that of file k stands at place k - 1
-abbrev pub about_files : (names : List (List ℕ)) → About
-about_files names = record {
-  files = names;
-  trace = [];
-  words = [];
-  instances = 0;
-  links = [];
-  ins = [];
-  outs = [];
-}
-
--- the report of another end: its last line alone, with these names of files
-abbrev pub end_report : (names : List (List ℕ)) → Status → List ℕ
-end_report names end = last_line (about_files names) end
-
--- ---- ends, each with its report
-
--- files and words conform, as the library tells, and the report has the numbers of their network
-pub record IsDone (library : Library) (job : Job) (report : List ℕ) : Type 0 where
-  pub net : Network State
-  pub conforms : TellsAll library → JobConforms library job net
-  pub report_is : report ≡ network_report net
-
--- a rule is broken, as the library tells, and the report names it
-pub record IsRefused (library : Library) (job : Job) (misses : Counts) (r : Refusal) (report : List ℕ) : Type 0 where
-  pub names : List (List ℕ)
-  pub broken : TellsAll library → RefusesJob library job misses names r
-  pub report_is : report ≡ end_report names (status.Refused r)
-
--- the reading of a file failed, which was counted, and the report names the file
-pub record IsUnread (library : Library) (job : Job) (faults : Counts) (at : ReadAt) (report : List ℕ) : Type 0 where
-  pub file : ℕ
-  pub at_is : at ≡ File file
-  pub counted : HasRisen faults.old faults.new
-  pub names : List (List ℕ)
-  pub failed : TellsAll library → IsFaulted library (top_of job) file names
-  pub report_is : report ≡ end_report names (status.ReadFault at)
-
--- memory ran out, and the report says so
-abbrev pub IsOutOfMemory : (report : List ℕ) → Type 0
-IsOutOfMemory report = report ≡ end_report [] status.OutOfMemory
-
--- How a check ends before its report is put, by the status; it ends in no other way.
-abbrev pub Ends : Library → Job → (misses faults : Counts) → (report : List ℕ) → Status → Type 0
-Ends library job misses faults report status.Quiet = ⊥
-Ends library job misses faults report status.Done = IsDone library job report
-Ends library job misses faults report (status.Usage cause) = ⊥
-Ends library job misses faults report (status.ReadFault at) = IsUnread library job faults at report
-Ends library job misses faults report (status.WriteFault channel) = ⊥
-Ends library job misses faults report (status.Refused r) = IsRefused library job misses r report
-Ends library job misses faults report (status.Trapped inst action trap) = ⊥
-Ends library job misses faults report (status.Stalled inst action link) = ⊥
-Ends library job misses faults report (status.Budget firings) = ⊥
-Ends library job misses faults report status.OutOfMemory = IsOutOfMemory report
-Ends library job misses faults report (status.NotRun number why) = ⊥
-Ends library job misses faults report (status.Uncertified inst state first second reason) = ⊥
-
--- ---- what is put
-
--- channel 0 got such a report, whole, and no other was written or opened
-pub record Reports (is_report : List ℕ → Type 0) (old new : Channels) : Type 0 where
-  pub report : List ℕ
-  pub is : is_report report
-  pub put : GetsText report old new
-
--- The report of an end couldn't be put, which was counted: channel 0 got a prefix of it, and no other was written or
--- opened.
-pub record IsUnwritten (library : Library) (job : Job) (misses faults : Counts) (channel : ℕ) (old new : Channels)
-    : Type 0 where
-  pub channel_is : channel ≡ 0
-  pub end : Status
-  pub report : List ℕ
-  pub ends : Ends library job misses faults report end
-  pub put : GetsLess report old new
-
--- ---- what is answered
-
--- the statuses that a check may have
-abbrev pub IsOfCheck : Status → Type 0
-IsOfCheck status.Quiet = ⊥
-IsOfCheck status.Done = Unit {0}
-IsOfCheck (status.Usage cause) = ⊥
-IsOfCheck (status.ReadFault at) = Unit {0}
-IsOfCheck (status.WriteFault channel) = Unit {0}
-IsOfCheck (status.Refused r) = Unit {0}
-IsOfCheck (status.Trapped inst action trap) = ⊥
-IsOfCheck (status.Stalled inst action link) = ⊥
-IsOfCheck (status.Budget firings) = ⊥
-IsOfCheck status.OutOfMemory = Unit {0}
-IsOfCheck (status.NotRun number why) = ⊥
-IsOfCheck (status.Uncertified inst state first second reason) = ⊥
-
--- The check of a network that files and words conform to is done, with the numbers of this network; but memory may run
--- out, or reading or writing fail.
-abbrev pub IsDoneOrOutside : Network State → (old new : Channels) → Status → Type 0
-IsDoneOrOutside net old new status.Quiet = ⊥
-IsDoneOrOutside net old new status.Done = GetsText (network_report net) old new
-IsDoneOrOutside net old new (status.Usage cause) = ⊥
-IsDoneOrOutside net old new (status.ReadFault at) = Unit {0}
-IsDoneOrOutside net old new (status.WriteFault channel) = Unit {0}
-IsDoneOrOutside net old new (status.Refused r) = ⊥
-IsDoneOrOutside net old new (status.Trapped inst action trap) = ⊥
-IsDoneOrOutside net old new (status.Stalled inst action link) = ⊥
-IsDoneOrOutside net old new (status.Budget firings) = ⊥
-IsDoneOrOutside net old new status.OutOfMemory = Unit {0}
-IsDoneOrOutside net old new (status.NotRun number why) = ⊥
-IsDoneOrOutside net old new (status.Uncertified inst state first second reason) = ⊥
+-- The files and the words conform to this network: the answer is that they do, with the report of this network; but
+-- memory may run out, or reading or writing fail.
+abbrev pub IsDoneOrOutside : (old new : Channels) → Network State → Status → Type 0
+IsDoneOrOutside old new net status.Done =
+    Appends 0 old new (network_report net)
+IsDoneOrOutside old new net status.OutOfMemory = Unit {0}
+IsDoneOrOutside old new net (status.ReadFault at) = Unit {0}
+IsDoneOrOutside old new net (status.WriteFault channel) = Unit {0}
+IsDoneOrOutside old new net (status.Refused r) = ⊥
+IsDoneOrOutside old new net status.Quiet = ⊥
+IsDoneOrOutside old new net (status.Trapped inst action trap) = ⊥
+IsDoneOrOutside old new net (status.Stalled inst action link) = ⊥
+IsDoneOrOutside old new net (status.Budget firings) = ⊥
+IsDoneOrOutside old new net (status.Usage cause) = ⊥
+IsDoneOrOutside old new net (status.NotRun number why) = ⊥
+IsDoneOrOutside old new net (status.Uncertified inst state first second reason) = ⊥

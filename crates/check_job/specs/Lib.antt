@@ -1,3 +1,3 @@
-pub mod Job
+pub mod Commands
 pub mod Ends
 pub mod Steps

@@ -1,15 +1,14 @@
 //! Files are checked, and port words matched.
 
 ghost use Rattle.std.specs.Prelude.{◌≡◌, ◌≤◌, ℕ, true, List};
+ghost use Rattle.rvc_io.specs.Told.{Told};
 ghost use Rattle.actor_files.specs.Loading.{Counts};
 ghost use Rattle.actor_files.specs.Views.{file_names};
 ghost use Rattle.rvc_engine.specs.Checked.{IsChecked};
-ghost use Rattle.rvc_engine.specs.Formed.{SpelledAreFormed};
-ghost use Rattle.check_job.specs.Job.{top_of};
+ghost use Rattle.check_job.specs.Commands.{top_of};
 ghost use Rattle.check_job.specs.Steps.{IsEnded, status_of};
-ghost use Rattle.rvc_io.specs.Told.{Told};
 
-use crate::reporting::{put_end, put_sizes};
+use crate::reporting::{report_checked, report_unchecked};
 use actor_files::Names;
 use port_words::match_words;
 use run_report::{REPORT_CHANNEL, ReadAt, Status};
@@ -29,42 +28,51 @@ pub(crate) fn check_files<L: Library, D: Drains>(
     drains: &mut D,
 ) -> Status
     requires open { (D.channels drains.old).is_open REPORT_CHANNEL ≡ true }
-    requires formed { SpelledAreFormed }
-    ensures ended { IsEnded (L.file library.old) job.now
-        (record { old = L.misses library.old; new = L.misses library.new })
-        (record { old = L.faults library.old; new = L.faults library.new })
-        (D.channels drains.old) (D.channels drains.new) result }
+    ensures ended { IsEnded (record {
+      job = job.now;
+      library = L.file library.old;
+      misses = record { old = L.misses library.old; new = L.misses library.new };
+      faults = record { old = L.faults library.old; new = L.faults library.new };
+      channels = D.channels drains.old;
+      channels_after = D.channels drains.new;
+    }) result }
     ensures same_files { (other : List ℕ) → L.file library.new other ≡ L.file library.old other }
     ensures faults_stay { L.faults library.old ≤ L.faults library.new }
     ensures misses_stay { L.misses library.old ≤ L.misses library.new }
 {
     let mut names = Names::new(alloc);
     match check_network(alloc, library, job.top.as_str(), &mut names) {
-        Ok(checked) => end_of(job, &names, &checked, drains),
-        Err(fault) => put_end(status_of(fault), &names, drains),
+        Ok(checked) => end_of(&checked, &names, job, drains),
+        Err(fault) => report_unchecked(status_of(fault), &names, job, drains),
     }
 }
 
 /// Matches the port words of a job with the ports of a network that was checked, and puts the report.
-fn end_of<D: Drains>(job: &Job, names: &Names, checked: &Checked, drains: &mut D) -> Status
+fn end_of<D: Drains>(checked: &Checked, names: &Names, job: &Job, drains: &mut D) -> Status
     requires { (D.channels drains.old).is_open REPORT_CHANNEL ≡ true }
     ensures { (library : List ℕ → Told) (misses faults : Counts)
         → IsChecked library (top_of job.now) (file_names names.now) checked.now
-        → IsEnded library job.now misses faults
-        (D.channels drains.old) (D.channels drains.new) result }
+        → IsEnded (record {
+          job = job.now;
+          library = library;
+          misses = misses;
+          faults = faults;
+          channels = D.channels drains.old;
+          channels_after = D.channels drains.new;
+        }) result }
 {
     let ins = checked.wiring().ins.as_slice();
     let outs = checked.wiring().outs.as_slice();
     if ins.len() > MAX_PORTS || outs.len() > MAX_PORTS {
-        return put_end(Status::OutOfMemory, names, drains);
+        return report_unchecked(Status::OutOfMemory, names, job, drains);
     }
     match match_words(job.ports.as_slice(), ins, outs) {
-        Ok(()) => put_sizes(checked, drains),
-        Err(refusal) => put_end(Status::Refused(refusal), names, drains),
+        Ok(()) => report_checked(checked, names, job, drains),
+        Err(refusal) => report_unchecked(Status::Refused(refusal), names, job, drains),
     }
 }
 
-/// How a check ends by a fault of the engine.
+/// The status of a network that isn't given.
 fn status_of(fault: BuildFault) -> Status
     ensures { result ≡ status_of fault }
 {
