@@ -3,7 +3,8 @@
 //! [`check_job`] reads and checks the network that the top names, matches the port words with its ports, and puts the
 //! report on channel 0. It opens nothing.
 //!
-//! `specs/` says what a job conforms to and what refuses it (`Job`), and how a check ends, with its report (`Ends`).
+//! `specs/Commands.antt` says which network a command is about, and `specs/Ends.antt` to what it comes and what it reports,
+//! with a case for each status.
 #![tactic(auto)]
 
 mod checking;

@@ -11,7 +11,9 @@ use std::test::Fail;
 /// The words behind `rvc check`, which reading and which put fails, counted from 1, the exit status, and the report.
 type Row = (&'static str, u64, u64, u8, &'static str);
 
-/// The names of files, and their texts: an actor, and a network in which two of it stand in a row.
+/// The names of files, and their texts: an actor, a network in which two actors stand in a row, and files that break a
+/// rule: a schedule that can go two ways, a priority that is a cycle, a type of reals, a network inside itself, and
+/// one that breaks off.
 const FILES: &[(&str, &str)] = &[
     (
         "A.cal",
@@ -25,6 +27,20 @@ const FILES: &[(&str, &str)] = &[
         "B.cal",
         "actor B () bool In ==> bool Out : action In:[x] ==> Out:[x] end end",
     ),
+    (
+        "Amb.cal",
+        "actor Amb() uint(size=8) In ==> : a.x: action In:[v] ==> end schedule fsm s : s (a) --> s; s (a.x) --> t; end end",
+    ),
+    (
+        "Cyc.cal",
+        "actor Cyc() uint(size=8) In ==> : a: action In:[v] ==> end b: action In:[v] ==> end c: action In:[v] ==> end priority a > b; b > c; c > a; end end",
+    ),
+    ("Fl.cal", "actor Fl() float In ==> : end"),
+    (
+        "Self.xdf",
+        "<XDF name=\"Self\"><Instance id=\"a\"><Class name=\"Self\"/></Instance></XDF>",
+    ),
+    ("T.xdf", "<XDF name=\"T\"><Port ki"),
 ];
 
 const ROWS: &[Row] = &[
@@ -32,6 +48,11 @@ const ROWS: &[Row] = &[
     ("Two.xdf Out=o", 0, 0, 0, "instances 2\nlinks 3\ndone\n"),
     ("Two.xdf In=i Inn=i", 0, 0, 4, "refused P1 words 1\n"),
     ("No.cal", 0, 0, 4, "refused N1 words 0\n"),
+    ("Amb.cal", 0, 0, 4, "refused A4 Amb.cal 91\n"),
+    ("Cyc.cal", 0, 0, 4, "refused A5 Cyc.cal 109\n"),
+    ("Fl.cal", 0, 0, 4, "refused T3 Fl.cal 11\n"),
+    ("Self.xdf", 0, 0, 4, "refused N3 Self.xdf 34\n"),
+    ("T.xdf", 0, 0, 4, "refused F1 T.xdf 22\n"),
     ("A.cal", 1, 0, 2, "read fault A.cal\n"),
     ("A.cal", 0, 2, 3, "instances"),
 ];
