@@ -59,7 +59,8 @@ pub record IsOfJob (cmd : Command) (net : Network State) : Type 0 where
 
 -- What refuses a job, if the library tells of each name: its top is refused, after the files of these names were read; or
 -- the files mean a network, and a port word names no port of it, or one that a word before it names.
-pub data RefusesJob (library : Library) (job : Job) (misses : Counts) (names : List (List ℕ)) : Refusal → Type 0 where
+pub data RefusesJob (library : Library) (job : Job) (misses : Counts) (names : List (List ℕ)) :
+    Refusal → Type 0 where
   in_files : (r : Refusal) → RefusesTop library (top_of job) misses names r
       → RefusesJob library job misses names r
   in_words : (r : Refusal) (net : Network State) → IsLibraryNetwork library (top_of job) net

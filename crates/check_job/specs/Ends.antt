@@ -34,7 +34,8 @@ pub record BreaksFiles (cmd : Command) (names : List (List ℕ)) (r : Refusal) :
   pub why : TellsAll cmd.library → RefusesTop cmd.library (top_of cmd.job) cmd.misses names r
 
 -- the first port word that names no port of the network, or one that a word before it names
-pub record HasWrongWord (cmd : Command) (names : List (List ℕ)) (net : Network State) (r : Refusal) : Type 0 where
+pub record HasWrongWord (cmd : Command) (names : List (List ℕ)) (net : Network State)
+    (r : Refusal) : Type 0 where
   pub files : HasFiles cmd net
   pub names_are : names ≡ files.names
   pub wrong : IsWrongWord (names_of_ports net) (words_of cmd.job) r
