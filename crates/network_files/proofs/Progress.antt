@@ -5,10 +5,11 @@ use Rattle.std.specs.Prelude.{◌⊎◌, Some, is_some}
 use Rattle.rvc_base.specs.declared.refusal.Refusal.{Refusal}
 use Rattle.actor_files.specs.Loading.{Counts, Library, TellsAll, max_bytes, max_files}
 use Rattle.fnl_bind.specs.Library.{network_of}
-use Rattle.source_network.specs.Files.{AreLoaded, AreReadBehind, Asked, a_class, IsNextRead, Read, Wanted, asked_by_all, bytes_of, is_network, is_read, name_of, network_file, networks_from, networks_in, sources_from, sources_in, wanted}
+use Rattle.source_network.specs.Files.{AreLoaded, AreReadBehind, Asked, a_class, IsNextRead, Read, Says, Wanted, asked_by_all, bytes_of, is_network, is_read, name_of, network_file, networks_from, networks_in, sources_from, sources_in, wanted}
 use Rattle.network_files.specs.Loading.{ComesTo, IsFaulted, IsRefused, LooksUp, Refuses, is_missing, is_there, looks_up_file, looks_up_network}
 use Rattle.network_files.specs.Requests.{AreServed, Request, names_of, read_name, requests, requests_by}
 use Rattle.network_files.specs.SoFar.{AddsRead, Denies, Fails, HasRead, IsBegun, IsDenied, IsSoFar, Means, State, denied_file, denied_missing, has, trial_of}
+use Rattle.network_files.specs.Views.{AreSaid}
 use Rattle.network_files.proofs.Known.{means_wanted, network_held, says_kind}
 use Rattle.network_files.proofs.Lists.{all_read_join, all_read_more, bytes_more, count_names, first_none, first_past, length_more, names_more, networks_more, next_is, read_there, requests_more, same_has, sources_more}
 use Rattle.network_files.proofs.Served.{all_served, all_served_join, all_served_stay, means_served}
@@ -36,6 +37,10 @@ are_read_more library top before (x ∷ xs) r h is = (
       (subst (λ b. IsNextRead library top b r) (sym (append_assoc before (x ∷ []) xs)) is),
 )
 
+are_said_more : (reads : List Read) (r : Read) → AreSaid reads → Says r.text (is_network r.content) r.content → AreSaid (reads ++ r ∷ [])
+are_said_more [] r h is = (is, tt)
+are_said_more (x ∷ reads) r h is = (h.0, are_said_more reads r h.1 is)
+
 -- a request before those that wait
 split_on : (top : Asked) (done : List Read) (passed waiting rest : List Request) (q : Request) → requests top done ≡ passed ++ waiting → waiting ≡ q ∷ rest
     → requests top done ≡ passed ++ q ∷ rest
@@ -48,6 +53,7 @@ pub so_far_passed : (library : Library) (top : Asked) (done : List Read) (names 
 so_far_passed library top done names s t q rest w is waits same means there =
     subst (λ u. IsSoFar library top done names u) (sym same) (record {
       are_read = is.are_read;
+      are_said = is.are_said;
       networks_are = is.networks_are;
       sources_are = is.sources_are;
       names_are = is.names_are;
@@ -86,6 +92,7 @@ so_far_more library top done names found s t new q rest w is waits same means un
   done = done ++ r ∷ [];
   is_so_far = record {
     are_read = λ tells. are_read_more library top [] done r (is.are_read tells) (next tells);
+    are_said = are_said_more done r is.are_said (subst (λ b. Says a.text b r.content) (sym kind) a.adds.says);
     networks_are = a.adds.adds.networks_are ∙ ap (λ u. u.networks ++ networks_in w.class (suc (length names)) r.content) same
         ∙ ap (λ ns. ns ++ networks_in w.class (suc (length names)) r.content) is.networks_are
         ∙ ap (λ n. networks_from 1 done ++ networks_in w.class (suc n) r.content) count ∙ sym (networks_more done r);
@@ -159,6 +166,7 @@ begun library top s h = record {
   done = [];
   is_so_far = record {
     are_read = λ tells. tt;
+    are_said = tt;
     networks_are = h.networks_are;
     sources_are = h.sources_are;
     names_are = refl;

@@ -136,6 +136,7 @@ loads library faults misses top b h none = record {
   reads = h.has_read.done;
   are_loaded = λ tells. ends library top h.has_read.done b.names b.state h.has_read.is_so_far none tells;
   are_served = ends_served library top h.has_read.done b.names b.state h.has_read.is_so_far none;
+  are_said = h.has_read.is_so_far.are_said;
   holds = record {
     files_are = files_with b.state h.has_read.done library top b.names h.has_read.is_so_far;
     names_are = h.has_read.is_so_far.names_are;

@@ -20,7 +20,7 @@ use Rattle.source_network.specs.Files.{AreReadBehind, Asked, Content, Read, Says
 use Rattle.network_files.specs.Loading.{RefusesFile, RefusesText}
 use Rattle.network_files.specs.Requests as plain
 use Rattle.network_files.specs.Requests.{AreAllRead, AreServed, names_of, requests, requests_by}
-use Rattle.network_files.specs.Views.{IsFault, asked_of}
+use Rattle.network_files.specs.Views.{AreSaid, IsFault, asked_of}
 use Rattle.network_files.specs.declared.loading.Loading.{Loading}
 use Rattle.network_files.specs.declared.requests.Request.{Request}
 
@@ -223,6 +223,7 @@ pub record IsLookedAt (library : Library) (top : Asked) (done : List Read) (wait
 pub record IsSoFar (library : Library) (top : Asked) (done : List Read) (names : List (List ℕ)) (s : State)
     : Type 0 where
   pub are_read : TellsAll library → AreReadBehind library top [] done
+  pub are_said : AreSaid done
   pub networks_are : s.networks ≡ networks_from 1 done
   pub sources_are : s.sources ≡ sources_from 1 done
   pub names_are : names ≡ names_of done

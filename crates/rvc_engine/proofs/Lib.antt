@@ -1,0 +1,13 @@
+mod Tops
+mod Places
+mod Sourced
+mod OneNet
+mod Causes
+mod OneOrder
+mod Kept
+mod Ready
+mod Ended
+mod LoneTrees
+mod Compiled
+mod Left
+mod Imaged

@@ -1,0 +1,89 @@
+-- The network that was checked is the source network of the files.
+use Rattle.std.proofs.Common.{ℕ, List, [], ◌∷◌, map, refl, sym, subst}
+use Rattle.std.specs.Prelude.{string_bytes}
+use Rattle.cal_model.specs.Actor.{Actor}
+use Rattle.cal_model.specs.Selection.{State}
+use Rattle.cal_model.specs.Sound.{Each, IsSound}
+use Rattle.net_model.specs.Network.{Leaf as NetLeaf, Network}
+use Rattle.net_model.specs.Ready.{port_of as own_port}
+use Rattle.fnl_flatten.specs.Flattened.{IsFlattened}
+use Rattle.fnl_flatten.specs.Whole.{IsWhole}
+use Rattle.fnl_flatten.specs.declared.flat.Flat.{Flat}
+use Rattle.fnl_tree.specs.Tree.{Leaf, Tree, classes}
+use Rattle.leaf_actors.specs.Laws.{ActorsAreLeaves, HasLeaves}
+use Rattle.leaf_actors.specs.Leaves.{actors_at_leaves}
+use Rattle.leaf_actors.specs.declared.found.LeafActors.{LeafActors}
+use Rattle.source_network.specs.Actors.{head_of}
+use Rattle.source_network.specs.Answers.{ActorsMakeWhole, AnswersAreSource, HasWiring}
+use Rattle.source_network.specs.Laws.{ActorsAreOne}
+use Rattle.source_network.specs.Source.{AreActors, Files, IsSourceNetwork}
+use Rattle.rvc_engine.specs.Checked.{AreLeavesOf, HasSource, IsNetworkOf}
+use Rattle.rvc_engine.specs.Steps.{IsJoined, IsPeopled}
+use Rattle.rvc_engine.specs.declared.checked.Checked.{Checked}
+use Rattle.rvc_engine.proofs.Kept.{source_actors}
+
+-- the leaves of a network stand at the paths of a tree
+are_leaves : (files : Files) (leaves : List Leaf) (actors : List Actor) (xs : List (NetLeaf State)) → AreActors files leaves actors xs
+    → AreLeavesOf (map (λ leaf. leaf.path) leaves) (map (λ leaf. leaf.class) leaves) actors xs
+are_leaves files [] [] [] h = tt
+are_leaves files [] [] (x ∷ xs) h = absurd h
+are_leaves files [] (a ∷ actors) xs h = absurd h
+are_leaves files (leaf ∷ leaves) [] xs h = absurd h
+are_leaves files (leaf ∷ leaves) (a ∷ actors) [] h = absurd h
+are_leaves files (leaf ∷ leaves) (a ∷ actors) (x ∷ xs) h = (
+  record {
+    path_is = h.1.0.path;
+    class_is = h.1.0.class;
+    priorities = h.1.0.priorities;
+    behaviour_is = h.1.0.behaviour;
+  },
+  are_leaves files leaves actors xs h.1.1,
+)
+
+-- the network of leaves with the links and the ports of a flat network
+abbrev net_of : Flat → List (NetLeaf State) → Network State
+net_of flat xs = record {
+  leaves = xs;
+  links = flat.links.items;
+  ins = map own_port flat.ins.items;
+  outs = map own_port flat.outs.items;
+}
+
+wired : (flat : Flat) (xs : List (NetLeaf State)) → HasWiring flat (net_of flat xs)
+wired flat xs = record { links = refl; ins = refl; outs = refl }
+
+is_network : (files : Files) (tree : Tree) (actors : List Actor) (flat : Flat) (xs : List (NetLeaf State)) → AreActors files tree.leaves actors xs
+    → IsFlattened tree (map head_of actors) flat → IsNetworkOf actors flat (net_of flat xs)
+is_network files tree actors flat xs are is = record {
+  leaves = subst (λ cs. AreLeavesOf (map string_bytes flat.paths.items) cs actors xs) (sym is.classes)
+      (subst (λ ps. AreLeavesOf ps (classes tree) actors xs) (sym is.paths) (are_leaves files tree.leaves actors xs are));
+  wiring = wired flat xs;
+}
+
+-- the actors of a tree, joined by a flat network
+joined : (files : Files) (class : List ℕ) (tree : Tree) (flat : Flat) (found : LeafActors) → ActorsAreOne → ActorsAreLeaves → AnswersAreSource
+    → IsPeopled files class tree found → IsFlattened tree (map head_of (actors_at_leaves found)) flat
+    → HasSource files class (record { flat = flat; actors = found })
+joined files class tree flat found one leaves answers is flattened =
+    let fine : Each IsSound (actors_at_leaves found) = is.stand.sound.at_leaves in
+    let has : HasLeaves files tree.leaves (actors_at_leaves found) = leaves files tree.leaves (actors_at_leaves found) fine is.are_actors in
+    let means : IsSourceNetwork files class (net_of flat has.xs) =
+    answers files class tree (actors_at_leaves found) flat (net_of flat has.xs) is.is_tree is.sound_tree fine has.are flattened (wired flat has.xs) in
+    record {
+      net = net_of flat has.xs;
+      has_net = record { sound = fine; is_net = is_network files tree (actors_at_leaves found) flat has.xs has.are flattened };
+      means = means;
+      same_actors = sym (source_actors one files class tree (actors_at_leaves found) (net_of flat has.xs) is.is_tree is.are_actors means);
+      stand = is.stand;
+    }
+
+pub joined_source : (files : Files) (class : List ℕ) (tree : Tree) (found : LeafActors) (c : Checked) → ActorsAreOne → ActorsAreLeaves → AnswersAreSource
+    → IsPeopled files class tree found → IsJoined tree found c → HasSource files class c
+joined_source files class tree found c one leaves answers is j =
+    subst (λ fs. HasSource files class (record { flat = c.flat; actors = fs })) (sym j.same) (joined files class tree c.flat found one leaves answers is j.flat)
+
+-- it can be joined
+pub peopled_whole : (files : Files) (class : List ℕ) (tree : Tree) (found : LeafActors) → ActorsAreLeaves → ActorsMakeWhole → IsPeopled files class tree found
+    → IsWhole tree (map head_of (actors_at_leaves found))
+peopled_whole files class tree found leaves whole is =
+    whole tree (actors_at_leaves found) is.sound_tree (leaves files tree.leaves (actors_at_leaves found) is.stand.sound.at_leaves is.are_actors).many is.stand.sound.at_leaves

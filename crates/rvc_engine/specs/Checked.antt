@@ -1,0 +1,76 @@
+-- What a network that was checked is: the source network of the files that were read.
+-- Trusted: part of what a promise means.
+use Rattle.std.specs.Prelude.{◌≡◌, ℕ, ◌<◌, List, [], ◌∷◌, Contains, length, map, string_bytes}
+use Rattle.cal_model.specs.Actor.{Actor}
+use Rattle.cal_model.specs.Firing.{behaviour}
+use Rattle.cal_model.specs.Selection.{Priorities, State}
+use Rattle.cal_model.specs.Sound.{Each, IsSound}
+use Rattle.net_model.specs.Network.{Leaf as NetLeaf, Network}
+use Rattle.actor_files.specs.Loading.{Library, TellsAll}
+use Rattle.fnl_flatten.specs.declared.flat.Flat.{Flat}
+use Rattle.leaf_actors.specs.Leaves.{HasSoundActors, IsWithin, actors_at_leaves}
+use Rattle.leaf_actors.specs.declared.found.LeafActors.{LeafActors}
+use Rattle.network_files.specs.Requests.{names_of}
+use Rattle.source_network.specs.Answers.{HasWiring}
+use Rattle.source_network.specs.Files.{AreLoaded, Asked, Read, class_asked, files_of}
+use Rattle.source_network.specs.Source.{Files, IsSourceNetwork}
+use Rattle.rvc_engine.specs.declared.checked.Checked.{Checked}
+
+-- ---- the network that was checked
+
+-- an actor of a network, with its path, its class and the behaviour of this source
+pub record IsLeafOf (path class : List ℕ) (actor : Actor) (x : NetLeaf State) : Type 0 where
+  pub path_is : x.path ≡ path
+  pub class_is : x.class ≡ class
+  pub priorities : Priorities actor
+  pub behaviour_is : x.behaviour ≡ behaviour actor priorities
+
+-- .. and so is each of them, in instance order
+abbrev pub AreLeavesOf : (paths classes : List (List ℕ)) → List Actor → List (NetLeaf State) → Type 0
+AreLeavesOf [] [] [] [] = Unit {0}
+AreLeavesOf (path ∷ paths) (class ∷ classes) (actor ∷ actors) (x ∷ xs) =
+    IsLeafOf path class actor x × AreLeavesOf paths classes actors xs
+AreLeavesOf paths classes actors xs = ⊥
+
+-- the network of these actors, at the paths and with the links and the ports of a flat network
+pub record IsNetworkOf (actors : List Actor) (flat : Flat) (net : Network State) : Type 0 where
+  pub leaves : AreLeavesOf (map string_bytes flat.paths.items) (map string_bytes flat.classes.items)
+      actors net.leaves
+  pub wiring : HasWiring flat net
+
+-- the network that was checked: its actors are sound
+pub record HasNetwork (c : Checked) (net : Network State) : Type 0 where
+  pub sound : Each IsSound (actors_at_leaves c.actors)
+  pub is_net : IsNetworkOf (actors_at_leaves c.actors) c.flat net
+
+-- ---- what it is
+
+-- the actors are sound, each leaf has its actor, and each actor a leaf
+pub record StandAtLeaves (found : LeafActors) : Type 0 where
+  pub sound : HasSoundActors found
+  pub within : IsWithin found
+  pub used : (p : ℕ) → p < length found.actors.items → Contains found.of_leaf.items p
+
+-- it is the network that files mean from a class down, with the actors of these
+pub record HasSource (files : Files) (class : List ℕ) (c : Checked) : Type 0 where
+  pub net : Network State
+  pub has_net : HasNetwork c net
+  pub means : IsSourceNetwork files class net
+  pub same_actors : means.actors ≡ actors_at_leaves c.actors
+  pub stand : StandAtLeaves c.actors
+
+-- These files were read, and these are their names. They are all that the top needs, if the library tells of each name.
+pub record AreRead (library : Library) (top : Asked) (names : List (List ℕ)) (reads : List Read) : Type 0 where
+  pub are_loaded : TellsAll library → AreLoaded library top reads
+  pub names_are : names ≡ names_of reads
+
+-- .. and what was checked is the network that they mean
+pub record IsChecked (library : Library) (top : Asked) (names : List (List ℕ)) (c : Checked) : Type 0 where
+  pub reads : List Read
+  pub are_read : AreRead library top names reads
+  pub source : HasSource (files_of reads) (class_asked top) c
+
+-- what was checked is at most one network
+abbrev pub CheckedAreOne : Type 0
+CheckedAreOne = (c : Checked) (net other : Network State)
+    → HasNetwork c net → HasNetwork c other → net ≡ other

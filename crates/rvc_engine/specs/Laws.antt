@@ -1,0 +1,22 @@
+-- What holds of files that mean a network.
+-- Trusted: part of what a promise means.
+use Rattle.std.specs.Prelude.{ℕ, List}
+use Rattle.rvc_base.specs.declared.refusal.Refusal.{Refusal}
+use Rattle.cal_model.specs.Selection.{State}
+use Rattle.net_model.specs.Network.{Network}
+use Rattle.actor_files.specs.Loading.{Counts, Library, TellsAll}
+use Rattle.source_network.specs.Files.{Asked}
+use Rattle.source_network.specs.Library.{IsLibraryNetwork}
+use Rattle.source_network.specs.Source.{Files, IsSourceNetwork}
+use Rattle.rvc_engine.specs.Refused.{Breaks, RefusesTop}
+
+-- files that mean a network break no rule
+abbrev pub NetworksBreakNothing : Type 0
+NetworksBreakNothing = (files : Files) (class : List ℕ) (net : Network State) (r : Refusal)
+    → IsSourceNetwork files class net → Breaks files class r → ⊥
+
+-- if a library tells of each name, a top that it has a network of isn't refused
+abbrev pub NetworksAreNotRefused : Type 0
+NetworksAreNotRefused = (library : Library) (top : Asked) (net : Network State) (misses : Counts)
+    (names : List (List ℕ)) (r : Refusal) → TellsAll library → IsLibraryNetwork library top net
+    → RefusesTop library top misses names r → ⊥

@@ -1,0 +1,12 @@
+pub mod Formed
+pub mod Top
+pub mod Checked
+pub mod Refused
+pub mod Laws
+pub mod Steps
+pub mod LoneNet
+pub mod Built
+pub mod NotBuilt
+pub mod Answering
+pub mod Compiling
+pub mod Images

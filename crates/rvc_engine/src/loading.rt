@@ -1,0 +1,74 @@
+//! The files of a top, with what is checked of them.
+
+ghost use Rattle.std.specs.Prelude.{◌≡◌, ◌≤◌, ℕ, List, [], IfErr, IfOk};
+ghost use Rattle.actor_files.specs.Views.{file_names};
+ghost use Rattle.network_files.specs.Views.{asked_of};
+ghost use Rattle.rvc_engine.specs.Formed.{SpelledAreFormed};
+ghost use Rattle.rvc_engine.specs.Refused.{IsFault};
+ghost use Rattle.rvc_engine.specs.Steps.{IsHeld};
+ghost use Rattle.rvc_engine.specs.Top.{top_asked};
+
+use crate::checking::check_files;
+use crate::fault::{BuildFault, of_front, of_load};
+use crate::held::Held;
+use crate::top::kind_of;
+use actor_files::{Names, class_of};
+use distinct_names::said_files_are_spelled;
+use network_files::{FileKind, load_network};
+use rvc_base::Memory;
+use rvc_io::Library;
+use std::alloc::Global;
+
+/// The files of a top, with the network that they mean.
+pub(crate) fn held_of_top<L: Library>(
+    alloc: Global,
+    library: &mut L,
+    top: &str,
+    names: &mut Names,
+) -> Result<Held, BuildFault>
+    requires fresh { file_names names.old ≡ [] }
+    requires formed { SpelledAreFormed }
+    ensures held { IfOk result (IsHeld (L.file library.old) (top_asked top.now) (file_names names.new)) }
+    ensures fault { IfErr result (IsFault (L.file library.old) (top_asked top.now)
+        (record { old = L.misses library.old; new = L.misses library.new })
+        (record { old = L.faults library.old; new = L.faults library.new })
+        (file_names names.new)) }
+    ensures same_files { (other : List ℕ) → L.file library.new other ≡ L.file library.old other }
+    ensures faults_stay { L.faults library.old ≤ L.faults library.new }
+    ensures misses_stay { L.misses library.old ≤ L.misses library.new }
+{
+    match class_of(alloc, top) {
+        Ok(class) => held_of_class(alloc, library, class.as_str(), kind_of(top), names),
+        Err(Memory) => Err(BuildFault::Memory),
+    }
+}
+
+/// The same of a class, and of which file of it is meant.
+fn held_of_class<L: Library>(
+    alloc: Global,
+    library: &mut L,
+    class: &str,
+    kind: FileKind,
+    names: &mut Names,
+) -> Result<Held, BuildFault>
+    requires fresh { file_names names.old ≡ [] }
+    requires formed { SpelledAreFormed }
+    ensures held { IfOk result (IsHeld (L.file library.old) (asked_of class.now kind)
+        (file_names names.new)) }
+    ensures fault { IfErr result (IsFault (L.file library.old) (asked_of class.now kind)
+        (record { old = L.misses library.old; new = L.misses library.new })
+        (record { old = L.faults library.old; new = L.faults library.new })
+        (file_names names.new)) }
+    ensures same_files { (other : List ℕ) → L.file library.new other ≡ L.file library.old other }
+    ensures faults_stay { L.faults library.old ≤ L.faults library.new }
+    ensures misses_stay { L.misses library.old ≤ L.misses library.new }
+{
+    said_files_are_spelled();
+    match load_network(alloc, library, class, kind, names) {
+        Ok(files) => match check_files(alloc, &files, class) {
+            Ok(checked) => Ok(Held { files, checked }),
+            Err(front) => Err(of_front(front)),
+        },
+        Err(fault) => Err(of_load(fault)),
+    }
+}
