@@ -1,0 +1,3 @@
+mod Sourced
+mod Cells
+mod Leaving
