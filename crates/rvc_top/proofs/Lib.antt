@@ -1,7 +1,0 @@
-mod Denials
-mod Ending
-mod Formats
-mod Printing
-mod Reports
-pub mod Seats
-pub mod PortWords
