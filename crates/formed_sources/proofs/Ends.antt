@@ -16,7 +16,7 @@ use Rattle.cal_scope.specs.Names.{is_among}
 use Rattle.cal_imports.specs.Behind.{LeadAmong, edges_of}
 use Rattle.cal_imports.specs.Calls.{with_calls}
 use Rattle.cal_imports.specs.Recursion.{routine_node, routines}
-use Rattle.cal_imports.specs.Walk.{Edge, Node, node_named}
+use Rattle.cal_imports.specs.Walk.{Edge, node_named}
 use Rattle.cal_imports.specs.Whole.{Outer, Scope, members_of}
 use Rattle.actor_check.specs.Sources.{fun_of, source_of}
 use Rattle.distinct_names.specs.Names.{NamesDifferIn}

@@ -1,10 +1,10 @@
 -- A name that is called isn't hidden by one that is declared inside.
-use Rattle.std.proofs.Common.{◌≡◌, ℕ, Bool, true, false, List, [], ◌∷◌, refl, sym, ap, subst, ◌∙◌}
+use Rattle.std.proofs.Common.{◌≡◌, ℕ, Bool, true, false, List, [], ◌∷◌, refl, sym, subst, ◌∙◌}
 use Rattle.std.proofs.lemmas.Slice.Eq.{bytes_eq-Decides}
 use Rattle.std.specs.Prelude.{Option, None, Some, if◌then◌else◌}
 use Rattle.std.specs.Str.{bytes_eq}
 use Rattle.rvc_base.specs.Rules.{not_as_asked}
-use Rattle.cal_model.specs.Kinding.{Judged, Fine, Broken}
+use Rattle.cal_model.specs.Kinding.{Fine, Broken}
 use Rattle.cal_model.specs.Sound.{Each}
 use Rattle.cal_scope.specs.declared.role.Role.{Role}
 use Rattle.cal_scope.specs.declared.role.Role.TheVariants.{Variable, Function, Procedure}
@@ -27,6 +27,7 @@ pub record IsToldAs (name : List ℕ) (g : Global) : Type 0 where
   pub same : name ≡ g.name
   pub told : IsTold g
 
+-- it holds of what is found, if anything is
 abbrev pub OnSome : {A : Type 0} → (A → Type 0) → Option A → Type 0
 OnSome P None = Unit {0}
 OnSome P (Some x) = P x
@@ -39,9 +40,9 @@ named_told name (g ∷ gs) h = go (bytes_eq name g.name) (bytes_eq-Decides name 
     go true same more = record { same = same refl; told = h.0 }
     go false same more = more
 
-free_full : (here : List (List ℕ)) (name full : List ℕ) (g : Global) → count name here ≡ 0 → IsToldAs name g → IsTold g → IsFree here g.full
-free_full here name full g none h (plain e) = apart (subst (λ z. count z here ≡ 0) (h.same ∙ sym e) none)
-free_full here name full g none h (dotted u) = unword u
+free_full : (here : List (List ℕ)) (name : List ℕ) (g : Global) → count name here ≡ 0 → IsToldAs name g → IsTold g → IsFree here g.full
+free_full here name g none h (plain e) = apart (subst (λ z. count z here ≡ 0) (h.same ∙ sym e) none)
+free_full here name g none h (dotted u) = unword u
 
 -- a role that no name inside has
 abbrev pub IsCalled : Role → Type 0
@@ -55,13 +56,14 @@ if_free here false full at h = tt
 full_free : (here : List (List ℕ)) (role : Role) (name : List ℕ) (at : ℕ) (o : Option Global) → count name here ≡ 0 → OnSome (IsToldAs name) o
     → OnFine (IsFree here) (full_name role at o)
 full_free here role name at None none h = tt
-full_free here role name at (Some g) none h = if_free here (is_role role g.role) g.full at (free_full here name g.full g none h h.told)
+full_free here role name at (Some g) none h = if_free here (is_role role g.role) g.full at (free_full here name g none h h.told)
 
 no_variable : (here : List (List ℕ)) (role : Role) (name : List ℕ) (at : ℕ) → IsCalled role → OnFine (IsFree here) (full_name role at (Some (local name)))
 no_variable here Variable name at r = absurd r
 no_variable here Function name at r = tt
 no_variable here Procedure name at r = tt
 
+-- what a call is written out as, no name inside has
 pub called_free : (role : Role) (name : List ℕ) (at : ℕ) (names : Names) → IsCalled role → AreTold names.globals → OnFine (IsFree names.locals) (used_as role name at names)
 called_free role name at names r told = go (is_among name names.locals) refl
   where

@@ -13,12 +13,11 @@ use Rattle.cal_scope.specs.declared.role.Role.TheVariants.{Variable, Function}
 use Rattle.cal_scope.specs.Expressions.{declared_by, declared_name, expr_resolved, exprs_resolved, gen_resolved, gens_resolved, optional_resolved, type_arg_resolved, type_args_resolved, type_resolved}
 use Rattle.cal_scope.specs.Names.{Names, used_as, with_name, within}
 use Rattle.distinct_names.proofs.Counts.{count, count-append, one}
-use Rattle.distinct_names.proofs.NamedMembers.{IsNameOf}
 use Rattle.distinct_names.proofs.WordTokens.{IsWord}
 use Rattle.scoped_sources.proofs.Called.{AreTold, called_free}
 use Rattle.scoped_sources.proofs.Hiding.{Covers, IsFree, covers_gens, covers_one, names_of_gens, no_name}
 use Rattle.scoped_sources.proofs.Inside.{HasWords}
-use Rattle.scoped_sources.proofs.Judgements.{OnFine, Any, any_fine, so_one, so_two, so_three, so_four}
+use Rattle.scoped_sources.proofs.Judgements.{OnFine, Any, any_fine, so_one, so_two, so_three}
 
 -- in a part that was written out no call is hidden, wherever all that has a meaning inside is among these names
 abbrev pub Hides : List (List ℕ) → Tree → Type 0

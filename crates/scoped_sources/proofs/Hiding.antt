@@ -1,7 +1,7 @@
 -- Which texts no name that is declared inside has.
-use Rattle.std.proofs.Common.{◌≡◌, ℕ, ◌+◌, ◌≤◌, Bool, true, false, List, [], ◌∷◌, ◌++◌, refl, sym, ap, subst, ◌∙◌, arith}
+use Rattle.std.proofs.Common.{◌≡◌, ℕ, ◌+◌, ◌≤◌, Bool, true, false, List, [], ◌∷◌, ◌++◌, refl, ap, subst, arith}
 use Rattle.std.proofs.lemmas.Slice.Eq.{bytes_eq-Decides}
-use Rattle.std.specs.Prelude.{◌||◌, Option, None, Some, if◌then◌else◌}
+use Rattle.std.specs.Prelude.{◌||◌, None, Some, if◌then◌else◌}
 use Rattle.std.specs.Str.{bytes_eq}
 use Rattle.cal_ast.specs.Tree as tree
 use Rattle.cal_ast.specs.Tree.{Tree}
@@ -40,7 +40,7 @@ new_name x name here e =
     let g = count-append x here (name ∷ []) in
     omega arith
 
--- .. and if it isn't, a text that isn't among them is neither
+-- a text that isn't among names with one more isn't among these, and isn't that one
 pub no_name : (x name : List ℕ) (here : List (List ℕ)) → count x (with_name name here) ≡ 0 → count x here + one (bytes_eq x name) ≡ 0
 no_name x name here h = go (is_among name here) refl h
   where

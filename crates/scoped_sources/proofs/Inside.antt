@@ -1,5 +1,5 @@
 -- The names that are declared inside a part are words.
-use Rattle.std.proofs.Common.{◌≡◌, ℕ, Bool, List}
+use Rattle.std.proofs.Common.{ℕ, List}
 use Rattle.cal_ast.specs.Tree as tree
 use Rattle.cal_ast.specs.Tree.{Tree}
 use Rattle.cal_check.specs.Formed.{IsOptional}

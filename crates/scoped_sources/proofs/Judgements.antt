@@ -15,9 +15,6 @@ pub any_fine : {A : Type 0} (j : Judged A) → OnFine (λ x. Any x) j
 any_fine (Fine x) = tt
 any_fine (Broken rule at) = tt
 
-pub on_given : {A : Type 0} (P : A → Type 0) (j : Judged A) (x : A) → OnFine P j → j ≡ Fine x → P x
-on_given P j x h e = subst (OnFine P) e h
-
 pub on_all : {A : Type 0} (P R : A → Type 0) → ((x : A) → P x → R x) → (j : Judged A) → OnFine P j → OnFine R j
 on_all P R f (Fine x) h = f x h
 on_all P R f (Broken rule at) h = tt

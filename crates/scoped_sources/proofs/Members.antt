@@ -1,14 +1,12 @@
 -- The scopes of functions, procedures and actions.
-use Rattle.std.proofs.Common.{◌≡◌, ℕ, ◌+◌, ◌≤◌, Bool, true, false, List, [], ◌∷◌, ◌++◌, refl, sym, ap, subst, arith}
+use Rattle.std.proofs.Common.{◌≡◌, ℕ, ◌+◌, Bool, true, false, List, [], ◌∷◌, ◌++◌, refl, arith}
 use Rattle.std.specs.Prelude.{if◌then◌else◌}
-use Rattle.std.specs.Str.{bytes_eq}
 use Rattle.rvc_base.specs.Rules.{declared_twice}
 use Rattle.cal_ast.specs.Tree as tree
 use Rattle.cal_ast.specs.Tree.{Tree, listed}
 use Rattle.cal_model.specs.Kinding.{Fine, Broken, and_so}
 use Rattle.cal_model.specs.Sound.{AreDistinct, Each, names_of_vars}
 use Rattle.cal_check.specs.Actions.{names_listed}
-use Rattle.cal_check.specs.Formed.{IsOptional}
 use Rattle.cal_check.specs.Sources.{IsActionScoped, IsFunScoped, IsProcScoped, IsRoutineScoped, OutputsHideNoCall, names_of_formals, names_of_patterns, nothing_inside, with_names, with_vars_named}
 use Rattle.cal_model.specs.Kinding as kinding
 use Rattle.cal_scope.specs.Asked.{outermost}
@@ -16,8 +14,7 @@ use Rattle.cal_scope.specs.Expressions.{declared_by, declared_name, expr_resolve
 use Rattle.cal_scope.specs.Members.{Ports, action_resolved, declared_by_patterns, formal_resolved, formals_resolved, function_resolved, member_resolved, members_resolved, names_judged, output_resolved, outputs_resolved, pattern_names, pattern_resolved, patterns_resolved, port_judged, procedure_resolved}
 use Rattle.cal_scope.specs.Names.{Global, Names, is_among, with_name, within}
 use Rattle.cal_scope.specs.Statements.{else_resolved, stmts_resolved, var_resolved, vars_resolved}
-use Rattle.distinct_names.proofs.Counts.{AreSingle, count, count-append, distinct, one}
-use Rattle.distinct_names.proofs.NamedMembers.{IsNameOf}
+use Rattle.distinct_names.proofs.Counts.{AreSingle, count, count-append, distinct}
 use Rattle.distinct_names.proofs.WordTokens.{IsWord}
 use Rattle.scoped_sources.proofs.Called.{AreTold}
 use Rattle.scoped_sources.proofs.Expressions.{AllHide, Hides, expr_hides, exprs_hide}
@@ -105,10 +102,11 @@ formals_scope formals fs h = record { words = h.words; counts = λ x. let e = h.
 routine_scoped : (formals vars body : Tree) (fs vs : List Tree) → AreFormals formals [] fs → AreVars vars (declared_by formals []) [] vs
     → Hides (declared_by vars (declared_by formals []) ++ []) body → IsRoutineScoped (listed fs) (listed vs) body
 routine_scoped formals vars body fs vs h i j =
-    let scope = formals_scope formals fs h in
-    (all_distinct (names_of_formals (listed fs)) (declared_by formals []) vars vs scope i,
-    i.calls (with_names (names_of_formals (listed fs)) nothing_inside) (covers_outer (names_of_formals (listed fs)) (declared_by formals []) scope),
-    j (with_vars_named (names_of_formals (listed fs)) (listed vs)) (covers_all (names_of_formals (listed fs)) (declared_by formals []) vars vs scope i))
+    let scope = formals_scope formals fs h in (
+      all_distinct (names_of_formals (listed fs)) (declared_by formals []) vars vs scope i,
+      i.calls (with_names (names_of_formals (listed fs)) nothing_inside) (covers_outer (names_of_formals (listed fs)) (declared_by formals []) scope),
+      j (with_vars_named (names_of_formals (listed fs)) (listed vs)) (covers_all (names_of_formals (listed fs)) (declared_by formals []) vars vs scope i),
+    )
 
 function_scoped : (nm formals result vars body : Tree) (at : ℕ) (seen : List Global) → HasWords (tree.function nm formals result vars body at) → AreTold seen
     → OnFine IsFunScoped (function_resolved (tree.function nm formals result vars body at) (outermost seen))
@@ -252,9 +250,13 @@ action_parts t initialize patterns vars body at ps gs vs os h g i j o =
     let names = names_of_patterns (listed ps) in
     let scope = patterns_scope patterns ps h in
     let outer = covers_outer names declared scope in
-    let all = covers_all names declared vars vs scope i in
-    (all_distinct names declared vars vs scope i, g (with_names names nothing_inside) outer, i.calls (with_names names nothing_inside) outer,
-    j (with_vars_named names (listed vs)) all, o (with_vars_named names (listed vs)) all)
+    let all = covers_all names declared vars vs scope i in (
+      all_distinct names declared vars vs scope i,
+      g (with_names names nothing_inside) outer,
+      i.calls (with_names names nothing_inside) outer,
+      j (with_vars_named names (listed vs)) all,
+      o (with_vars_named names (listed vs)) all,
+    )
 
 action_scoped : (t : Tree) (initialize : Bool) (patterns outputs guards vars body : Tree) (at : ℕ) (ports : Ports) (seen : List Global)
     → HasWords (tree.action t initialize patterns outputs guards vars body at) → AreTold seen

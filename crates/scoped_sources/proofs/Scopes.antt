@@ -1,17 +1,15 @@
 -- The scopes of the parts of an actor in its scope, and of the functions of other files.
-use Rattle.std.proofs.Common.{◌≡◌, ℕ, true, false, List, [], ◌∷◌, ◌++◌, map, refl}
+use Rattle.std.proofs.Common.{◌≡◌, ℕ, Bool, true, false, List, [], ◌∷◌, map}
 use Rattle.std.specs.Prelude.{Option, None, Some, if◌then◌else◌}
 use Rattle.std.specs.Str.{bytes_eq}
 use Rattle.cal_ast.specs.Tree as tree
 use Rattle.cal_ast.specs.Tree.{Tree, listed}
-use Rattle.cal_model.specs.Kinding.{Fine, and_so}
 use Rattle.cal_model.specs.Sound.{Each}
 use Rattle.cal_scope.specs.Asked.{outermost}
 use Rattle.cal_scope.specs.Members.{members_resolved, ports_of}
 use Rattle.cal_scope.specs.Names.{Global}
 use Rattle.cal_check.specs.Actors as check
 use Rattle.cal_check.specs.Actors.{actions_in, funs_in, procs_in}
-use Rattle.cal_check.specs.Routines.{FunDecl}
 use Rattle.cal_check.specs.Sources.{IsActionScoped, IsFunScoped, IsProcScoped}
 use Rattle.cal_imports.specs.Answer.{Gives, and_then, in_file}
 use Rattle.cal_imports.specs.Brought.{names_seen}
@@ -20,10 +18,10 @@ use Rattle.cal_imports.specs.Recursion.{call_order, routines, without_recursion}
 use Rattle.cal_imports.specs.Resolved.{resolved, resolved_source, source_linked}
 use Rattle.cal_imports.specs.Sources.{Source, as_asked, body_of, source_named}
 use Rattle.cal_imports.specs.Whole.{Gathered, Outer, Scope, actor_gathered, import_order, members_of, scope_of, source_gathered, unit_gathered, units_gathered, with_declaration, with_declarations}
-use Rattle.actor_check.specs.Sources.{fun_of, source_of}
+use Rattle.actor_check.specs.Sources.{fun_of}
 use Rattle.distinct_names.specs.Names.{AreSpelled, IsSpelled}
 use Rattle.distinct_names.proofs.WordTokens.{lexed_words}
-use Rattle.scoped_sources.specs.Scoped.{ActionsAreScoped, FunsAreScoped, FunsAreScopedIn, ProcsAreScoped}
+use Rattle.scoped_sources.specs.Scoped.{ActionsAreScoped, ActionsAreScopedIn, FunsAreScoped, FunsAreScopedIn, ProcsAreScoped, ProcsAreScopedIn}
 use Rattle.scoped_sources.proofs.Called.{AreTold, OnSome}
 use Rattle.scoped_sources.proofs.Inside.{HasWords, file_words}
 use Rattle.scoped_sources.proofs.Judgements.{Any, OnFine, OnGives, any_fine, any_gives, in_file_on, on_answer, so_one, so_four, then_on}
@@ -87,7 +85,7 @@ named_words : (name : List ℕ) (files : List Source) → HaveWords files → On
 named_words name [] w = tt
 named_words name (f ∷ fs) w = go (bytes_eq name f.name) (named_words name fs w.1)
   where
-    go : (b : _) → OnSome (λ s. HasWords (body_of s.tree)) (source_named name fs) → OnSome (λ s. HasWords (body_of s.tree)) (if b then Some f else source_named name fs)
+    go : (b : Bool) → OnSome (λ s. HasWords (body_of s.tree)) (source_named name fs) → OnSome (λ s. HasWords (body_of s.tree)) (if b then Some f else source_named name fs)
     go true more = w.0
     go false more = more
 
@@ -163,6 +161,12 @@ funs_of_words files class scope all e =
     each_append (λ f. IsFunScoped f.decl) (map fun_of scope.funs) (funs_in scope.file (check.members_of scope.actor)) (outer_scoped scope.funs h.funs)
     (funs_scoped scope.file (check.members_of scope.actor) h.members)
 
+pub procs_of_words : (files : List Source) (class : List ℕ) (scope : Scope) → HaveWords files → resolved files class ≡ Gives scope → ProcsAreScopedIn scope
+procs_of_words files class scope all e = procs_scoped (check.members_of scope.actor) (scoped files class scope all e).members
+
+pub actions_of_words : (files : List Source) (class : List ℕ) (scope : Scope) → HaveWords files → resolved files class ≡ Gives scope → ActionsAreScopedIn scope
+actions_of_words files class scope all e = actions_scoped (check.members_of scope.actor) (scoped files class scope all e).members
+
 -- ---- files that texts spell
 
 spelled_words : (s : Source) → IsSpelled s → HasWords (body_of s.tree)
@@ -176,7 +180,7 @@ pub funs_are_scoped : FunsAreScoped
 funs_are_scoped files class scope spelled e = funs_of_words files class scope (all_words files spelled) e
 
 pub procs_are_scoped : ProcsAreScoped
-procs_are_scoped files class scope spelled e = procs_scoped (check.members_of scope.actor) (scoped files class scope (all_words files spelled) e).members
+procs_are_scoped files class scope spelled e = procs_of_words files class scope (all_words files spelled) e
 
 pub actions_are_scoped : ActionsAreScoped
-actions_are_scoped files class scope spelled e = actions_scoped (check.members_of scope.actor) (scoped files class scope (all_words files spelled) e).members
+actions_are_scoped files class scope spelled e = actions_of_words files class scope (all_words files spelled) e

@@ -4,8 +4,7 @@ use Rattle.std.specs.Prelude.{Option, None, Some, is_some, if◌then◌else◌}
 use Rattle.rvc_base.specs.Rules.{declared_twice}
 use Rattle.cal_ast.specs.Tree as tree
 use Rattle.cal_ast.specs.Tree.{Tree}
-use Rattle.cal_model.specs.Kinding.{Fine, Broken, and_so}
-use Rattle.cal_model.specs.Sound.{Each}
+use Rattle.cal_model.specs.Kinding.{Fine, Broken}
 use Rattle.cal_scope.specs.declared.role.Role.{Role}
 use Rattle.cal_scope.specs.declared.role.Role.TheVariants.{Variable, Function, Procedure}
 use Rattle.cal_scope.specs.Globals.{global, with_all_declared, with_declared, with_global}

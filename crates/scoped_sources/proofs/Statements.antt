@@ -1,6 +1,6 @@
 -- Variables of one scope have names that differ, and no name that is declared inside hides a function or a procedure that
 -- is called in a variable's start or in a statement.
-use Rattle.std.proofs.Common.{◌≡◌, ℕ, ◌+◌, Bool, true, false, List, [], ◌∷◌, ◌++◌, refl, sym, ap, subst, arith}
+use Rattle.std.proofs.Common.{◌≡◌, ℕ, ◌+◌, Bool, true, false, List, [], ◌∷◌, ◌++◌, refl, sym, subst, arith}
 use Rattle.std.specs.Prelude.{if◌then◌else◌}
 use Rattle.std.specs.Str.{bytes_eq}
 use Rattle.rvc_base.specs.Rules.{declared_twice}
@@ -20,7 +20,7 @@ use Rattle.scoped_sources.proofs.Called.{AreTold, called_free}
 use Rattle.scoped_sources.proofs.Expressions.{AllHide, Hides, expr_hides, exprs_hide, inside_one, optional_hides, type_hides}
 use Rattle.scoped_sources.proofs.Hiding.{Covers, IsFree, covers_one, covers_vars, known_var, new_name}
 use Rattle.scoped_sources.proofs.Inside.{HasWords}
-use Rattle.scoped_sources.proofs.Judgements.{OnFine, Any, any_fine, so_one, so_two, so_three, so_four, so_five}
+use Rattle.scoped_sources.proofs.Judgements.{OnFine, Any, any_fine, so_one, so_two, so_three, so_four}
 
 -- ---- variables
 
