@@ -6,8 +6,8 @@ use Rattle.rvc_base.specs.declared.refusal.Front.{Front as Answer}
 use Rattle.rvc_base.specs.declared.refusal.Front.TheVariants.{Refused as Denied, Memory}
 use Rattle.rvc_io.specs.Channels.{Channels}
 use Rattle.rvc_io.specs.Count.{HasRisen}
-use Rattle.rvc_io.specs.Library.{max_file_bytes}
-use Rattle.rvc_io.specs.Told.{Told, Holding}
+use Rattle.rvc_io.specs.Library.{max_file_bytes, IsTooLong}
+use Rattle.rvc_io.specs.Told.{Told, Untold, Lacking, Holding, IsTold}
 use Rattle.cal_ast.specs.Tree.{Tree}
 use Rattle.cal_lexer.proofs.Once.{one_list}
 use Rattle.cal_grammar.specs.Operators.{height, max_height}
@@ -135,3 +135,29 @@ caused lo ln fo fn (Uncertified inst state first second reason) is rose = absurd
 pub faults-reported : (lo ln : ℕ) (said answer : Status) (text : List ℕ) (old new : Channels) → IsPreparing said → ((place : ReadAt) → said ≡ ReadFault place → HasRisen lo ln) → Reports said text old new answer → IsPrinting lo ln old.faults new.faults answer
 faults-reported lo ln said answer text old new is rose (inl done) = subst (IsPrinting lo ln old.faults new.faults) (sym done.0) (caused lo ln old.faults new.faults said is rose)
 faults-reported lo ln said answer text old new is rose (inr failed) = subst (IsPrinting lo ln old.faults new.faults) (sym failed.0) (refl, failed.1.counted)
+
+-- an answer is this refusal, so what is said of it holds
+pub denied : {T : Type 0} (P : Refusal → Type 0) (s : Status) (stated refusal : Refusal) → s ≡ Refused stated → ◌≡◌ {A = Result T Status} (Err s) (Err (Refused refusal)) → P stated → P refusal
+denied P s stated refusal is_stated answered holds = let e : stated ≡ refusal = cc in subst P e holds
+
+-- a file that was found is longer than the limit
+pub found-too_long : (told : Told) (source : List ℕ) → IsTold told source → max_file_bytes < length source → IsTooLong told
+found-too_long Untold source is_told long = tt
+found-too_long Lacking source is_told long = absurd is_told
+found-too_long (Holding told) source is_told long = subst (λ s. max_file_bytes < length s) is_told long
+
+-- a text that spells a file is printed, if no words name ports
+pub printed-if : {T : Type 0} (told : Told) (text : List ℕ) (ports : List PortText) (tree : Tree) (r : Result T Status) → HasFile told ports tree → IsText told text
+    → ((t : Tree) → IsFile text t → ports ≡ [] → IfErr r (λ s. s ≡ OutOfMemory)) → IfErr r (λ s. s ≡ OutOfMemory)
+printed-if told text ports tree r has is_text complete =
+    complete tree (subst (λ s. IsFile s tree) (same told has.text text has.told is_text.is_told) has.is_file) has.no_ports
+  where
+    same : (t : Told) (a b : List ℕ) → t ≡ Holding a → IsTold t b → a ≡ b
+    same t a b e is_told = sym (subst (λ x. IsTold x b) e is_told)
+
+-- what is out of memory alone isn't refused
+pub never-refused : {T : Type 0} {P : Type 0} (r : Result T Answer) (e : Answer) (refusal : Refusal) → r ≡ Err e → e ≡ Denied refusal → IfErr r (λ x. x ≡ Memory) → P
+never-refused r e refusal is is_denied only = absurd (no (sym is_denied ∙ subst (λ x. IfErr x (λ y. y ≡ Memory)) is only))
+  where
+    no : Denied refusal ≡ Memory → ⊥
+    no h = cc

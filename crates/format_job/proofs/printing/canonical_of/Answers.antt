@@ -4,7 +4,7 @@ use Rattle.cal_ast.specs.View.{file_tree}
 use Rattle.rvc_words.specs.Words.{port_text}
 use Rattle.format_job.specs.Formatting.{IsUnprinted, names_port}
 use Rattle.actor_files.specs.FileText.{IsRightly}
-use Rattle.format_job.proofs.Printed.{rule-refusal}
+use Rattle.format_job.proofs.Printed.{never-refused, rule-refusal}
 use Rattle.format_job.proofs.printing.canonical_of.Goals as goal
 
 pub returns-in-Ok-clause-refused : goal.returns-in-Ok-clause-refused
@@ -16,3 +16,6 @@ returns-in-Err-Refused-clause-refused c = λ source misses_old misses_new refusa
     let same : c.in-Err-Refused.refusal ≡ refusal = cc in
     let rightly : IsRightly 1 c.args.text.now (front.Refused c.in-Err-Refused.refusal) = search rules in
     subst (λ r. IsUnprinted (map port_text c.args.ports.now) source misses_old misses_new r) same (rule-refusal (map port_text c.args.ports.now) source misses_old misses_new c.args.text.now c.in-Err-Refused.refusal is_text rightly)
+
+pub returns-in-Err-Refused-clause-complete : goal.returns-in-Err-Refused-clause-complete
+returns-in-Err-Refused-clause-complete c = λ tree is none. never-refused c.file_of.result c.in-Err-Refused.field-0 c.in-Err-Refused.refusal c.in-Err-Refused.is c.in-Err-Refused.field-0-is (c.file_of.ensures.read tree is)
