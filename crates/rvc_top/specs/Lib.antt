@@ -1,4 +1,3 @@
 pub mod Jobs
-pub mod Checks
 pub mod Status
 pub mod Steps

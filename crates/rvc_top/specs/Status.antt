@@ -1,13 +1,13 @@
 -- What statuses say of the outside, whatever the words ask for.
 -- Trusted: part of what a promise means.
-use Rattle.std.specs.Prelude.{◌≡◌, ◌≢◌, ℕ, true, List, ◌++◌}
+use Rattle.std.specs.Prelude.{◌≡◌, ℕ, true, List, ◌++◌}
 use Rattle.rvc_io.specs.Channels.{Channels}
 use Rattle.rvc_io.specs.Count.{HasRisen}
 use Rattle.run_report.specs.Report.{last_line}
 use Rattle.run_report.specs.declared.status.ReadAt.TheVariants.{File, Feed}
 use Rattle.run_report.specs.declared.status.Status.{Status}
 use Rattle.run_report.specs.declared.status.Status.TheVariants as status
-use Rattle.rvc_top.specs.Jobs.{Met, about_words}
+use Rattle.rvc_top.specs.Jobs.{about_words}
 
 -- nothing was opened, and nothing was written but the report
 abbrev pub IsBeforeAll : Status → Type 0
@@ -41,20 +41,22 @@ IsOfJob (status.NotRun number why) = Unit {0}
 IsOfJob (status.Uncertified inst state first second reason) = Unit {0}
 
 -- each fault with the count that rose
-abbrev pub IsCaused : Met → Status → Type 0
-IsCaused met status.Quiet = Unit {0}
-IsCaused met status.Done = Unit {0}
-IsCaused met (status.Usage cause) = Unit {0}
-IsCaused met (status.ReadFault (File file)) = HasRisen met.faults.old met.faults.new
-IsCaused met (status.ReadFault (Feed feed)) = HasRisen met.feeds.faults met.feeds_after.faults
-IsCaused met (status.WriteFault channel) = HasRisen met.channels.faults met.channels_after.faults
-IsCaused met (status.Refused refusal) = Unit {0}
-IsCaused met (status.Trapped inst action trap) = Unit {0}
-IsCaused met (status.Stalled inst action link) = Unit {0}
-IsCaused met (status.Budget firings) = Unit {0}
-IsCaused met status.OutOfMemory = Unit {0}
-IsCaused met (status.NotRun number why) = Unit {0}
-IsCaused met (status.Uncertified inst state first second reason) = Unit {0}
+abbrev pub IsCaused :
+    (file_faults_old file_faults feed_faults_old feed_faults faults_old faults : ℕ) → Status
+    → Type 0
+IsCaused lo ln ffo ff fo fn status.Quiet = Unit {0}
+IsCaused lo ln ffo ff fo fn status.Done = Unit {0}
+IsCaused lo ln ffo ff fo fn (status.Usage cause) = Unit {0}
+IsCaused lo ln ffo ff fo fn (status.ReadFault (File file)) = HasRisen lo ln
+IsCaused lo ln ffo ff fo fn (status.ReadFault (Feed feed)) = HasRisen ffo ff
+IsCaused lo ln ffo ff fo fn (status.WriteFault channel) = HasRisen fo fn
+IsCaused lo ln ffo ff fo fn (status.Refused refusal) = Unit {0}
+IsCaused lo ln ffo ff fo fn (status.Trapped inst action trap) = Unit {0}
+IsCaused lo ln ffo ff fo fn (status.Stalled inst action link) = Unit {0}
+IsCaused lo ln ffo ff fo fn (status.Budget firings) = Unit {0}
+IsCaused lo ln ffo ff fo fn status.OutOfMemory = Unit {0}
+IsCaused lo ln ffo ff fo fn (status.NotRun number why) = Unit {0}
+IsCaused lo ln ffo ff fo fn (status.Uncertified inst state first second reason) = Unit {0}
 
 -- the reports that come without a job too
 abbrev pub IsReportedPlainly : Status → (held_old held : List ℕ) → Type 0
