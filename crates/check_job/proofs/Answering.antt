@@ -3,7 +3,7 @@ use Rattle.std.proofs.Common.{◌≡◌, ℕ, ◌<◌, inl, inr, Bool, true, fal
 use Rattle.std.specs.Prelude.{slice_get}
 use Rattle.std.proofs.lemmas.Option.{slice_get_within}
 use Rattle.rvc_base.specs.declared.refusal.Refusal.{Refusal}
-use Rattle.rvc_io.specs.Channels.{Appends, Channels, WritesOnlyAt}
+use Rattle.rvc_io.specs.Channels.{Appends, WritesOnlyAt}
 use Rattle.actor_files.specs.Loading.{Counts, Library, TellsAll}
 use Rattle.cal_model.specs.Selection.{State}
 use Rattle.conforming_jobs.specs.Conforming.{OneConforms, names_of_ports}
@@ -13,13 +13,12 @@ use Rattle.rvc_words.specs.Words.{PortText}
 use Rattle.run_report.specs.About.{About}
 use Rattle.run_report.specs.Puts.{GetsText}
 use Rattle.run_report.specs.Report.{report, size_lines}
-use Rattle.run_report.specs.declared.status.ReadAt.TheVariants.{File, Feed}
 use Rattle.run_report.specs.declared.status.Status.{Status}
 use Rattle.run_report.specs.declared.status.Status.TheVariants as status
 use Rattle.rvc_engine.specs.Laws.{NetworksAreNotRefused}
 use Rattle.rvc_words.specs.declared.job.Job.{Job}
-use Rattle.source_network.specs.Library.{IsLibraryNetwork, LibraryNetworksAreOne}
-use Rattle.check_job.specs.Commands.{Command, JobConforms, RefusesJob, about_net, in_files, in_words, top_of, words_of}
+use Rattle.source_network.specs.Library.{LibraryNetworksAreOne}
+use Rattle.check_job.specs.Commands.{Command, JobConforms, RefusesJob, in_files, in_words, top_of, words_of}
 use Rattle.check_job.specs.Ends.{Comes, Conformed, IsAnswered, IsDoneOrOutside, IsRefused, by_files, by_words, is_reported, is_unreported, network_report}
 use Rattle.check_job.specs.Steps.{IsEnded, IsPut, told, untold}
 

@@ -3,7 +3,6 @@ use Rattle.std.proofs.Common.{◌≡◌, ℕ, suc, List, [], ◌∷◌, ◌++◌
 use Rattle.std.specs.Prelude.{string_bytes}
 use Rattle.std.proofs.lemmas.List.{length-map}
 use Rattle.rvc_base.specs.declared.refusal.Refusal.{Refusal}
-use Rattle.actor_files.specs.Loading.{TellsAll}
 use Rattle.actor_files.specs.Views.{file_names}
 use Rattle.actor_files.specs.declared.names.Names.{Names}
 use Rattle.cal_model.specs.Actor.{Actor}

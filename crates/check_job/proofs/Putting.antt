@@ -1,5 +1,5 @@
 -- A report that was put, or couldn't be.
-use Rattle.std.proofs.Common.{◌≡◌, ℕ, List, refl, sym, subst}
+use Rattle.std.proofs.Common.{◌≡◌, ℕ, List, refl, subst}
 use Rattle.rvc_io.specs.Channels.{Channels}
 use Rattle.run_report.specs.About.{About}
 use Rattle.run_report.specs.Puts.{GetsLess, GetsText}

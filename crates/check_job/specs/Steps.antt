@@ -1,6 +1,6 @@
 -- The steps of a check.
 -- Not trusted: no promise is read with it.
-use Rattle.std.specs.Prelude.{ℕ, List, [], length, map, string_bytes}
+use Rattle.std.specs.Prelude.{ℕ, List, length, string_bytes}
 use Rattle.rvc_io.specs.Channels.{Channels}
 use Rattle.actor_files.specs.Views.{file_names}
 use Rattle.actor_files.specs.declared.names.Names.{Names}
@@ -15,7 +15,7 @@ use Rattle.rvc_engine.specs.declared.checked.Checked.{Checked}
 use Rattle.rvc_engine.specs.declared.fault.BuildFault.{BuildFault}
 use Rattle.rvc_engine.specs.declared.fault.BuildFault.TheVariants as fault
 use Rattle.rvc_words.specs.declared.job.Job.{Job}
-use Rattle.check_job.specs.Commands.{Command, about_files, words_of}
+use Rattle.check_job.specs.Commands.{Command, words_of}
 use Rattle.check_job.specs.Ends.{Comes}
 
 -- the status of a network that isn't given

@@ -1,9 +1,12 @@
-//! What a top means: from a library's files to a network that is checked.
+//! What a top means: from a library's files to a network that is checked, and to one that can be run.
 //!
 //! [`check_network`] reads the files of a top and of all that it asks for, binds the networks, checks each actor and joins
 //! them: what it gives is the source network of these files, or it names a rule that they break.
 //!
-//! `specs/` says which top the words name (`Top`), what was checked (`Checked`) and what refuses a top (`Refused`).
+//! [`build`] goes on to an [`Image`]: each distinct actor is lowered, and it is told whether it is certified.
+//!
+//! `specs/` says which top the words name (`Top`), what was checked (`Checked`) and what refuses a top (`Refused`), what an
+//! image is (`Built`) and why there is none (`NotBuilt`).
 #![tactic(auto)]
 
 mod building;
