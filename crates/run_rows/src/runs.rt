@@ -1,28 +1,10 @@
 //! Runs over the objects in memory: their outputs, traces, reports and statuses, and what faults leave.
 
-use rvc_io::{MemDrains, MemFeeds, MemLibrary, OpenGate, names_are_distinct};
-use rvc_top::{Status, rvc};
-use std::alloc::{AllocError, Global};
+use crate::settings::{Failing, NEVER, Setting, run_setting};
+use std::alloc::Global;
 use std::process::Abort;
 use std::test::Fail;
 use std::thread::Threads;
-
-/// What is run: the words, the source under the name `Inc.cal`, the input under the name `in`, the
-/// most bytes that a call moves, and the calls that fail.
-#[derive(Clone, Copy)]
-struct Setting<'a> {
-    words: &'a str,
-    source: &'a str,
-    input: &'a [u8],
-    step: u32,
-    failing: Failing,
-}
-
-/// The read of a file, the call to the feeds and the call to the channels that fails, counted from 1;
-/// 0 for none.
-type Failing = (u64, u64, u64);
-
-const NEVER: Failing = (0, 0, 0);
 
 /// How a run ended: its exit status and the start of its name; and what the channels 0, 1 and 2 hold.
 type Left = (&'static str, &'static str, &'static str, &'static [u8]);
@@ -40,7 +22,7 @@ const BYTES: &[u8] = &[0, 1, 255];
 const NO_BYTES: &[u8] = &[];
 
 const REPORT: &str =
-    "instances 1\nlinks 2\nfirings 3\nrounds 2\nin In 0 tokens 3 rest 0\nout Out tokens 3\nquiet\n";
+    "instances 1\nlinks 2\ncertified 1\nfirings 3\nrounds 2\nin In 0 tokens 3 rest 0\nout Out tokens 3\nquiet\n";
 
 const TRACE: &str = "rvc-trace 1 1 2\ni 0 Inc Inc\nr\nf 0 0\nf 0 0\nf 0 0\nr\nq\n";
 
@@ -50,7 +32,7 @@ const WHOLE: Left = ("0 Quiet", REPORT, TRACE, &[1, 2, 0]);
 /// What a run over no bytes leaves.
 const EMPTY: Left = (
     "0 Quiet",
-    "instances 1\nlinks 2\nfirings 0\nrounds 1\nin In 0 tokens 0 rest 0\nout Out tokens 0\nquiet\n",
+    "instances 1\nlinks 2\ncertified 1\nfirings 0\nrounds 1\nin In 0 tokens 0 rest 0\nout Out tokens 0\nquiet\n",
     "rvc-trace 1 1 2\ni 0 Inc Inc\nr\nq\n",
     NO_BYTES,
 );
@@ -58,7 +40,7 @@ const EMPTY: Left = (
 /// What a run with a budget of two firings leaves.
 const CUT: Left = (
     "7 Budget { firings: 2 }",
-    "instances 1\nlinks 2\nfirings 2\nrounds 2\nin In 0 tokens 3 rest 0\nout Out tokens 2\nbudget 2\n",
+    "instances 1\nlinks 2\ncertified 1\nfirings 2\nrounds 2\nin In 0 tokens 3 rest 0\nout Out tokens 2\nbudget 2\n",
     "rvc-trace 1 1 2\ni 0 Inc Inc\nr\nf 0 0\nf 0 0\nr\nb\n",
     &[1, 2],
 );
@@ -88,6 +70,21 @@ const RUNS: &[(&str, &[u8], Left)] = &[
         WHOLE,
     ),
     ("rvc run Inc.cal In=in --trace t", BYTES, UNNAMED),
+    (
+        "rvc run Inc.cal In=in Out=out --trace t --round turn",
+        BYTES,
+        WHOLE,
+    ),
+    (
+        "rvc run Inc.cal In=in Out=out --trace t --burst 63",
+        BYTES,
+        WHOLE,
+    ),
+    (
+        "rvc run Inc.cal In=in Out=out --trace t --grow 1",
+        BYTES,
+        WHOLE,
+    ),
 ];
 
 const FAILED_PULL: Left = (
@@ -190,30 +187,17 @@ const REFUSALS: &[(&str, &str, &str)] = &[
         "refused G1 Inc.cal 30\n",
     ),
     (RUN, " unit U : end", "refused Y1 Inc.cal 1\n"),
-    ("rvc check Inc.cal", INC, "refused Y1 words 0\n"),
     ("rvc gen 1 --trace t", INC, "refused Y1 words 0\n"),
+    ("rvc certify Inc.cal", INC, "refused Y1 words 0\n"),
+    ("rvc replay Inc.cal --trace t", INC, "refused Y1 words 0\n"),
+    ("rvc check Inc.cal X=in", INC, "refused P1 words 0\n"),
     (
         "rvc run Inc.xdf In=in Out=out --trace t",
         INC,
-        "refused Y1 words 0\n",
+        "refused N1 words 0\n",
     ),
     (
         "rvc run Inc.cal In=in Out=out --trace t --workers 2",
-        INC,
-        "refused Y1 words 0\n",
-    ),
-    (
-        "rvc run Inc.cal In=in Out=out --trace t --round turn",
-        INC,
-        "refused Y1 words 0\n",
-    ),
-    (
-        "rvc run Inc.cal In=in Out=out --trace t --burst 63",
-        INC,
-        "refused Y1 words 0\n",
-    ),
-    (
-        "rvc run Inc.cal In=in Out=out --trace t --grow 1",
         INC,
         "refused Y1 words 0\n",
     ),
@@ -297,60 +281,6 @@ const USAGES: &[(&str, &str)] = &[
     ),
 ];
 
-/// The words of a line, which one blank each parts.
-fn words(alloc: Global, line: &str) -> Result<Vec<String>, AllocError> {
-    let mut words = Vec::new(alloc);
-    for word in line.split(' ') {
-        words.push(String::from_str(alloc, word)?)?;
-    }
-    Ok(words)
-}
-
-/// One file.
-fn file(alloc: Global, name: &str, bytes: &[u8]) -> Result<Vec<(String, Vec<u8>)>, AllocError> {
-    let mut files = Vec::new(alloc);
-    files.push((
-        String::from_str(alloc, name)?,
-        Vec::from_slice(alloc, bytes)?,
-    ))?;
-    Ok(files)
-}
-
-/// How a run ended, and its channels.
-#[derive(Drop)]
-struct Ran {
-    status: Status,
-    drains: MemDrains,
-}
-
-/// Runs a setting on objects of its own.
-fn run_setting<R: Abort + Threads + Sync>(
-    rt: &R,
-    alloc: Global,
-    setting: &Setting<'_>,
-) -> Result<Ran, Fail> {
-    let sources = file(alloc, "Inc.cal", setting.source.as_bytes())?;
-    let inputs = file(alloc, "in", setting.input)?;
-    assert!(rt; names_are_distinct(&sources));
-    assert!(rt; names_are_distinct(&inputs));
-    assert!(rt; setting.step > 0);
-    let (read, feed, drain) = setting.failing;
-    let mut library = MemLibrary::new(sources, vec![in alloc; read]?);
-    let mut feeds = MemFeeds::new(alloc, inputs, vec![in alloc; feed]?, setting.step, 2)?;
-    let mut drains = MemDrains::new(alloc, vec![in alloc; drain]?, setting.step, 3, 4096)?;
-    let words = words(alloc, setting.words)?;
-    let status = rvc(
-        rt,
-        alloc,
-        words.as_slice(),
-        &mut library,
-        &mut feeds,
-        &mut drains,
-        &OpenGate,
-    );
-    Ok(Ran { status, drains })
-}
-
 /// A run leaves this.
 fn leaves<R: Abort + Threads + Sync>(
     rt: &R,
@@ -392,7 +322,8 @@ fn leaves_by_steps<R: Abort + Threads + Sync>(
     for &step in STEPS {
         let setting = Setting {
             words,
-            source,
+            name: "Inc.cal",
+            source: source.as_bytes(),
             input,
             step,
             failing: NEVER,
@@ -415,7 +346,8 @@ fn a_failed_call_is_a_fault(rt: HostRuntime) -> Result<(), Fail> {
     for &(words, source, step, failing, left) in FAULTS {
         let setting = Setting {
             words,
-            source,
+            name: "Inc.cal",
+            source: source.as_bytes(),
             input: BYTES,
             step,
             failing,

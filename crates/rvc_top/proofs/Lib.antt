@@ -1,7 +1,2 @@
-mod Denials
-mod Ending
-mod Formats
-mod Printing
-mod Reports
-pub mod Seats
-pub mod PortWords
+mod Said
+mod SameJob

@@ -1,11 +1,3 @@
-pub mod Plain
-pub mod Matching
+pub mod Jobs
 pub mod Status
-pub mod Outside
-pub mod Report
-pub mod Naming
-pub mod Opened
-pub mod Planned
-pub mod Formatting
-pub mod Refused
-pub mod Run
+pub mod Steps

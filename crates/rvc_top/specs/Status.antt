@@ -1,39 +1,80 @@
--- The exit statuses.
+-- What statuses say of the outside, whatever the words ask for.
 -- Trusted: part of what a promise means.
-use Rattle.std.specs.Prelude.{ℕ}
-use Rattle.rvc_top.specs.declared.status.Status.{Status}
-use Rattle.rvc_top.specs.declared.status.ReadAt.TheVariants.{File, Feed}
-use Rattle.rvc_top.specs.declared.status.Status.TheVariants.{Quiet, Done, Usage, ReadFault, WriteFault, Refused, Budget, OutOfMemory}
+use Rattle.std.specs.Prelude.{◌≡◌, ℕ, true, List, ◌++◌}
+use Rattle.rvc_io.specs.Channels.{Channels}
+use Rattle.rvc_io.specs.Count.{HasRisen}
+use Rattle.run_report.specs.Report.{last_line}
+use Rattle.run_report.specs.declared.status.ReadAt.TheVariants.{File, Feed}
+use Rattle.run_report.specs.declared.status.Status.{Status}
+use Rattle.run_report.specs.declared.status.Status.TheVariants as status
+use Rattle.rvc_top.specs.Jobs.{about_words}
 
-abbrev pub code_of : Status → ℕ
-code_of Quiet = 0
-code_of Done = 0
-code_of (Usage cause) = 1
-code_of (ReadFault place) = 2
-code_of (WriteFault channel) = 3
-code_of (Refused refusal) = 4
-code_of (Budget firings) = 7
-code_of OutOfMemory = 8
-
--- nothing was opened yet
+-- nothing was opened, and nothing was written but the report
 abbrev pub IsBeforeAll : Status → Type 0
-IsBeforeAll Quiet = ⊥
-IsBeforeAll Done = Unit {0}
-IsBeforeAll (Usage cause) = Unit {0}
-IsBeforeAll (ReadFault (File file)) = Unit {0}
-IsBeforeAll (ReadFault (Feed feed)) = ⊥
-IsBeforeAll (WriteFault channel) = ⊥
-IsBeforeAll (Refused refusal) = Unit {0}
-IsBeforeAll (Budget firings) = ⊥
-IsBeforeAll OutOfMemory = Unit {0}
+IsBeforeAll status.Quiet = ⊥
+IsBeforeAll status.Done = Unit {0}
+IsBeforeAll (status.Usage cause) = Unit {0}
+IsBeforeAll (status.ReadFault (File file)) = Unit {0}
+IsBeforeAll (status.ReadFault (Feed feed)) = ⊥
+IsBeforeAll (status.WriteFault channel) = ⊥
+IsBeforeAll (status.Refused refusal) = Unit {0}
+IsBeforeAll (status.Trapped inst action trap) = ⊥
+IsBeforeAll (status.Stalled inst action link) = ⊥
+IsBeforeAll (status.Budget firings) = ⊥
+IsBeforeAll status.OutOfMemory = Unit {0}
+IsBeforeAll (status.NotRun number why) = Unit {0}
+IsBeforeAll (status.Uncertified inst state first second reason) = Unit {0}
 
 -- what comes only of words that are a job; the report of others can fail too
 abbrev pub IsOfJob : Status → Type 0
-IsOfJob Quiet = Unit {0}
-IsOfJob Done = Unit {0}
-IsOfJob (Usage cause) = ⊥
-IsOfJob (ReadFault place) = Unit {0}
-IsOfJob (WriteFault channel) = ⊥
-IsOfJob (Refused refusal) = Unit {0}
-IsOfJob (Budget firings) = Unit {0}
-IsOfJob OutOfMemory = ⊥
+IsOfJob status.Quiet = Unit {0}
+IsOfJob status.Done = Unit {0}
+IsOfJob (status.Usage cause) = ⊥
+IsOfJob (status.ReadFault at) = Unit {0}
+IsOfJob (status.WriteFault channel) = ⊥
+IsOfJob (status.Refused refusal) = Unit {0}
+IsOfJob (status.Trapped inst action trap) = Unit {0}
+IsOfJob (status.Stalled inst action link) = Unit {0}
+IsOfJob (status.Budget firings) = Unit {0}
+IsOfJob status.OutOfMemory = ⊥
+IsOfJob (status.NotRun number why) = Unit {0}
+IsOfJob (status.Uncertified inst state first second reason) = Unit {0}
+
+-- each fault with the count that rose
+abbrev pub IsCaused :
+    (file_faults_old file_faults feed_faults_old feed_faults faults_old faults : ℕ) → Status
+    → Type 0
+IsCaused lo ln ffo ff fo fn status.Quiet = Unit {0}
+IsCaused lo ln ffo ff fo fn status.Done = Unit {0}
+IsCaused lo ln ffo ff fo fn (status.Usage cause) = Unit {0}
+IsCaused lo ln ffo ff fo fn (status.ReadFault (File file)) = HasRisen lo ln
+IsCaused lo ln ffo ff fo fn (status.ReadFault (Feed feed)) = HasRisen ffo ff
+IsCaused lo ln ffo ff fo fn (status.WriteFault channel) = HasRisen fo fn
+IsCaused lo ln ffo ff fo fn (status.Refused refusal) = Unit {0}
+IsCaused lo ln ffo ff fo fn (status.Trapped inst action trap) = Unit {0}
+IsCaused lo ln ffo ff fo fn (status.Stalled inst action link) = Unit {0}
+IsCaused lo ln ffo ff fo fn (status.Budget firings) = Unit {0}
+IsCaused lo ln ffo ff fo fn status.OutOfMemory = Unit {0}
+IsCaused lo ln ffo ff fo fn (status.NotRun number why) = Unit {0}
+IsCaused lo ln ffo ff fo fn (status.Uncertified inst state first second reason) = Unit {0}
+
+-- the reports that come without a job too
+abbrev pub IsReportedPlainly : Status → (held_old held : List ℕ) → Type 0
+IsReportedPlainly status.Quiet held_old held = Unit {0}
+IsReportedPlainly status.Done held_old held = Unit {0}
+IsReportedPlainly (status.Usage cause) held_old held =
+    held ≡ held_old ++ last_line about_words (status.Usage cause)
+IsReportedPlainly (status.ReadFault at) held_old held = Unit {0}
+IsReportedPlainly (status.WriteFault channel) held_old held = Unit {0}
+IsReportedPlainly (status.Refused refusal) held_old held = Unit {0}
+IsReportedPlainly (status.Trapped inst action trap) held_old held = Unit {0}
+IsReportedPlainly (status.Stalled inst action link) held_old held = Unit {0}
+IsReportedPlainly (status.Budget firings) held_old held = Unit {0}
+IsReportedPlainly status.OutOfMemory held_old held =
+    held ≡ held_old ++ last_line about_words status.OutOfMemory
+IsReportedPlainly (status.NotRun number why) held_old held = Unit {0}
+IsReportedPlainly (status.Uncertified inst state first second reason) held_old held = Unit {0}
+
+-- by what is known of the channels
+abbrev pub PlainReportIs : Status → (old new : Channels) → Type 0
+PlainReportIs answer old new = old.tells ≡ true → IsReportedPlainly answer (old.held 0) (new.held 0)

@@ -1,15 +1,17 @@
-//! The top call: from words to files read, a network run, its trace and outputs written, and a report.
+//! The top call: what the words of the command line ask for is done, over any library of files, feeds and channels.
+//!
+//! [`rvc`] reads the words and hands the job to its verb: `run` to [`run_job`](run_job::run_job), `check` to
+//! [`check_job`](check_job::check_job), `fmt` to [`format_job`](format_job::format_job). `certify`, `replay` and `gen` are
+//! refused, since they aren't built yet.
+//!
+//! `specs/Jobs.antt` says what it means that the job of the words is done, `specs/Status.antt` what each status says of the
+//! outside.
 #![tactic(auto)]
 
-mod formatting;
-mod matching;
-mod opening;
-mod plain;
-mod preparing;
 mod reporting;
-mod status;
 mod top;
+mod verbs;
 
+pub use run_report::{ReadAt, Status};
 pub use rvc_words::UsageCause;
-pub use status::{ReadAt, Status};
 pub use top::rvc;

@@ -1,9 +1,0 @@
-pub mod Form
-pub mod Eval
-pub mod Meaning
-pub mod FormTree
-pub mod Mismatch
-pub mod Formed
-pub mod Parts
-pub mod Spelling
-pub mod Case
