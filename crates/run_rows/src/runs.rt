@@ -29,6 +29,14 @@ const TRACE: &str = "rvc-trace 1 1 2\ni 0 Inc Inc\nr\nf 0 0\nf 0 0\nf 0 0\nr\nq\
 /// What a run over the three bytes leaves.
 const WHOLE: Left = ("0 Quiet", REPORT, TRACE, &[1, 2, 0]);
 
+/// What a run over the three bytes leaves whose links may grow.
+const GROWING: Left = (
+    "0 Quiet",
+    REPORT,
+    "rvc-trace 2 1 2 1\ni 0 Inc Inc\nr\nf 0 0\nf 0 0\nf 0 0\nr\nq\n",
+    &[1, 2, 0],
+);
+
 /// What a run over no bytes leaves.
 const EMPTY: Left = (
     "0 Quiet",
@@ -83,7 +91,7 @@ const RUNS: &[(&str, &[u8], Left)] = &[
     (
         "rvc run Inc.cal In=in Out=out --trace t --grow 1",
         BYTES,
-        WHOLE,
+        GROWING,
     ),
 ];
 
@@ -186,7 +194,7 @@ const REFUSALS: &[(&str, &str, &str)] = &[
         "actor B() uint(size=8) In ==> ",
         "refused G1 Inc.cal 30\n",
     ),
-    (RUN, " unit U : end", "refused Y1 Inc.cal 1\n"),
+    (RUN, " unit U : end", "refused S5 Inc.cal 0\n"),
     ("rvc gen 1 --trace t", INC, "refused Y1 words 0\n"),
     ("rvc certify Inc.cal", INC, "refused Y1 words 0\n"),
     ("rvc replay Inc.cal --trace t", INC, "refused Y1 words 0\n"),

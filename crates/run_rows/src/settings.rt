@@ -78,4 +78,3 @@ pub fn run_setting<R: Abort + Threads + Sync>(
     );
     Ok(Ran { status, drains })
 }
-

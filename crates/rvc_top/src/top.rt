@@ -80,11 +80,13 @@ pub fn rvc<R: Threads + Sync, L: Library, F: Feeds, D: Drains, G: Gate>(
     // `run`.
     ensures run { (j : JobText) → job (texts words.now) ≡ Ok j → j.verb ≡ verb.Run
         → IsRun j (record {
-            library = L.file library.old;
-            misses = record { old = L.misses library.old; new = L.misses library.new };
-            faults = record { old = L.faults library.old; new = L.faults library.new };
-            feeds = F.feeds feeds.old; feeds_after = F.feeds feeds.new;
-            channels = D.channels drains.old; channels_after = D.channels drains.new;
+          library = L.file library.old;
+          misses = record { old = L.misses library.old; new = L.misses library.new };
+          faults = record { old = L.faults library.old; new = L.faults library.new };
+          feeds = F.feeds feeds.old;
+          feeds_after = F.feeds feeds.new;
+          channels = D.channels drains.old;
+          channels_after = D.channels drains.new;
         }) result }
     ensures run_complete { (j : JobText) (net : Network State) → job (texts words.now) ≡ Ok j
         → j.verb ≡ verb.Run → TellsAll (L.file library.old)
@@ -94,11 +96,13 @@ pub fn rvc<R: Threads + Sync, L: Library, F: Feeds, D: Drains, G: Gate>(
     // `check`.
     ensures check { (j : JobText) → job (texts words.now) ≡ Ok j → j.verb ≡ verb.Check
         → IsChecked j (record {
-            library = L.file library.old;
-            misses = record { old = L.misses library.old; new = L.misses library.new };
-            faults = record { old = L.faults library.old; new = L.faults library.new };
-            feeds = F.feeds feeds.old; feeds_after = F.feeds feeds.new;
-            channels = D.channels drains.old; channels_after = D.channels drains.new;
+          library = L.file library.old;
+          misses = record { old = L.misses library.old; new = L.misses library.new };
+          faults = record { old = L.faults library.old; new = L.faults library.new };
+          feeds = F.feeds feeds.old;
+          feeds_after = F.feeds feeds.new;
+          channels = D.channels drains.old;
+          channels_after = D.channels drains.new;
         }) result }
     ensures check_complete { (j : JobText) (net : Network State) → job (texts words.now) ≡ Ok j
         → j.verb ≡ verb.Check → TellsAll (L.file library.old)
@@ -135,21 +139,25 @@ pub fn rvc<R: Threads + Sync, L: Library, F: Feeds, D: Drains, G: Gate>(
     // Other words.
     ensures not_built { (j : JobText) → job (texts words.now) ≡ Ok j → is_built j.verb ≡ false
         → IsAnsweredAlone (record {
-            library = L.file library.old;
-            misses = record { old = L.misses library.old; new = L.misses library.new };
-            faults = record { old = L.faults library.old; new = L.faults library.new };
-            feeds = F.feeds feeds.old; feeds_after = F.feeds feeds.new;
-            channels = D.channels drains.old; channels_after = D.channels drains.new;
+          library = L.file library.old;
+          misses = record { old = L.misses library.old; new = L.misses library.new };
+          faults = record { old = L.faults library.old; new = L.faults library.new };
+          feeds = F.feeds feeds.old;
+          feeds_after = F.feeds feeds.new;
+          channels = D.channels drains.old;
+          channels_after = D.channels drains.new;
         }) (Status.Refused not_built_here) result }
     ensures usage { (cause : UsageCause) → result ≡ Status.Usage cause
         → job (texts words.now) ≡ Err cause }
     ensures no_job { (cause : UsageCause) → job (texts words.now) ≡ Err cause
         → IsAnsweredAlone (record {
-            library = L.file library.old;
-            misses = record { old = L.misses library.old; new = L.misses library.new };
-            faults = record { old = L.faults library.old; new = L.faults library.new };
-            feeds = F.feeds feeds.old; feeds_after = F.feeds feeds.new;
-            channels = D.channels drains.old; channels_after = D.channels drains.new;
+          library = L.file library.old;
+          misses = record { old = L.misses library.old; new = L.misses library.new };
+          faults = record { old = L.faults library.old; new = L.faults library.new };
+          feeds = F.feeds feeds.old;
+          feeds_after = F.feeds feeds.new;
+          channels = D.channels drains.old;
+          channels_after = D.channels drains.new;
         }) (Status.Usage cause) result }
     ensures planned { IsOfJob result → IsOk (job (texts words.now)) }
 

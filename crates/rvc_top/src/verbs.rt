@@ -52,11 +52,13 @@ pub(crate) fn do_job<R: Threads + Sync, L: Library, F: Feeds, D: Drains, G: Gate
     requires report_open { (D.channels drains.old).is_open 0 ≡ true }
 
     ensures run { job.now.verb ≡ Verb.Run → IsAnswered (run_command (record {
-        library = L.file library.old;
-        misses = record { old = L.misses library.old; new = L.misses library.new };
-        faults = record { old = L.faults library.old; new = L.faults library.new };
-        feeds = F.feeds feeds.old; feeds_after = F.feeds feeds.new;
-        channels = D.channels drains.old; channels_after = D.channels drains.new;
+      library = L.file library.old;
+      misses = record { old = L.misses library.old; new = L.misses library.new };
+      faults = record { old = L.faults library.old; new = L.faults library.new };
+      feeds = F.feeds feeds.old;
+      feeds_after = F.feeds feeds.new;
+      channels = D.channels drains.old;
+      channels_after = D.channels drains.new;
     }) job.now) result }
     ensures run_complete { (net : Network State) → job.now.verb ≡ Verb.Run
         → TellsAll (L.file library.old)
@@ -65,11 +67,13 @@ pub(crate) fn do_job<R: Threads + Sync, L: Library, F: Feeds, D: Drains, G: Gate
         → OnRefusal result (IsUnbuilt (L.file library.old) job.now) }
 
     ensures check { job.now.verb ≡ Verb.Check → WasChecked (record {
-        library = L.file library.old;
-        misses = record { old = L.misses library.old; new = L.misses library.new };
-        faults = record { old = L.faults library.old; new = L.faults library.new };
-        feeds = F.feeds feeds.old; feeds_after = F.feeds feeds.new;
-        channels = D.channels drains.old; channels_after = D.channels drains.new;
+      library = L.file library.old;
+      misses = record { old = L.misses library.old; new = L.misses library.new };
+      faults = record { old = L.faults library.old; new = L.faults library.new };
+      feeds = F.feeds feeds.old;
+      feeds_after = F.feeds feeds.new;
+      channels = D.channels drains.old;
+      channels_after = D.channels drains.new;
     }) result job.now }
     ensures check_complete { (net : Network State) → job.now.verb ≡ Verb.Check
         → TellsAll (L.file library.old)
@@ -104,11 +108,13 @@ pub(crate) fn do_job<R: Threads + Sync, L: Library, F: Feeds, D: Drains, G: Gate
     ensures format_opens_no_feed { job.now.verb ≡ Verb.Fmt → feeds.new ≡ feeds.old }
 
     ensures not_built { is_built job.now.verb ≡ false → IsToldAlone (record {
-        library = L.file library.old;
-        misses = record { old = L.misses library.old; new = L.misses library.new };
-        faults = record { old = L.faults library.old; new = L.faults library.new };
-        feeds = F.feeds feeds.old; feeds_after = F.feeds feeds.new;
-        channels = D.channels drains.old; channels_after = D.channels drains.new;
+      library = L.file library.old;
+      misses = record { old = L.misses library.old; new = L.misses library.new };
+      faults = record { old = L.faults library.old; new = L.faults library.new };
+      feeds = F.feeds feeds.old;
+      feeds_after = F.feeds feeds.new;
+      channels = D.channels drains.old;
+      channels_after = D.channels drains.new;
     }) (Status.Refused not_built_here) result }
 
     ensures said { IsSaid (L.faults library.old) (L.faults library.new) (F.feeds feeds.old).faults
