@@ -1,0 +1,10 @@
+pub mod Numbered
+pub mod Named
+pub mod Copied
+pub mod Wired
+pub mod Kept
+pub mod Begun
+pub mod Left
+pub mod Spent
+pub mod Told
+pub mod Finished

@@ -1,0 +1,5 @@
+pub mod Network
+pub mod Files
+pub mod Leaving
+pub mod Answering
+pub mod Preparing

@@ -1,0 +1,112 @@
+//! What is made for a job before anything is opened.
+
+ghost use Rattle.std.specs.Prelude.{◌≡◌, ◌+◌, ◌++◌, ◌<◌, IfOk, OnOk, length, map};
+ghost use Rattle.network_runner.specs.Asking.{seen_run};
+ghost use Rattle.port_words.specs.Matching.{AreMatched, IsWrongWord};
+ghost use Rattle.network_job.specs.Answering.{NeverOpens, OnRefused};
+ghost use Rattle.network_job.specs.Network.{CanRunAll, in_names, out_names, plan_of, words_of};
+ghost use Rattle.network_job.specs.Preparing.{IsPrepared};
+
+use crate::head::head_of;
+use crate::outcome::JobFault;
+use crate::wiring::wiring_of;
+use fnl_flatten::Flat;
+use net_model::{Counts, Firing};
+use network_runner::{Runner, no_counts};
+use port_words::match_words;
+use round_plan::Policy;
+use round_runner::Plan;
+use rvc_base::Memory;
+use rvc_words::Job;
+use std::alloc::Global;
+
+/// The most ports of a network. There is no memory for so many.
+const MAX_PORTS: usize = 4_294_967_295;
+
+/// A network that is ready to run.
+#[derive(Drop)]
+pub(crate) struct Prepared<A: Firing, P: Policy> {
+    pub(crate) runner: Runner<A, P>,
+    /// What stands in the trace before its first event.
+    pub(crate) head: Vec<u8>,
+    /// Places for the numbers of the run.
+    pub(crate) counts: Counts,
+}
+
+/// By what the rounds of a job are made.
+fn plan_of(job: &Job) -> Plan
+    ensures { result ≡ plan_of job.now }
+{
+    Plan {
+        workers: job.workers,
+        burst: job.burst,
+        grow: job.grow,
+    }
+}
+
+/// Takes the memory for a run of these cells.
+///
+/// # Errors
+///
+/// `Memory` if memory runs out.
+fn make_ready<A: Firing + Send, P: Policy>(
+    alloc: Global,
+    cells: Vec<A>,
+    flat: &Flat,
+    job: &Job,
+    policy: P,
+) -> Result<Prepared<A, P>, Memory>
+    requires can_run { CanRunAll (map A.cell cells.items) flat.now (plan_of job.now) }
+    requires not_asked { P.rounds policy ≡ 0 }
+    ensures { IfOk result (λ p. IsPrepared (map A.cell cells.items) flat.now
+        (words_of job.now) (plan_of job.now) (P.kind policy) (seen_run A.cell p.runner)
+        p.head.items p.counts) }
+{
+    let plan = plan_of(job);
+    let wiring = wiring_of(alloc, flat, job.ports.as_slice())?;
+    let head = head_of(alloc, flat, cells.len() as u32, plan.grow)?;
+    let counts = no_counts(alloc, flat.links.len(), flat.outs.len())?;
+    let runner = Runner::new(alloc, cells, wiring, plan, policy)?;
+    Ok(Prepared {
+        runner,
+        head,
+        counts,
+    })
+}
+
+/// Matches the port words of a job with the ports of its network, and takes the memory for its run.
+///
+/// # Errors
+///
+/// `Refused` if a port word names no port, or one that a word before it names; `Memory` if memory runs out.
+pub(crate) fn prepare<A: Firing + Send, P: Policy>(
+    alloc: Global,
+    cells: Vec<A>,
+    flat: &Flat,
+    job: &Job,
+    policy: P,
+) -> Result<Prepared<A, P>, JobFault>
+    requires can_run { CanRunAll (map A.cell cells.items) flat.now (plan_of job.now) }
+    requires not_asked { P.rounds policy ≡ 0 }
+    ensures prepared { IfOk result (λ p. IsPrepared (map A.cell cells.items) flat.now
+        (words_of job.now) (plan_of job.now) (P.kind policy) (seen_run A.cell p.runner)
+        p.head.items p.counts) }
+    ensures matched { OnOk result (AreMatched (in_names flat.now
+        ++ out_names flat.now) (words_of job.now)) }
+    ensures refused { OnRefused result (IsWrongWord (in_names flat.now
+        ++ out_names flat.now) (words_of job.now)) }
+    ensures only { NeverOpens result }
+{
+    let ins = flat.ins.as_slice();
+    let outs = flat.outs.as_slice();
+    if ins.len() > MAX_PORTS / 2 || outs.len() > MAX_PORTS / 2 {
+        return Err(JobFault::Memory);
+    }
+    if let Err(refusal) = match_words(job.ports.as_slice(), ins, outs) {
+        return Err(JobFault::Refused(refusal));
+    }
+    match make_ready(alloc, cells, flat, job, policy) {
+        Ok(prepared) => Ok(prepared),
+        Err(Memory) => Err(JobFault::Memory),
+    }
+}

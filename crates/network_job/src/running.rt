@@ -1,0 +1,207 @@
+//! One run of a network, from port words to its end.
+
+ghost use Rattle.std.specs.Prelude.{◌≡◌, ◌≢◌, ◌≤◌, ◌++◌, ℕ, List, false, IfOk, map, string_bytes};
+ghost use Rattle.net_model.specs.Network.{Network};
+ghost use Rattle.net_model.specs.Ready.{given_state};
+ghost use Rattle.port_words.specs.Matching.{AreMatched, IsWrongWord};
+ghost use Rattle.network_job.specs.Answering.{EndIsCaused, IfStarted, IfUnstarted, IsUnread, IsUnwritten, LeavesJob, OnRefused, OnUnread, OnUnwritten};
+ghost use Rattle.network_job.specs.Files.{AreInputs, Keeps, OpensOnly, WritesOnly};
+ghost use Rattle.network_job.specs.Leaving.{setting_of};
+ghost use Rattle.network_job.specs.Network.{CanRunAll, IsNetworkOf, in_names, out_names, plan_of, words_of};
+
+use crate::numbers::take_over;
+use crate::opening::start;
+use crate::outcome::{JobFault, Outcome};
+use crate::preparing::{Prepared, prepare};
+use crate::states::StatesOf;
+use fnl_flatten::Flat;
+use net_model::{Firing, paced_lines_keep_the_budget};
+use network_runner::runs_are_paced;
+use round_plan::{AllPolicy, Policy, SeedPolicy, TurnPolicy};
+use rvc_base::{MAX_BUDGET, RoundKind};
+use rvc_io::{Drains, Feeds, Gate};
+use rvc_words::Job;
+use std::alloc::Global;
+use std::thread::Threads;
+
+/// The same by a policy of the job's kind.
+fn run_by<R: Threads + Sync, A: Firing + Send, P: Policy, F: Feeds, D: Drains, G: Gate>(
+    rt: &R,
+    alloc: Global,
+    cells: Vec<A>,
+    flat: &Flat,
+    job: &Job,
+    policy: P,
+    feeds: &mut F,
+    drains: &mut D,
+    gate: &G,
+) -> Result<Outcome, JobFault>
+    requires can_run { CanRunAll (map A.cell cells.items) flat.now (plan_of job.now) }
+    requires budget { job.now.budget ≤ MAX_BUDGET }
+    requires feeds_closed { (n : ℕ) → (F.feeds feeds.old).is_open n ≡ false }
+    requires channels_closed { (n : ℕ) → n ≢ 0 → (D.channels drains.old).is_open n ≡ false }
+    requires kind { P.kind policy ≡ job.now.round }
+    requires not_asked { P.rounds policy ≡ 0 }
+
+    // What the job leaves.
+    ensures leaves { (net : Network A.State) (inputs : List (List ℕ))
+        → IsNetworkOf net (map A.cell cells.items) flat.now
+        → AreInputs inputs flat.now.links.items (in_names flat.now) (words_of job.now)
+        (F.feeds feeds.old)
+        → LeavesJob (setting_of net inputs (given_state net (map A.cell cells.items) inputs) job.now)
+        result (D.channels drains.new) }
+    ensures within { IfOk result (λ outcome. outcome.counts.firings ≤ job.now.budget) }
+
+    // When each answer comes, and what it says.
+    ensures matched { IfStarted result (AreMatched (in_names flat.now ++ out_names flat.now)
+        (words_of job.now)) }
+    ensures refused { OnRefused result (IsWrongWord (in_names flat.now ++ out_names flat.now)
+        (words_of job.now)) }
+    ensures unstarted { IfUnstarted result ((feeds.new ≡ feeds.old) × (drains.new ≡ drains.old)) }
+    ensures unread { OnUnread result (λ feed. IsUnread flat.now.links.items (in_names flat.now)
+        (words_of job.now) (F.feeds feeds.old) (F.feeds feeds.new) feed
+        × (drains.new ≡ drains.old)) }
+    ensures unwritten { OnUnwritten result (IsUnwritten flat.now.links.items (in_names flat.now)
+        (out_names flat.now) (words_of job.now) (string_bytes job.now.trace) (F.feeds feeds.old)
+        (F.feeds feeds.new) (D.channels drains.old) (D.channels drains.new)) }
+    ensures faults { IfOk result (λ outcome. EndIsCaused flat.now.links.items (in_names flat.now)
+        (out_names flat.now) (words_of job.now) (F.feeds feeds.old) (F.feeds feeds.new)
+        (D.channels drains.old) (D.channels drains.new) outcome.end) }
+
+    // What stays.
+    ensures other_feeds { OpensOnly flat.now.links.items (in_names flat.now) (words_of job.now)
+        (F.feeds feeds.old) (F.feeds feeds.new) }
+    ensures other_channels { WritesOnly (out_names flat.now) (words_of job.now)
+        (D.channels drains.old) (D.channels drains.new) }
+{
+    let prepared = match prepare(alloc, cells, flat, job, policy) {
+        Ok(prepared) => prepared,
+        Err(fault) => return Err(fault),
+    };
+    let Prepared {
+        mut runner,
+        head,
+        mut counts,
+    } = prepared;
+    if let Err(fault) = start(flat, job, head.as_slice(), feeds, drains) {
+        return Err(fault);
+    }
+    let end = runner.run(rt, job.budget, feeds, drains, gate);
+    take_over(runner.counts(), &mut counts);
+    runs_are_paced::<StatesOf<A>>();
+    paced_lines_keep_the_budget::<StatesOf<A>>();
+    Ok(Outcome { end, counts })
+}
+
+/// Runs a network, whose cells are joined as `flat` says, as a job asks.
+///
+/// The port words are matched with the network's ports, and all memory is taken. Then the feeds are opened, in the order of
+/// links, and the channels: the trace's, and those of outputs in their order. What stands in the trace before its first
+/// event is written, and the rounds go until one ends the run. `rt` is for the threads of more workers than one; `gate` is
+/// told when a worker starts.
+///
+/// - `leaves`: for each network of these cells, and over the bytes that feeds tell under the files of its inputs (an input
+///   that no word names has none): if the run came to its end, the trace's channel holds the text of paced lines, the last
+///   of which is that end, the channel of each output that has a file holds the bytes of what was sent to it, the numbers
+///   count these lines, and no channel of another output was opened. If a feed couldn't be read the lines are begun. If a
+///   channel couldn't be opened or written, each that was opened has a prefix of what begun or paced lines give.
+/// - `matched`: if anything was opened, each port word names a port of its own.
+/// - `within`: no more firings were made than the job permits.
+/// - `faults`: a run ends by a feed or a channel only if that was counted, and only by one that was opened.
+/// - `other_feeds`, `other_channels` and `report`: no other feed was opened, and no other channel was opened or written; so
+///   channel 0 is as it was.
+///
+/// # Errors
+///
+/// - `Refused` for the first port word that names no port, or one that a word before it names (`refused`).
+/// - `Memory` if memory runs out; more than 2,147,483,647 inputs or outputs count as that. With these two nothing is opened
+///   or written (`unstarted`).
+/// - `ReadFault` with the number of the first feed that couldn't be opened: the failure was counted, the feeds before it are
+///   open, and no channel was opened (`unread`).
+/// - `WriteFault` with the number of the first channel that couldn't be opened, or that of the trace's, if what stands
+///   before the first event couldn't be written: the failure was counted, and all feeds and the channels before it are open
+///   (`unwritten`).
+#[tactic(auto, using(crate::proofs::Kept::report_kept))]
+pub fn run_network<R: Threads + Sync, A: Firing + Send, F: Feeds, D: Drains, G: Gate>(
+    rt: &R,
+    alloc: Global,
+    cells: Vec<A>,
+    flat: &Flat,
+    job: &Job,
+    feeds: &mut F,
+    drains: &mut D,
+    gate: &G,
+) -> Result<Outcome, JobFault>
+    requires can_run { CanRunAll (map A.cell cells.items) flat.now (plan_of job.now) }
+    requires budget { job.now.budget ≤ MAX_BUDGET }
+    requires feeds_closed { (n : ℕ) → (F.feeds feeds.old).is_open n ≡ false }
+    requires channels_closed { (n : ℕ) → n ≢ 0 → (D.channels drains.old).is_open n ≡ false }
+
+    // What the job leaves.
+    ensures leaves { (net : Network A.State) (inputs : List (List ℕ))
+        → IsNetworkOf net (map A.cell cells.items) flat.now
+        → AreInputs inputs flat.now.links.items (in_names flat.now) (words_of job.now)
+        (F.feeds feeds.old)
+        → LeavesJob (setting_of net inputs (given_state net (map A.cell cells.items) inputs) job.now)
+        result (D.channels drains.new) }
+    ensures within { IfOk result (λ outcome. outcome.counts.firings ≤ job.now.budget) }
+
+    // When each answer comes, and what it says.
+    ensures matched { IfStarted result (AreMatched (in_names flat.now ++ out_names flat.now)
+        (words_of job.now)) }
+    ensures refused { OnRefused result (IsWrongWord (in_names flat.now ++ out_names flat.now)
+        (words_of job.now)) }
+    ensures unstarted { IfUnstarted result ((feeds.new ≡ feeds.old) × (drains.new ≡ drains.old)) }
+    ensures unread { OnUnread result (λ feed. IsUnread flat.now.links.items (in_names flat.now)
+        (words_of job.now) (F.feeds feeds.old) (F.feeds feeds.new) feed
+        × (drains.new ≡ drains.old)) }
+    ensures unwritten { OnUnwritten result (IsUnwritten flat.now.links.items (in_names flat.now)
+        (out_names flat.now) (words_of job.now) (string_bytes job.now.trace) (F.feeds feeds.old)
+        (F.feeds feeds.new) (D.channels drains.old) (D.channels drains.new)) }
+    ensures faults { IfOk result (λ outcome. EndIsCaused flat.now.links.items (in_names flat.now)
+        (out_names flat.now) (words_of job.now) (F.feeds feeds.old) (F.feeds feeds.new)
+        (D.channels drains.old) (D.channels drains.new) outcome.end) }
+
+    // What stays.
+    ensures other_feeds { OpensOnly flat.now.links.items (in_names flat.now) (words_of job.now)
+        (F.feeds feeds.old) (F.feeds feeds.new) }
+    ensures other_channels { WritesOnly (out_names flat.now) (words_of job.now)
+        (D.channels drains.old) (D.channels drains.new) }
+    ensures report { Keeps 0 (D.channels drains.old) (D.channels drains.new) }
+{
+    match job.round {
+        RoundKind::All => run_by(
+            rt,
+            alloc,
+            cells,
+            flat,
+            job,
+            AllPolicy::new(),
+            feeds,
+            drains,
+            gate,
+        ),
+        RoundKind::Turn => run_by(
+            rt,
+            alloc,
+            cells,
+            flat,
+            job,
+            TurnPolicy::new(),
+            feeds,
+            drains,
+            gate,
+        ),
+        RoundKind::Seed(seed) => run_by(
+            rt,
+            alloc,
+            cells,
+            flat,
+            job,
+            SeedPolicy::new(seed),
+            feeds,
+            drains,
+            gate,
+        ),
+    }
+}
