@@ -39,4 +39,5 @@ returns g c =
       unwritten = c.run_network.ensures.unwritten;
       faults = c.run_network.ensures.faults;
       report = c.run_network.ensures.report;
+      others = c.run_network.ensures.other_channels;
     }
