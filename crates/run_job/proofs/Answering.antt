@@ -1,0 +1,250 @@
+-- To what a command comes, by what a run of its image comes to.
+use Rattle.std.proofs.Common.{◌≡◌, ◌⊎◌, inl, inr, ⊎_elim, ℕ, ◌+◌, ◌<◌, ◌≤◌, true, false, List, [], ◌∷◌, ◌++◌, length, map, refl, sym, ap, subst, ◌∙◌, arith, Contains}
+use Rattle.std.specs.Prelude.{string_bytes, Some, slice_get, take}
+use Rattle.std.specs.Arc.{arc_value}
+use Rattle.std.specs.declared.result.Result.{Result}
+use Rattle.std.specs.declared.result.Result.TheVariants.{Ok, Err}
+use Rattle.std.proofs.lemmas.List.{length-map}
+use Rattle.std.proofs.lemmas.List.Elements.{Contains-append_right}
+use Rattle.std.proofs.lemmas.Option.{slice_get_within}
+use Rattle.rvc_base.specs.declared.refusal.Refusal.{Refusal}
+use Rattle.rvc_base.specs.declared.refusal.Rule.{Rule}
+use Rattle.rvc_io.specs.Channels.{Appends, Channels, WritesOnlyAt}
+use Rattle.rvc_io.specs.Count.{HasRisen}
+use Rattle.rvc_io.specs.Feeds.{Inputs}
+use Rattle.rvc_words.specs.Words.{PortText}
+use Rattle.rvc_words.specs.declared.job.Job.{Job}
+use Rattle.channel_writer.specs.Held.{AppendsFront}
+use Rattle.trace_text.specs.declared.line.Line.{Line}
+use Rattle.trace_text.specs.declared.line.Line.TheVariants.{Budget as BudgetLine}
+use Rattle.cal_model.specs.Actor.{Actor}
+use Rattle.cal_model.specs.Selection.{State as ActorState}
+use Rattle.net_model.specs.declared.wiring.Counts.{Counts}
+use Rattle.net_model.specs.declared.wiring.Link.{Link}
+use Rattle.net_model.specs.Network.{Network}
+use Rattle.net_model.specs.State.{start_of}
+use Rattle.net_state.proofs.Gaining.{some_is}
+use Rattle.actor_files.specs.Loading as loading
+use Rattle.actor_files.specs.Views.{file_names}
+use Rattle.actor_files.specs.declared.names.Names.{Names}
+use Rattle.source_network.specs.Files.{class_asked, files_of}
+use Rattle.port_words.specs.Matching.{AreMatched, BreaksRule, IsWrong, IsWrongWord, is_named, is_port}
+use Rattle.port_words.specs.Opening.{ChannelFails, Opening, channels_of, feeds_of}
+use Rattle.conforming_jobs.specs.Conforming.{Conforms, names_of_ports}
+use Rattle.round_runner.specs.declared.outcome.RunEnd.{RunEnd}
+use Rattle.round_runner.specs.declared.outcome.RunEnd.TheVariants as end
+use Rattle.network_cells.specs.SourceRuns.{SourcesAreActorNetworks}
+use Rattle.network_cells.specs.Sources.{IsActorNetwork}
+use Rattle.rvc_engine.specs.Built.{HasImage, IsBuilt}
+use Rattle.rvc_engine.specs.Images.{MeansNet}
+use Rattle.rvc_engine.specs.Top.{top_asked}
+use Rattle.rvc_engine.specs.declared.image.Image.{Image}
+use Rattle.network_job.specs.Answering.{EndIsCaused, HeadFails, IfStarted, IsUnread, IsUnwritten, LeavesJob}
+use Rattle.network_job.specs.Files.{IsChannelOf, IsFeedOf, Keeps, WritesOnly}
+use Rattle.network_job.specs.Leaving.{Came, LeavesRun, ending_of}
+use Rattle.network_job.specs.Network as asks
+use Rattle.network_job.specs.declared.outcome.JobFault.{JobFault}
+use Rattle.network_job.specs.declared.outcome.JobFault.TheVariants as fault
+use Rattle.network_job.specs.declared.outcome.Outcome.{Outcome}
+use Rattle.network_job.proofs.Numbered.{is_channel}
+use Rattle.run_report.specs.About.{About}
+use Rattle.run_report.specs.Puts.{GetsLess, GetsText}
+use Rattle.run_report.specs.Report.{report, run_lines}
+use Rattle.run_report.specs.declared.status.Status.{Status}
+use Rattle.run_report.specs.declared.status.Status.TheVariants as status
+use Rattle.run_job.specs.Commands.{AreCertified, AreGiven, Command, HasFiles, IsToRun, OpenedNothing, about_net, count_none, port_names, run_over, top_of, words_of}
+use Rattle.run_job.specs.Ends.{Comes, IsAnswered, IsRefused, IsUnbuilt, OnRefusal, Ran, RanOut, RanSome, WasUnread, WasUnwritten, by_words, is_reported, is_unreported}
+use Rattle.run_job.specs.Steps.{CellsRan, ImageRan, about_image, lines_at, status_at, status_of}
+use Rattle.run_job.proofs.Cells.{many_leaves}
+use Rattle.run_job.proofs.Leaving.{same_names}
+use Rattle.run_job.proofs.Reported.{broken, cut, ended, risen_from, risen_to}
+
+-- ---- words that match aren't wrong
+
+module _ (ports : List (List ℕ)) (words : List PortText) where
+  not_wrong : (rule : Rule) (k : ℕ) → AreMatched ports words → IsWrong ports words rule k → ⊥
+  not_wrong rule k matched wrong =
+      let fits = matched k (slice_get_within words k wrong.word wrong.is_there) in
+      let same : fits.word ≡ wrong.word = some_is fits.word wrong.word (sym fits.is_there ∙ wrong.is_there) in
+      clash fits.word wrong.word same fits.known fits.first wrong.breaks
+    where
+      clash : (one other : PortText) → one ≡ other → is_port one.name ports ≡ true
+          → is_named one.name (take k words) ≡ false
+          → BreaksRule ports (take k words) other rule → ⊥
+      clash one other same known first (inl unknown) = (let a = sym known ∙ (ap (λ w. is_port w.name ports) same ∙ unknown.1) in cc)
+      clash one other same known first (inr twice) = (let a = sym first ∙ (ap (λ w. is_named w.name (take k words)) same ∙ twice.2) in cc)
+
+  pub none_wrong : (r : Refusal) → AreMatched ports words → IsWrongWord ports words r → ⊥
+  none_wrong r matched wrong = not_wrong r.rule r.place.offset matched wrong.1
+
+-- ---- channels that fail
+
+is_one_of : (trace : List ℕ) (outs : List (List ℕ)) (words : List PortText) (channel : ℕ) (old new : Channels)
+    → ChannelFails (channels_of trace outs words) channel old new ⊎ HeadFails (channels_of trace outs words) channel old new → IsChannelOf outs words channel
+is_one_of trace outs words channel old new (inl fails) =
+    subst (IsChannelOf outs words) fails.number_is
+    (is_channel trace outs words fails.failed (subst (λ os. Contains os fails.failed) (sym fails.in_order) (Contains-append_right fails.before (fails.failed ∷ fails.after) fails.failed (0, omega arith, refl))))
+is_one_of trace outs words channel old new (inr head) = inl head.channel_is
+
+is_counted : (trace : List ℕ) (outs : List (List ℕ)) (words : List PortText) (channel : ℕ) (old new : Channels)
+    → ChannelFails (channels_of trace outs words) channel old new ⊎ HeadFails (channels_of trace outs words) channel old new → HasRisen old.faults new.faults
+is_counted trace outs words channel old new (inl fails) = fails.counted
+is_counted trace outs words channel old new (inr head) = risen_from old.faults head.between.faults new.faults head.are_opened.faults_stay head.counted
+
+-- ---- an image and its command
+
+-- a network has the ports of its image
+pub ports_are : (image : Image) (actors : List Actor) (net : Network ActorState) → HasImage image actors net → names_of_ports net ≡ asks.in_names image.flat ++ asks.out_names image.flat
+ports_are image actors net has =
+    ap (λ ns. ns ++ port_names net.outs) (same_names image.flat.ins.items net.ins (has.is_net).wiring.ins)
+    ∙ ap (λ ns. asks.in_names image.flat ++ ns) (same_names image.flat.outs.items net.outs (has.is_net).wiring.outs)
+
+module _ (job : Job) (library : loading.Library) (misses faults : loading.Counts) (feeds feeds_new : Inputs) (old between new : Channels)
+    (image : Image) (names : Names) (law : SourcesAreActorNetworks) (built : IsBuilt library (top_asked (string_bytes job.top)) (file_names names) image)
+    (only : WritesOnlyAt 0 between new) where
+  abbrev cmd : Command
+  cmd = record {
+    job = job;
+    library = library;
+    misses = misses;
+    faults = faults;
+    feeds = feeds;
+    feeds_after = feeds_new;
+    channels = old;
+    channels_after = new;
+  }
+
+  abbrev net : Network ActorState
+  net = built.is_image.net
+
+  abbrev actors : List Actor
+  actors = built.is_image.means.actors
+
+  has : HasImage image built.is_image.means.actors built.is_image.net
+  has = built.is_image.has
+
+  is : IsActorNetwork built.is_image.means.actors built.is_image.net
+  is = law (files_of built.reads) (class_asked (top_asked (string_bytes job.top))) built.is_image.net built.is_image.means.tree built.is_image.means.actors
+      built.is_image.means built.is_image.means.is_tree built.is_image.means.are_actors built.is_image.has.sound
+
+  files : HasFiles cmd net
+  files = record { names = file_names names; reads = built.reads; are_read = built.are_read; means = built.is_image.means }
+
+  ins_are : port_names net.ins ≡ asks.in_names image.flat
+  ins_are = same_names image.flat.ins.items net.ins (has.is_net).wiring.ins
+
+  outs_are : port_names net.outs ≡ asks.out_names image.flat
+  outs_are = same_names image.flat.outs.items net.outs (has.is_net).wiring.outs
+
+  links_are : net.links ≡ image.flat.links.items
+  links_are = (has.is_net).wiring.links
+
+  to_run : AreMatched (asks.in_names image.flat ++ asks.out_names image.flat) (asks.words_of job) → IsToRun cmd net
+  to_run matched =
+      let fits : AreMatched (names_of_ports net) (asks.words_of job) = subst (λ ps. AreMatched ps (asks.words_of job)) (sym (ports_are image actors net has)) matched in
+      record {
+        files = files;
+        matched = fits;
+        conforms = λ tells. record {
+          means = record { reads = built.reads; are_loaded = built.are_read.are_loaded tells; means = built.is_image.means };
+          matched = fits;
+        };
+      }
+
+  about_is : about_image image names job ≡ about_net cmd (file_names names) net
+  about_is =
+      ap (λ n. about_by n image.flat.links.items (asks.in_names image.flat) (asks.out_names image.flat)) (sym (length-map image.codes.items arc_value) ∙ many_leaves image actors net has is)
+      ∙ (ap (λ ls. about_by (length net.leaves) ls (asks.in_names image.flat) (asks.out_names image.flat)) (sym links_are)
+      ∙ (ap (λ ps. about_by (length net.leaves) net.links ps (asks.out_names image.flat)) (sym ins_are)
+      ∙ ap (λ ps. about_by (length net.leaves) net.links (port_names net.ins) ps) (sym outs_are)))
+    where
+      about_by : ℕ → List Link → List (List ℕ) → List (List ℕ) → About
+      about_by n links ins outs = record { files = file_names names; trace = string_bytes job.trace; words = asks.words_of job; instances = n; links = links; ins = ins; outs = outs }
+
+  certified : AreCertified built.is_image.means.actors (count_none image.uncertified.items)
+  certified = record { said = image.uncertified.items; judged = has.judged; counted = refl }
+
+  abbrev Leaves : Result Outcome JobFault → Type 0
+  Leaves came = (inputs : List (List ℕ)) → AreGiven cmd net inputs → LeavesJob (run_over cmd net inputs) came between
+
+  leaves_of : (came : Result Outcome JobFault) → CellsRan image job feeds feeds_new old between came → Leaves came
+  leaves_of came ran inputs given = ran.leaves actors net inputs has is given
+
+  -- a run that came to its end
+  some_ran : (line : Line) (counts : Counts) → AreMatched (asks.in_names image.flat ++ asks.out_names image.flat) (asks.words_of job) → counts.firings ≤ job.budget
+      → ((inputs : List (List ℕ)) → AreGiven cmd net inputs → LeavesRun (run_over cmd net inputs) (Came line) counts between)
+      → Ran cmd line counts (lines_at image names job (Ok (record { end = end.Quiet; counts = counts }))) (about_image image names job)
+  some_ran line counts matched within leaves = record {
+    net = net;
+    is_to_run = to_run matched;
+    leaves = λ inputs given. ended (run_over cmd net inputs) between new only line counts (leaves inputs given);
+    within = within;
+    certified = count_none image.uncertified.items;
+    are_certified = certified;
+    about_is = about_is;
+    lines_are = refl;
+  }
+
+  how_ended : (how : RunEnd) (counts : Counts) → AreMatched (asks.in_names image.flat ++ asks.out_names image.flat) (asks.words_of job) → counts.firings ≤ job.budget
+      → EndIsCaused image.flat.links.items (asks.in_names image.flat) (asks.out_names image.flat) (asks.words_of job) feeds feeds_new old between how
+      → ((inputs : List (List ℕ)) → AreGiven cmd net inputs → LeavesRun (run_over cmd net inputs) (ending_of how) counts between)
+      → Comes cmd (status_at how counts.firings) (lines_at image names job (Ok (record { end = end.Quiet; counts = counts }))) (about_image image names job)
+  how_ended end.Quiet counts matched within caused leaves = record { counts = counts; ran = some_ran _ counts matched within leaves }
+  how_ended (end.Trapped inst action trap) counts matched within caused leaves = record { counts = counts; ran = some_ran _ counts matched within leaves }
+  how_ended (end.Stalled inst action link) counts matched within caused leaves = record { counts = counts; ran = some_ran _ counts matched within leaves }
+  how_ended end.Budget counts matched within caused leaves = record { counts = counts; ran = some_ran BudgetLine counts matched within leaves; firings_are = refl }
+  how_ended (end.ReadFault feed) counts matched within caused leaves = record {
+    net = net;
+    is_to_run = to_run matched;
+    how = inr (record {
+      counted = caused.0;
+      is_feed = subst (λ ls. IsFeedOf ls (port_names net.ins) (asks.words_of job) feed) (sym links_are)
+          (subst (λ ps. IsFeedOf image.flat.links.items ps (asks.words_of job) feed) (sym ins_are) caused.1);
+      counts = counts;
+      leaves = λ inputs given. cut (run_over cmd net inputs) between new only counts (leaves inputs given);
+      within = within;
+    });
+    about_is = about_is;
+  }
+  how_ended (end.WriteFault channel) counts matched within caused leaves = record {
+    net = net;
+    is_to_run = to_run matched;
+    counted = risen_to old.faults between.faults new.faults caused.0 only.faults_stay;
+    is_channel = subst (λ ps. IsChannelOf ps (asks.words_of job) channel) (sym outs_are) caused.1;
+    leaves = λ inputs given. broken (run_over cmd net inputs) between new only (leaves inputs given);
+  }
+
+  -- nothing was opened
+  nothing : (feeds_new ≡ feeds) × (between ≡ old) → OpenedNothing cmd
+  nothing same = record { same_feeds = same.0; only_report = subst (λ cs. WritesOnlyAt 0 cs new) same.1 only }
+
+  pub comes : (came : Result Outcome JobFault) → CellsRan image job feeds feeds_new old between came → Comes cmd (status_of came) (lines_at image names job came) (about_image image names job)
+  comes (Ok outcome) ran = how_ended outcome.end outcome.counts ran.matched ran.within ran.faults (leaves_of (Ok outcome) ran)
+  comes (Err (fault.Refused r)) ran = (
+    subst (IsRefused cmd r) (sym about_is) (by_words (record {
+      files = files;
+      names_are = refl;
+      wrong = subst (λ ps. IsWrongWord ps (asks.words_of job) r) (sym (ports_are image actors net has)) ran.refused;
+    })),
+    nothing ran.unstarted,
+  )
+  comes (Err fault.Memory) ran = nothing ran.unstarted
+  comes (Err (fault.ReadFault feed)) ran = record {
+    net = net;
+    is_to_run = to_run ran.matched;
+    how = inl (record {
+      fails = subst (λ ls. IsUnread ls (port_names net.ins) (asks.words_of job) feeds feeds_new feed) (sym links_are)
+          (subst (λ ps. IsUnread image.flat.links.items ps (asks.words_of job) feeds feeds_new feed) (sym ins_are) ran.unread.0);
+      only_report = subst (λ cs. WritesOnlyAt 0 cs new) ran.unread.1 only;
+    });
+    about_is = about_is;
+  }
+  comes (Err (fault.WriteFault channel)) ran = record {
+    net = net;
+    is_to_run = to_run ran.matched;
+    counted = risen_to old.faults between.faults new.faults
+        (is_counted (string_bytes job.trace) (asks.out_names image.flat) (asks.words_of job) channel old between ran.unwritten.fails) only.faults_stay;
+    is_channel = subst (λ ps. IsChannelOf ps (asks.words_of job) channel) (sym outs_are)
+        (is_one_of (string_bytes job.trace) (asks.out_names image.flat) (asks.words_of job) channel old between ran.unwritten.fails);
+    leaves = λ inputs given. broken (run_over cmd net inputs) between new only (leaves_of (Err (fault.WriteFault channel)) ran inputs given);
+  }

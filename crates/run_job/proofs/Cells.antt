@@ -1,0 +1,163 @@
+-- The cells of an image are those of its source network, and can be run.
+use Rattle.std.proofs.Common.{◌≡◌, ℕ, ◌≤◌, List, [], ◌∷◌, length, map, refl, sym, ap, subst, ◌∙◌, arith}
+use Rattle.std.specs.Prelude.{string_bytes}
+use Rattle.std.specs.Arc.{arc_value}
+use Rattle.std.proofs.lemmas.List.{length-map}
+use Rattle.rvc_words.specs.Words.{IsWithin, job_text}
+use Rattle.rvc_words.specs.declared.job.Job.{Job}
+use Rattle.cal_model.specs.Actor.{Actor}
+use Rattle.cal_model.specs.Selection.{State as ActorState}
+use Rattle.lowered_actor.specs.Actor as coded
+use Rattle.lowered_actor.specs.Meaning as lowered
+use Rattle.net_model.specs.declared.wiring.Port.{Port}
+use Rattle.net_model.specs.declared.wiring.Wiring.{Wiring}
+use Rattle.net_model.specs.Cell.{Cell}
+use Rattle.net_model.specs.Network.{Leaf, Network}
+use Rattle.net_model.specs.Ready.{given_state, port_of}
+use Rattle.net_model.specs.State.{State, start_of}
+use Rattle.net_model.specs.Alike.{StatesAlike}
+use Rattle.network_runner.specs.Asking.{CanRun}
+use Rattle.round_runner.specs.declared.outcome.Plan.{Plan}
+use Rattle.source_network.specs.Actors.{head_of}
+use Rattle.fnl_flatten.proofs.Wired.{flat_wired}
+use Rattle.fnl_flatten.specs.declared.flat.Flat.{Flat}
+use Rattle.network_cells.specs.Cells.{AreCellsOf}
+use Rattle.network_cells.specs.Runnable.{CanBeWired, CanRunWith, IsCodedNetwork, IsPlanFor, IsWiringOf}
+use Rattle.network_cells.specs.SourceRuns.{LoweredCanBeWired}
+use Rattle.network_cells.specs.Sources.{IsActorNetwork, StandForActors, lowered_leaves, lowered_network, may_come_at, stands_at}
+use Rattle.network_cells.proofs.Lawlike.{starts_alike}
+use Rattle.network_cells.proofs.LikeSources.{lowered_alike, lowered_flat, matched, same_behaviours}
+use Rattle.network_cells.proofs.Readied.{at_start, both_maps}
+use Rattle.rvc_engine.specs.Built.{HasImage, HaveCodes}
+use Rattle.rvc_engine.specs.Checked.{AreLeavesOf}
+use Rattle.rvc_engine.specs.declared.image.Image.{Image}
+use Rattle.network_job.specs.Network as asks
+use Rattle.network_job.specs.Network.{CanRunAll, plan_of}
+
+pub stand_for : (actors : List Actor) (codes : List coded.Actor) → HaveCodes actors codes → StandForActors actors codes
+stand_for [] [] have = tt
+stand_for [] (code ∷ codes) have = absurd have
+stand_for (actor ∷ actors) [] have = absurd have
+stand_for (actor ∷ actors) (code ∷ codes) have = (have.0, stand_for actors codes have.1)
+
+-- ---- counts, and what leaves are called
+
+many_codes : (actors : List Actor) (codes : List coded.Actor) → HaveCodes actors codes → length codes ≡ length actors
+many_codes [] [] have = refl
+many_codes [] (code ∷ codes) have = absurd have
+many_codes (actor ∷ actors) [] have = absurd have
+many_codes (actor ∷ actors) (code ∷ codes) have = (let e = many_codes actors codes have.1 in omega (arith, e))
+
+record Called (paths classes : List (List ℕ)) (actors : List Actor) (leaves : List (Leaf ActorState)) : Type 0 where
+  paths_are : map (λ leaf. leaf.path) leaves ≡ paths
+  classes_are : map (λ leaf. leaf.class) leaves ≡ classes
+  many : length leaves ≡ length actors
+
+called : (paths classes : List (List ℕ)) (actors : List Actor) (leaves : List (Leaf ActorState)) → AreLeavesOf paths classes actors leaves → Called paths classes actors leaves
+called [] [] [] [] are = record { paths_are = refl; classes_are = refl; many = refl }
+called [] [] [] (x ∷ xs) are = absurd are
+called [] [] (a ∷ actors) xs are = absurd are
+called [] (c ∷ classes) actors xs are = absurd are
+called (p ∷ paths) [] actors xs are = absurd are
+called (p ∷ paths) (c ∷ classes) [] xs are = absurd are
+called (p ∷ paths) (c ∷ classes) (a ∷ actors) [] are = absurd are
+called (p ∷ paths) (c ∷ classes) (a ∷ actors) (x ∷ xs) are =
+    let more = called paths classes actors xs are.1 in
+    record {
+      paths_are = ap (λ q. q ∷ map (λ leaf. leaf.path) xs) are.0.path_is ∙ ap (λ qs. p ∷ qs) more.paths_are;
+      classes_are = ap (λ q. q ∷ map (λ leaf. leaf.class) xs) are.0.class_is ∙ ap (λ qs. c ∷ qs) more.classes_are;
+      many = (let e = more.many in omega (arith, e));
+    }
+
+lowered_paths : (codes : List coded.Actor) (leaves : List (Leaf ActorState)) → length codes ≡ length leaves → map (λ leaf. leaf.path) (lowered_leaves codes leaves) ≡ map (λ leaf. leaf.path) leaves
+lowered_paths [] [] same = refl
+lowered_paths [] (leaf ∷ leaves) same = absurd (omega (arith, same))
+lowered_paths (code ∷ codes) [] same = absurd (omega (arith, same))
+lowered_paths (code ∷ codes) (leaf ∷ leaves) same = ap (λ ps. leaf.path ∷ ps) (lowered_paths codes leaves (omega (arith, same)))
+
+lowered_classes : (codes : List coded.Actor) (leaves : List (Leaf ActorState)) → length codes ≡ length leaves → map (λ leaf. leaf.class) (lowered_leaves codes leaves) ≡ map (λ leaf. leaf.class) leaves
+lowered_classes [] [] same = refl
+lowered_classes [] (leaf ∷ leaves) same = absurd (omega (arith, same))
+lowered_classes (code ∷ codes) [] same = absurd (omega (arith, same))
+lowered_classes (code ∷ codes) (leaf ∷ leaves) same = ap (λ ps. leaf.class ∷ ps) (lowered_classes codes leaves (omega (arith, same)))
+
+module _ (image : Image) (actors : List Actor) (net : Network ActorState) (has : HasImage image actors net) (is : IsActorNetwork actors net) where
+  codes : List coded.Actor
+  codes = map arc_value image.codes.items
+
+  pub stand : StandForActors actors (map arc_value image.codes.items)
+  stand = stand_for actors (map arc_value image.codes.items) has.codes
+
+  leaves_called : Called (map string_bytes image.flat.paths.items) (map string_bytes image.flat.classes.items) actors net.leaves
+  leaves_called = called (map string_bytes image.flat.paths.items) (map string_bytes image.flat.classes.items) actors net.leaves (has.is_net).leaves
+
+  pub many_leaves : length (map arc_value image.codes.items) ≡ length net.leaves
+  many_leaves = many_codes actors (map arc_value image.codes.items) has.codes ∙ sym leaves_called.many
+
+  coded_network : IsCodedNetwork (map arc_value image.codes.items) (lowered_network (map arc_value image.codes.items) net)
+  coded_network =
+      let all = matched actors (map arc_value image.codes.items) net.leaves stand is.leaves in
+      record {
+        behaviours = same_behaviours all;
+        wired = flat_wired is.tree (map head_of actors) (lowered_network (map arc_value image.codes.items) net) (lowered_flat actors (map arc_value image.codes.items) net is.tree (map head_of actors) all is.flat);
+      }
+
+  -- a wiring of the flat network is one of the network
+  wired_too : (wiring : Wiring) → asks.IsWiringOf image.flat wiring → IsWiringOf net wiring
+  wired_too wiring by = record {
+    links = (has.is_net).wiring.links ∙ sym by.links;
+    ins = (has.is_net).wiring.ins ∙ sym by.ins;
+    outs = (has.is_net).wiring.outs ∙ sym by.outs;
+    ins_told = by.ins_told ∙ same_many image.flat.ins.items wiring.ins.items by.ins;
+    outs_told = by.outs_told ∙ same_many image.flat.outs.items wiring.outs.items by.outs;
+  }
+    where
+      same_many : (one other : List Port) → map port_of other ≡ map port_of one → length one ≡ length other
+      same_many one other same = sym (length-map one port_of) ∙ (ap length (sym same) ∙ length-map other port_of)
+
+  module _ (job : Job) (within : IsWithin (job_text job)) (cells : List (Cell lowered.ActorState))
+      (are : AreCellsOf (map arc_value image.codes.items) image.flat.links.items job.burst job.grow cells) where
+    plan_for : IsPlanFor job.burst job.grow (plan_of job)
+    plan_for = record {
+      same_burst = refl;
+      same_grow = refl;
+      few_grown = within.grow_most;
+      bursts = (within.burst_least, within.burst_most);
+      workers = (within.workers_least, within.workers_most);
+    }
+
+    many_cells : length cells ≡ length net.leaves
+    many_cells = are.one_each ∙ many_leaves
+
+    many_paths : length image.flat.paths.items ≡ length net.leaves
+    many_paths = sym (length-map image.flat.paths.items string_bytes) ∙ (ap length (sym leaves_called.paths_are) ∙ length-map net.leaves (λ leaf. leaf.path))
+
+    many_classes : length image.flat.classes.items ≡ length net.leaves
+    many_classes = sym (length-map image.flat.classes.items string_bytes) ∙ (ap length (sym leaves_called.classes_are) ∙ length-map net.leaves (λ leaf. leaf.class))
+
+    pub can_run_all : LoweredCanBeWired → CanRunWith (map arc_value image.codes.items) image.flat.links.items job.burst job.grow cells → CanRunAll cells image.flat (plan_of job)
+    can_run_all law can = record {
+      can_run = λ wiring by. can wiring (plan_of job) by.links (law actors (map arc_value image.codes.items) net wiring is stand (wired_too wiring by)) plan_for;
+      paths = many_paths ∙ sym many_cells;
+      classes = many_classes ∙ sym many_cells;
+    }
+
+    cells_of : AreCellsOf (map arc_value image.codes.items) net.links job.burst job.grow cells
+    cells_of = subst (λ links. AreCellsOf (map arc_value image.codes.items) links job.burst job.grow cells) (sym (has.is_net).wiring.links) are
+
+    pub starts : (inputs : List (List ℕ)) → StatesAlike (stands_at actors) (may_come_at actors) (lowered_network (map arc_value image.codes.items) net)
+        (given_state (lowered_network (map arc_value image.codes.items) net) cells inputs) (start_of net inputs)
+    starts inputs =
+        subst (λ s. StatesAlike (stands_at actors) (may_come_at actors) (lowered_network (map arc_value image.codes.items) net) s (start_of net inputs))
+        (sym (at_start (map arc_value image.codes.items) (lowered_network (map arc_value image.codes.items) net) job.burst job.grow cells coded_network cells_of inputs))
+        (starts_alike (stands_at actors) (may_come_at actors) (lowered_network (map arc_value image.codes.items) net) net (lowered_alike actors (map arc_value image.codes.items) net is stand) inputs)
+
+    pub is_network : asks.IsNetworkOf (lowered_network (map arc_value image.codes.items) net) cells image.flat
+    is_network = record {
+      actors = coded_network.behaviours ∙ sym (both_maps (λ cell. cell.actor) lowered.behaviour cells (map arc_value image.codes.items) are.one_each (λ k cell code at there. (are.starts k code cell there at).is_of));
+      paths = lowered_paths (map arc_value image.codes.items) net.leaves many_leaves ∙ leaves_called.paths_are;
+      classes = lowered_classes (map arc_value image.codes.items) net.leaves many_leaves ∙ leaves_called.classes_are;
+      links = (has.is_net).wiring.links;
+      ins = (has.is_net).wiring.ins;
+      outs = (has.is_net).wiring.outs;
+    }

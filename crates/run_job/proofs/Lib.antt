@@ -1,0 +1,6 @@
+mod Sourced
+mod Cells
+mod Leaving
+mod Reported
+mod Answering
+mod Answered

@@ -1,0 +1,86 @@
+-- The report is put behind what a run leaves, and changes nothing of that.
+use Rattle.std.proofs.Common.{◌≡◌, ◌≢◌, ◌⊎◌, inl, inr, ⊎_elim, ℕ, ◌+◌, ◌≤◌, true, List, [], ◌∷◌, ◌++◌, sym, ap, ◌∙◌, arith}
+use Rattle.rvc_io.specs.Channels.{Channels, WritesOnlyAt}
+use Rattle.rvc_io.specs.Count.{HasRisen}
+use Rattle.trace_text.specs.declared.line.Line.{Line}
+use Rattle.net_model.specs.declared.wiring.Counts.{Counts}
+use Rattle.net_model.specs.State.{State}
+use Rattle.network_job.specs.Leaving.{HasEnded, Holds, HoldsPrefix, Setting, WasBroken, WasCut, Wrote, WrotePrefixes}
+
+-- ---- counts of faults
+
+pub risen_from : (old between new : ℕ) → old ≤ between → HasRisen between new → HasRisen old new
+risen_from old between new before (inl less) = inl (omega (arith, before, less))
+risen_from old between new before (inr last) = inr last
+
+pub risen_to : (old between new : ℕ) → HasRisen old between → between ≤ new → HasRisen old new
+risen_to old between new (inl less) behind = inl (omega (arith, less, behind))
+risen_to old between new (inr last) behind = inr (omega (arith, last, behind))
+
+-- ---- channels
+
+module _ {X : Type 0} (run : Setting X) (old new : Channels) (only : WritesOnlyAt 0 old new) where
+  one : 1 ≢ 0
+  one e = absurd (omega (arith, e))
+
+  two : (p : ℕ) → 2 + p ≢ 0
+  two p e = absurd (omega (arith, e))
+
+  holds : (channel : ℕ) (bytes : List ℕ) → channel ≢ 0 → Holds old channel bytes → Holds new channel bytes
+  holds channel bytes other h = record {
+    opened = only.same_open channel ∙ h.opened;
+    held = λ tells. (let told = sym only.same_telling ∙ tells in only.same_held told channel other ∙ h.held told);
+  }
+
+  holds_prefix : (channel : ℕ) (bytes : List ℕ) → channel ≢ 0 → HoldsPrefix old channel bytes → HoldsPrefix new channel bytes
+  holds_prefix channel bytes other h open_now tells =
+      let told = sym only.same_telling ∙ tells in
+      let was = h (sym (only.same_open channel) ∙ open_now) told in
+      (was.0, was.1 ∙ again (old.held channel) (new.held channel) was.0 (only.same_held told channel other))
+    where
+      again : (one other rest : List ℕ) → other ≡ one → one ++ rest ≡ other ++ rest
+      again one other rest same = ap (λ xs. xs ++ rest) (sym same)
+
+  wrote : (lines : List Line) (last : State X) → Wrote run lines last old → Wrote run lines last new
+  wrote lines last w = record {
+    trace = holds 1 _ one w.trace;
+    outputs = λ p file named. holds (2 + p) _ (two p) (w.outputs p file named);
+    unnamed = λ p none. only.same_open (2 + p) ∙ w.unnamed p none;
+  }
+
+  wrote_prefixes : (lines : List Line) (last : State X) → WrotePrefixes run lines last old → WrotePrefixes run lines last new
+  wrote_prefixes lines last w = record {
+    trace = holds_prefix 1 _ one w.trace;
+    outputs = λ p file named. holds_prefix (2 + p) _ (two p) (w.outputs p file named);
+    unnamed = λ p none. only.same_open (2 + p) ∙ w.unnamed p none;
+  }
+
+  pub ended : (line : Line) (counts : Counts) → HasEnded run line counts old → HasEnded run line counts new
+  ended line counts h = record {
+    before = h.before;
+    last = h.last;
+    paced = h.paced;
+    permitted = h.permitted;
+    wrote = wrote (h.before ++ line ∷ []) h.last h.wrote;
+    counted = h.counted;
+    spent = h.spent;
+  }
+
+  pub cut : (counts : Counts) → WasCut run counts old → WasCut run counts new
+  cut counts h = record {
+    lines = h.lines;
+    reached = h.reached;
+    begun = h.begun;
+    permitted = h.permitted;
+    wrote = wrote h.lines h.reached.state h.wrote;
+    counted = h.counted;
+  }
+
+  pub broken : WasBroken run old → WasBroken run new
+  broken h = record {
+    lines = h.lines;
+    last = h.last;
+    begun_or_paced = h.begun_or_paced;
+    permitted = h.permitted;
+    wrote = wrote_prefixes h.lines h.last h.wrote;
+  }

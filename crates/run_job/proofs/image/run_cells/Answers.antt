@@ -1,0 +1,43 @@
+use Rattle.std.proofs.Common.{ap, map, subst}
+use Rattle.std.specs.Arc.{arc_value}
+use Rattle.actor_cell.specs.Core.{seen}
+use Rattle.network_cells.specs.Cells.{AreCellsOf}
+use Rattle.network_cells.specs.Runnable.{CanRunWith}
+use Rattle.run_job.proofs.Cells.{can_run_all}
+use Rattle.run_job.proofs.Leaving.{source_leaves, when_unstarted, when_unread}
+use Rattle.run_job.proofs.image.run_cells.Goals as goal
+
+pub run_network-requires-clause-can_run : goal.run_network-requires-clause-can_run
+run_network-requires-clause-can_run g c κs within =
+    let image = c.args.image.now in
+    let job = c.args.job.now in
+    let cells = map seen c.in-Ok.cells.items in
+    let are : AreCellsOf (map arc_value image.codes.items) image.flat.links.items job.burst job.grow cells =
+    subst (λ links. AreCellsOf (map arc_value image.codes.items) links job.burst job.grow cells) c.as_slice-2.ensures.value
+    (subst (λ codes. AreCellsOf (map arc_value codes) c.as_slice-2.result.now job.burst job.grow cells) c.as_slice.ensures.value c.in-Ok.ensures.cells) in
+    let can : CanRunWith (map arc_value image.codes.items) image.flat.links.items job.burst job.grow cells =
+    subst (λ links. CanRunWith (map arc_value image.codes.items) links job.burst job.grow cells) c.as_slice-2.ensures.value
+    (subst (λ codes. CanRunWith (map arc_value codes) c.as_slice-2.result.now job.burst job.grow cells) c.as_slice.ensures.value c.in-Ok.ensures.can_run) in
+    can_run_all image c.requires.source.actors c.requires.source.net c.requires.source.has c.requires.source.is job c.requires.within cells are c.cells_run_as_sources.ensures.wired can
+
+pub returns : goal.returns
+returns g c =
+    let image = c.args.image.now in
+    let job = c.args.job.now in
+    let cells = map seen c.in-Ok.cells.items in
+    let are : AreCellsOf (map arc_value image.codes.items) image.flat.links.items job.burst job.grow cells =
+    subst (λ links. AreCellsOf (map arc_value image.codes.items) links job.burst job.grow cells) c.as_slice-2.ensures.value
+    (subst (λ codes. AreCellsOf (map arc_value codes) c.as_slice-2.result.now job.burst job.grow cells) c.as_slice.ensures.value c.in-Ok.ensures.cells) in
+    record {
+      leaves = λ actors net inputs has is given. source_leaves image actors net has is job c.requires.within cells are
+          (g.F.Feeds.feeds c.args.feeds.now) (g.D.Drains.channels c.run_network.new.drains) c.run_network.result inputs c.run_network.ensures.leaves given;
+      within = c.run_network.ensures.within;
+      matched = c.run_network.ensures.matched;
+      refused = c.run_network.ensures.refused;
+      unstarted = when_unstarted g.F.Feeds.feeds g.D.Drains.channels c.args.feeds.now c.run_network.new.feeds c.args.drains.now c.run_network.new.drains c.run_network.result c.run_network.ensures.unstarted;
+      unread = when_unread g.D.Drains.channels c.args.drains.now c.run_network.new.drains c.run_network.result _ c.run_network.ensures.unread;
+      unwritten = c.run_network.ensures.unwritten;
+      faults = c.run_network.ensures.faults;
+      report = c.run_network.ensures.report;
+      others = c.run_network.ensures.other_channels;
+    }

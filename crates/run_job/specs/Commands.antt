@@ -1,0 +1,117 @@
+-- A command that runs the network of a library: what it met, and which network that is.
+-- Trusted: part of what a promise means.
+use Rattle.std.specs.Prelude.{◌≡◌, ℕ, ◌+◌, List, [], ◌∷◌, Option, None, Some, map, length, string_bytes}
+use Rattle.rvc_io.specs.Channels.{Channels, WritesOnlyAt}
+use Rattle.rvc_io.specs.Feeds.{Inputs}
+use Rattle.rvc_words.specs.Words.{PortText, port_text}
+use Rattle.rvc_words.specs.declared.job.Job.{Job}
+use Rattle.cal_model.specs.Actor.{Actor}
+use Rattle.cal_model.specs.Selection.{State}
+use Rattle.net_model.specs.Network.{NetPort, Network}
+use Rattle.net_model.specs.State.{start_of}
+use Rattle.actor_files.specs.Loading.{Counts, Library, TellsAll}
+use Rattle.source_network.specs.Files.{Asked, Read, class_asked, files_of}
+use Rattle.source_network.specs.Source.{IsSourceNetwork}
+use Rattle.port_words.specs.Matching.{AreMatched}
+use Rattle.conforming_jobs.specs.Conforming.{Conforms, names_of_ports}
+use Rattle.determinacy_cert.specs.declared.fault.CertFault.{CertFault}
+use Rattle.rvc_engine.specs.Built.{AreJudged}
+use Rattle.rvc_engine.specs.Checked.{AreRead}
+use Rattle.rvc_engine.specs.Top.{top_asked}
+use Rattle.network_job.specs.Files.{AreInputs}
+use Rattle.network_job.specs.Leaving.{Setting, setting_of}
+use Rattle.run_report.specs.About.{About}
+
+-- ---- the command
+
+-- What a command that runs a job met: the library that it read, how often that missed a file or failed before the command
+-- and after it, and the feeds and the channels before and after.
+pub record Command : Type 0 where
+  pub job : Job
+  pub library : Library
+  pub misses : Counts
+  pub faults : Counts
+  pub feeds : Inputs
+  pub feeds_after : Inputs
+  pub channels : Channels
+  pub channels_after : Channels
+
+-- the top of its job, as what is asked of the library, and its port words
+abbrev pub top_of : Command → Asked
+top_of cmd = top_asked (string_bytes cmd.job.top)
+
+abbrev pub words_of : Command → List PortText
+words_of cmd = map port_text cmd.job.ports.items
+
+-- nothing was opened, and no channel was written but that of the report
+pub record OpenedNothing (cmd : Command) : Type 0 where
+  pub same_feeds : cmd.feeds_after ≡ cmd.feeds
+  pub only_report : WritesOnlyAt 0 cmd.channels cmd.channels_after
+
+-- ---- its network
+
+-- the names of ports of a network
+abbrev pub port_names : List NetPort → List (List ℕ)
+port_names ports = map (λ port. port.name) ports
+
+-- Files were read, these are their names, and they mean this network from the top down. They are all that the top needs,
+-- if the library tells of each name.
+pub record HasFiles (cmd : Command) (net : Network State) : Type 0 where
+  pub names : List (List ℕ)
+  pub reads : List Read
+  pub are_read : AreRead cmd.library (top_of cmd) names reads
+  pub means : IsSourceNetwork (files_of reads) (class_asked (top_of cmd)) net
+
+-- .. and each port word names a port of its own: this is the network to be run, with which the library and the words
+-- conform
+pub record IsToRun (cmd : Command) (net : Network State) : Type 0 where
+  pub files : HasFiles cmd net
+  pub matched : AreMatched (names_of_ports net) (words_of cmd)
+  pub conforms : TellsAll cmd.library → Conforms cmd.library (top_of cmd) (words_of cmd) net
+
+-- its inputs have these bytes: those that feeds tell under the files that words name, and none if no word names one
+abbrev pub AreGiven : Command → Network State → List (List ℕ) → Type 0
+AreGiven cmd net inputs =
+    AreInputs inputs net.links (port_names net.ins) (words_of cmd) cmd.feeds
+
+-- the run that is to be made over these bytes, by the round, the burst, the budget and the growth that the job asks for
+abbrev pub run_over : Command → Network State → List (List ℕ) → Setting State
+run_over cmd net inputs = setting_of net inputs (start_of net inputs) cmd.job
+
+-- ---- its report
+
+-- how many of these are nothing
+abbrev pub count_none : List (Option CertFault) → ℕ
+count_none [] = 0
+count_none (None ∷ said) = count_none said + 1
+count_none (Some fault ∷ said) = count_none said
+
+-- so many of these actors are certified; of each other one there is a first failure of the rule of certification
+pub record AreCertified (actors : List Actor) (count : ℕ) : Type 0 where
+  pub said : List (Option CertFault)
+  pub judged : AreJudged actors said
+  pub counted : count ≡ count_none said
+
+-- what a report speaks of, if no network is known: the files, the trace and the words
+abbrev pub about_files : Command → (names : List (List ℕ)) → About
+about_files cmd names = record {
+  files = names;
+  trace = string_bytes cmd.job.trace;
+  words = words_of cmd;
+  instances = 0;
+  links = [];
+  ins = [];
+  outs = [];
+}
+
+-- .. and if it is
+abbrev pub about_net : Command → (names : List (List ℕ)) → Network State → About
+about_net cmd names net = record {
+  files = names;
+  trace = string_bytes cmd.job.trace;
+  words = words_of cmd;
+  instances = length net.leaves;
+  links = net.links;
+  ins = port_names net.ins;
+  outs = port_names net.outs;
+}

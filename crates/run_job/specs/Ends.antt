@@ -1,0 +1,180 @@
+-- To what a command comes that runs the network of a library, and what it leaves: a case for each status.
+-- Trusted: part of what a promise means.
+use Rattle.std.specs.Prelude.{◌≡◌, ◌⊎◌, ℕ, ◌≤◌, List, [], Some}
+use Rattle.rvc_base.specs.Rules.{not_built}
+use Rattle.rvc_base.specs.declared.refusal.Refusal.{Refusal}
+use Rattle.rvc_io.specs.Channels.{Appends, WritesOnlyAt}
+use Rattle.rvc_io.specs.Count.{HasRisen}
+use Rattle.channel_writer.specs.Held.{AppendsFront}
+use Rattle.trace_text.specs.declared.line.Line.{Line}
+use Rattle.trace_text.specs.declared.line.Line.TheVariants.{Quiet as QuietLine, Trap as TrapLine, Stall as StallLine, Budget as BudgetLine}
+use Rattle.cal_model.specs.Selection.{State}
+use Rattle.net_model.specs.declared.wiring.Counts.{Counts}
+use Rattle.net_model.specs.Network.{Network}
+use Rattle.actor_files.specs.Loading.{TellsAll}
+use Rattle.network_files.specs.Loading.{IsFaulted}
+use Rattle.port_words.specs.Matching.{IsWrongWord}
+use Rattle.port_words.specs.Opening.{FeedFails, feeds_of}
+use Rattle.conforming_jobs.specs.Conforming.{names_of_ports}
+use Rattle.rvc_engine.specs.NotBuilt.{LacksForm}
+use Rattle.rvc_engine.specs.Refused.{RefusesTop}
+use Rattle.network_job.specs.Files.{IsChannelOf, IsFeedOf}
+use Rattle.network_job.specs.Leaving.{HasEnded, WasBroken, WasCut}
+use Rattle.run_report.specs.About.{About}
+use Rattle.run_report.specs.Report.{report, run_lines}
+use Rattle.run_report.specs.declared.status.ReadAt.TheVariants.{File, Feed}
+use Rattle.run_report.specs.declared.status.Status.{Status}
+use Rattle.run_report.specs.declared.status.Status.TheVariants as status
+use Rattle.run_job.specs.Commands.{AreCertified, AreGiven, Command, HasFiles, IsToRun, OpenedNothing, about_files, about_net, port_names, run_over, top_of, words_of}
+
+-- ---- a run that came to its end
+
+-- The network was run until this line. Whatever bytes the inputs have: the trace is the text of its paced lines, of which
+-- this is the last, each output that has a file has the bytes of what was sent to it, and the numbers count these lines. No
+-- more firings were made than the budget permits. The report has these numbers, and how many actors are certified.
+pub record Ran (cmd : Command) (end : Line) (counts : Counts) (lines : List ℕ) (about : About) : Type 0 where
+  pub net : Network State
+  pub is_to_run : IsToRun cmd net
+  pub leaves : (inputs : List (List ℕ)) → AreGiven cmd net inputs
+      → HasEnded (run_over cmd net inputs) end counts cmd.channels_after
+  pub within : counts.firings ≤ cmd.job.budget
+  pub certified : ℕ
+  pub are_certified : AreCertified is_to_run.files.means.actors certified
+  pub about_is : about ≡ about_net cmd is_to_run.files.names net
+  pub lines_are : lines ≡ run_lines about (Some certified) counts
+
+-- .. if its numbers are some
+pub record RanSome (cmd : Command) (end : Line) (lines : List ℕ) (about : About) : Type 0 where
+  pub counts : Counts
+  pub ran : Ran cmd end counts lines about
+
+-- .. to its budget: so many firings were made
+pub record RanOut (cmd : Command) (firings : ℕ) (lines : List ℕ) (about : About) : Type 0 where
+  pub counts : Counts
+  pub ran : Ran cmd BudgetLine counts lines about
+  pub firings_are : firings ≡ counts.firings
+
+-- ---- a run that didn't
+
+-- A feed of the network couldn't be opened, which was counted: those before it were, and no channel was.
+pub record FeedUnopened (cmd : Command) (net : Network State) (feed : ℕ) : Type 0 where
+  pub fails : FeedFails (feeds_of net.links (port_names net.ins) (words_of cmd)) feed cmd.feeds
+      cmd.feeds_after
+  pub only_report : WritesOnlyAt 0 cmd.channels cmd.channels_after
+
+-- A feed couldn't be read, which was counted: the trace and the outputs have what begun lines give.
+pub record FeedBroke (cmd : Command) (net : Network State) (feed : ℕ) : Type 0 where
+  pub counted : HasRisen cmd.feeds.faults cmd.feeds_after.faults
+  pub is_feed : IsFeedOf net.links (port_names net.ins) (words_of cmd) feed
+  pub counts : Counts
+  pub leaves : (inputs : List (List ℕ)) → AreGiven cmd net inputs
+      → WasCut (run_over cmd net inputs) counts cmd.channels_after
+  pub within : counts.firings ≤ cmd.job.budget
+
+pub record WasUnread (cmd : Command) (feed : ℕ) (about : About) : Type 0 where
+  pub net : Network State
+  pub is_to_run : IsToRun cmd net
+  pub how : FeedUnopened cmd net feed ⊎ FeedBroke cmd net feed
+  pub about_is : about ≡ about_net cmd is_to_run.files.names net
+
+-- The trace's channel or that of an output couldn't be opened or written, which was counted: each that was opened has a
+-- prefix of what begun or paced lines give.
+pub record WasUnwritten (cmd : Command) (channel : ℕ) : Type 0 where
+  pub net : Network State
+  pub is_to_run : IsToRun cmd net
+  pub counted : HasRisen cmd.channels.faults cmd.channels_after.faults
+  pub is_channel : IsChannelOf (port_names net.outs) (words_of cmd) channel
+  pub leaves : (inputs : List (List ℕ)) → AreGiven cmd net inputs
+      → WasBroken (run_over cmd net inputs) cmd.channels_after
+
+-- ---- no run
+
+-- a job of more workers than one isn't built yet: the refusal is of this rule, at the command line
+pub record AsksForWorkers (cmd : Command) (r : Refusal) : Type 0 where
+  pub many : 2 ≤ cmd.job.workers
+  pub rule : r.rule ≡ not_built
+  pub file : r.place.file ≡ 0
+  pub offset : r.place.offset ≡ 0
+
+-- The files that the top needs break a rule, or mean a network of which an actor has a form without code. The file of the
+-- refusal is one of these names.
+pub record BreaksFiles (cmd : Command) (names : List (List ℕ)) (r : Refusal) : Type 0 where
+  pub why : TellsAll cmd.library
+      → RefusesTop cmd.library (top_of cmd) cmd.misses names r ⊎ LacksForm cmd.library (top_of cmd) names r
+
+-- the first port word that names no port of the network, or one that a word before it names
+pub record HasWrongWord (cmd : Command) (names : List (List ℕ)) (net : Network State) (r : Refusal) : Type 0 where
+  pub files : HasFiles cmd net
+  pub names_are : names ≡ files.names
+  pub wrong : IsWrongWord (names_of_ports net) (words_of cmd) r
+
+-- Why the job is refused.
+pub data IsRefused (cmd : Command) (r : Refusal) : About → Type 0 where
+  by_workers : AsksForWorkers cmd r → IsRefused cmd r (about_files cmd [])
+  by_files : {names : List (List ℕ)} → BreaksFiles cmd names r
+      → IsRefused cmd r (about_files cmd names)
+  by_words : {names : List (List ℕ)} {net : Network State} → HasWrongWord cmd names net r
+      → IsRefused cmd r (about_net cmd names net)
+
+-- the reading of a file failed, which was counted
+pub record FileUnread (cmd : Command) (file : ℕ) (about : About) : Type 0 where
+  pub counted : HasRisen cmd.faults.old cmd.faults.new
+  pub names : List (List ℕ)
+  pub told : TellsAll cmd.library → IsFaulted cmd.library (top_of cmd) file names
+  pub about_is : about ≡ about_files cmd names
+
+-- ---- each status
+
+-- What a command has come to, but for its report: with these lines of the verb, and speaking of this. It never ends by a
+-- status that isn't of runs.
+abbrev pub Comes : Command → Status → (lines : List ℕ) → About → Type 0
+Comes cmd status.Quiet lines about = RanSome cmd QuietLine lines about
+Comes cmd (status.Trapped inst action trap) lines about =
+    RanSome cmd (TrapLine inst.0 action.0 trap) lines about
+Comes cmd (status.Stalled inst action link) lines about =
+    RanSome cmd (StallLine inst.0 action.0 link.0) lines about
+Comes cmd (status.Budget firings) lines about = RanOut cmd firings lines about
+Comes cmd (status.ReadFault (Feed feed)) lines about = WasUnread cmd feed about
+Comes cmd (status.ReadFault (File file)) lines about =
+    FileUnread cmd file about × OpenedNothing cmd
+Comes cmd (status.WriteFault channel) lines about = WasUnwritten cmd channel
+Comes cmd (status.Refused r) lines about = IsRefused cmd r about × OpenedNothing cmd
+Comes cmd status.OutOfMemory lines about = OpenedNothing cmd
+Comes cmd status.Done lines about = ⊥
+Comes cmd (status.Usage cause) lines about = ⊥
+Comes cmd (status.NotRun number why) lines about = ⊥
+Comes cmd (status.Uncertified inst state first second reason) lines about = ⊥
+
+-- How a command is answered. Its report was put behind what channel 0 held, which is what the status says; or a put of it
+-- failed, which was counted, and channel 0 got a prefix of it: then the status is that of channel 0, whatever the command
+-- had come to.
+pub data IsAnswered (cmd : Command) : Status → Type 0 where
+  is_reported : {said : Status} {lines : List ℕ} {about : About} → Comes cmd said lines about
+      → Appends 0 cmd.channels cmd.channels_after (report lines about said)
+      → IsAnswered cmd said
+  is_unreported : {said : Status} {lines : List ℕ} {about : About} → Comes cmd said lines about
+      → AppendsFront 0 cmd.channels cmd.channels_after (report lines about said)
+      → HasRisen cmd.channels.faults cmd.channels_after.faults
+      → IsAnswered cmd (status.WriteFault 0)
+
+-- ---- completeness
+
+-- The job asks for what isn't built yet: for more workers than one, or for an actor of a form for which there is no code.
+pub data IsUnbuilt (cmd : Command) (r : Refusal) : Type 0 where
+  of_workers : AsksForWorkers cmd r → IsUnbuilt cmd r
+  of_actor : {names : List (List ℕ)} → LacksForm cmd.library (top_of cmd) names r → IsUnbuilt cmd r
+
+-- this holds of the refusal, if the job is refused
+abbrev pub OnRefusal : Status → (Refusal → Type 0) → Type 0
+OnRefusal (status.Refused r) P = P r
+OnRefusal status.Quiet P = Unit {0}
+OnRefusal status.Done P = Unit {0}
+OnRefusal (status.Usage cause) P = Unit {0}
+OnRefusal (status.ReadFault at) P = Unit {0}
+OnRefusal (status.WriteFault channel) P = Unit {0}
+OnRefusal (status.Trapped inst action trap) P = Unit {0}
+OnRefusal (status.Stalled inst action link) P = Unit {0}
+OnRefusal (status.Budget firings) P = Unit {0}
+OnRefusal status.OutOfMemory P = Unit {0}
+OnRefusal (status.NotRun number why) P = Unit {0}
+OnRefusal (status.Uncertified inst state first second reason) P = Unit {0}

@@ -1,0 +1,89 @@
+//! Reports of commands that run a network, or tried to.
+
+ghost use Rattle.std.specs.Prelude.{◌≡◌, true};
+ghost use Rattle.run_report.specs.About.{about};
+ghost use Rattle.run_report.specs.Report.{last_line, report};
+ghost use Rattle.run_job.specs.Steps.{IsPut, about_image, about_words, lines_at, status_of};
+
+use crate::counting::count_none;
+use crate::status::{answered, status_of};
+use actor_files::Names;
+use network_job::{JobFault, Outcome};
+use run_report::{REPORT_CHANNEL, Status, Subject, report_end, report_run};
+use rvc_engine::Image;
+use rvc_io::Drains;
+use rvc_words::Job;
+
+/// What the report speaks of, before there is an image.
+fn files_subject<'a>(names: &'a Names, job: &'a Job) -> Subject<'a>
+    ensures { about result ≡ about_words names.entry.now job.entry.now }
+{
+    Subject {
+        files: names.files.as_slice(),
+        trace: job.trace.as_str(),
+        words: job.ports.as_slice(),
+        instances: 0,
+        links: &[],
+        ins: &[],
+        outs: &[],
+    }
+}
+
+/// What the report speaks of, with an image.
+fn image_subject<'a>(image: &'a Image, names: &'a Names, job: &'a Job) -> Subject<'a>
+    ensures { about result ≡ about_image image.entry.now names.entry.now job.entry.now }
+{
+    Subject {
+        files: names.files.as_slice(),
+        trace: job.trace.as_str(),
+        words: job.ports.as_slice(),
+        instances: image.codes.len() as u64,
+        links: image.flat.links.as_slice(),
+        ins: image.flat.ins.as_slice(),
+        outs: image.flat.outs.as_slice(),
+    }
+}
+
+/// Puts the last line of a command that has no image, and gives the status.
+pub(crate) fn report_unbuilt<D: Drains>(
+    said: Status,
+    names: &Names,
+    job: &Job,
+    drains: &mut D,
+) -> Status
+    requires { (D.channels drains.old).is_open REPORT_CHANNEL ≡ true }
+    ensures { IsPut said (last_line (about_words names.now job.now) said) (D.channels drains.old)
+        (D.channels drains.new) result }
+{
+    let subject = files_subject(names, job);
+    let put = report_end(&said, &subject, drains);
+    answered(said, put)
+}
+
+/// Puts the report of a run, or of what kept its rounds from going, and gives the status.
+pub(crate) fn report_came<D: Drains>(
+    image: &Image,
+    names: &Names,
+    job: &Job,
+    came: Result<Outcome, JobFault>,
+    drains: &mut D,
+) -> Status
+    requires { (D.channels drains.old).is_open REPORT_CHANNEL ≡ true }
+    ensures { IsPut (status_of came) (report (lines_at image.now names.now job.now came)
+        (about_image image.now names.now job.now) (status_of came)) (D.channels drains.old)
+        (D.channels drains.new) result }
+{
+    let said = status_of(&came);
+    let subject = image_subject(image, names, job);
+    let put = match &came {
+        Ok(outcome) => report_run(
+            &said,
+            &subject,
+            Some(count_none(image.uncertified.as_slice())),
+            &outcome.counts,
+            drains,
+        ),
+        Err(_) => report_end(&said, &subject, drains),
+    };
+    answered(said, put)
+}

@@ -1,0 +1,69 @@
+//! Statuses, from how runs end and from why nothing is run.
+
+ghost use Rattle.std.specs.Prelude.{◌≡◌};
+ghost use Rattle.run_job.specs.Steps.{answered, status_at, status_of, status_of_build, status_of_fault};
+
+use network_job::{JobFault, Outcome};
+use round_runner::RunEnd;
+use run_report::{REPORT_CHANNEL, ReadAt, Status};
+use rvc_engine::BuildFault;
+use rvc_io::Failed;
+
+/// The status of a run's end, after so many firings.
+fn status_at(end: RunEnd, firings: u64) -> Status
+    ensures { result ≡ status_at end firings }
+{
+    match end {
+        RunEnd::Quiet => Status::Quiet,
+        RunEnd::Trapped { inst, action, trap } => Status::Trapped { inst, action, trap },
+        RunEnd::Stalled { inst, action, link } => Status::Stalled { inst, action, link },
+        RunEnd::Budget => Status::Budget { firings },
+        RunEnd::ReadFault { feed } => Status::ReadFault(ReadAt::Feed(feed)),
+        RunEnd::WriteFault { channel } => Status::WriteFault { channel },
+    }
+}
+
+/// The status of what kept rounds from going.
+fn status_of_fault(fault: JobFault) -> Status
+    ensures { result ≡ status_of_fault fault }
+{
+    match fault {
+        JobFault::Refused(refusal) => Status::Refused(refusal),
+        JobFault::Memory => Status::OutOfMemory,
+        JobFault::ReadFault { feed } => Status::ReadFault(ReadAt::Feed(feed)),
+        JobFault::WriteFault { channel } => Status::WriteFault { channel },
+    }
+}
+
+/// The status of what a run came to.
+pub(crate) fn status_of(came: &Result<Outcome, JobFault>) -> Status
+    ensures { result ≡ status_of came.now }
+{
+    match came {
+        Ok(outcome) => status_at(outcome.end, outcome.counts.firings),
+        Err(fault) => status_of_fault(*fault),
+    }
+}
+
+/// The status of an image that isn't given.
+pub(crate) fn status_of_build(fault: BuildFault) -> Status
+    ensures { result ≡ status_of_build fault }
+{
+    match fault {
+        BuildFault::Refused(refusal) => Status::Refused(refusal),
+        BuildFault::ReadFault { file } => Status::ReadFault(ReadAt::File(file)),
+        BuildFault::Memory => Status::OutOfMemory,
+    }
+}
+
+/// The status, by whether the report could be put.
+pub(crate) fn answered(said: Status, put: Result<(), Failed>) -> Status
+    ensures { result ≡ answered said put }
+{
+    match put {
+        Ok(()) => said,
+        Err(Failed) => Status::WriteFault {
+            channel: REPORT_CHANNEL,
+        },
+    }
+}
