@@ -60,9 +60,9 @@ module _ (job : Job) (library : loading.Library) (misses faults : loading.Counts
   pub image_answered : (image : Image) (names : Names) (answer : Status) → SourcesAreActorNetworks → IsBuilt library (top_asked (string_bytes job.top)) (file_names names) image
       → ImageRan image names job feeds feeds_new old new answer → IsAnswered cmd answer
   image_answered image names answer law built ran = ⊎_elim
-      (λ put. subst (IsAnswered cmd) (sym put.0) (is_reported (come put.1.alone)
+      (λ put. subst (IsAnswered cmd) (sym put.0) (is_reported (lines_at image names job ran.came) (about_image image names job) (come put.1.alone)
       (λ tells. put.1.whole (ran.ran.others.same_telling ∙ tells) ∙ ap (λ h. h ++ text) (ran.ran.report.same_held tells))))
-      (λ put. subst (IsAnswered cmd) (sym put.0) (is_unreported (come put.1.alone)
+      (λ put. subst (IsAnswered cmd) (sym put.0) (is_unreported (status_of ran.came) (lines_at image names job ran.came) (about_image image names job) (come put.1.alone)
       (λ tells. subst (λ h. HoldsFront h (new.held 0) text) (ran.ran.report.same_held tells) (put.1.front (ran.ran.others.same_telling ∙ tells)))
       (risen_from old.faults ran.between.faults new.faults ran.ran.others.faults_stay put.1.counted)))
       ran.put
@@ -78,8 +78,8 @@ module _ (job : Job) (library : loading.Library) (misses faults : loading.Counts
   plainly_answered : (said answer : Status) (a : About) → last_line a said ≡ report [] a said → (WritesOnlyAt 0 old new → Comes cmd said [] a)
       → IsPut said (last_line a said) old new answer → IsAnswered cmd answer
   plainly_answered said answer a same come put = ⊎_elim
-      (λ put. subst (IsAnswered cmd) (sym put.0) (is_reported (come put.1.alone) (λ tells. put.1.whole tells ∙ ap (λ t. old.held 0 ++ t) same)))
-      (λ put. subst (IsAnswered cmd) (sym put.0) (is_unreported (come put.1.alone) (λ tells. subst (HoldsFront (old.held 0) (new.held 0)) same (put.1.front tells)) put.1.counted))
+      (λ put. subst (IsAnswered cmd) (sym put.0) (is_reported [] a (come put.1.alone) (λ tells. put.1.whole tells ∙ ap (λ t. old.held 0 ++ t) same)))
+      (λ put. subst (IsAnswered cmd) (sym put.0) (is_unreported said [] a (come put.1.alone) (λ tells. subst (HoldsFront (old.held 0) (new.held 0)) same (put.1.front tells)) put.1.counted))
       put
 
   last_alone : (why : BuildFault) (a : About) → last_line a (status_of_build why) ≡ report [] a (status_of_build why)
@@ -92,14 +92,14 @@ module _ (job : Job) (library : loading.Library) (misses faults : loading.Counts
 
   comes_unbuilt : (why : BuildFault) (names : Names) → IsNoImage library (top_asked (string_bytes job.top)) misses faults (file_names names) why
       → OpenedNothing cmd → Comes cmd (status_of_build why) [] (about_words names job)
-  comes_unbuilt (build.Refused r) names no nothing = (by_files (record { why = no }), nothing)
-  comes_unbuilt (build.ReadFault file) names no nothing = (record { counted = no.0; names = file_names names; told = no.1; about_is = refl }, nothing)
-  comes_unbuilt build.Memory names no nothing = nothing
+  comes_unbuilt (build.Refused r) names none nothing = (by_files (file_names names) (record { why = none }), nothing)
+  comes_unbuilt (build.ReadFault file) names none nothing = (record { counted = none.0; names = file_names names; told = none.1; about_is = refl }, nothing)
+  comes_unbuilt build.Memory names none nothing = nothing
 
   pub unbuilt_answered : (why : BuildFault) (names : Names) (answer : Status) → IsNoImage library (top_asked (string_bytes job.top)) misses faults (file_names names) why → feeds_new ≡ feeds
       → IsPut (status_of_build why) (last_line (about_words names job) (status_of_build why)) old new answer → IsAnswered cmd answer
-  unbuilt_answered why names answer no same put =
-      plainly_answered (status_of_build why) answer (about_words names job) (last_alone why (about_words names job)) (λ only. comes_unbuilt why names no (opened_nothing same only)) put
+  unbuilt_answered why names answer none same put =
+      plainly_answered (status_of_build why) answer (about_words names job) (last_alone why (about_words names job)) (λ only. comes_unbuilt why names none (opened_nothing same only)) put
 
   pub workers_answered : (r : Refusal) (names : Names) (answer : Status) → 2 ≤ job.workers → r.rule ≡ not_built → r.place.file ≡ 0 → r.place.offset ≡ 0 → file_names names ≡ [] → feeds_new ≡ feeds
       → IsPut (status.Refused r) (last_line (about_words names job) (status.Refused r)) old new answer → IsAnswered cmd answer
@@ -129,21 +129,21 @@ module _ (job : Job) (library : loading.Library) (misses faults : loading.Counts
   on_came P image between (Err (fault.WriteFault channel)) ran matched = tt
 
   pub image_complete : (image : Image) (names : Names) (answer : Status) (net : Network ActorState) → MeansNet image net → Conforms library (top_asked (string_bytes job.top)) (asks.words_of job) net
-      → ImageRan image names job feeds feeds_new old new answer → OnRefusal answer (IsUnbuilt cmd)
+      → ImageRan image names job feeds feeds_new old new answer → OnRefusal answer (IsUnbuilt library job)
   image_complete image names answer net means conforms ran =
-      on_put (IsUnbuilt cmd) (status_of ran.came) answer _ ran.between new
-      (on_came (IsUnbuilt cmd) image ran.between ran.came ran.ran (subst (λ ps. AreMatched ps (asks.words_of job)) (ports_are image means.actors net means.has) conforms.matched)) ran.put
+      on_put (IsUnbuilt library job) (status_of ran.came) answer _ ran.between new
+      (on_came (IsUnbuilt library job) image ran.between ran.came ran.ran (subst (λ ps. AreMatched ps (asks.words_of job)) (ports_are image means.actors net means.has) conforms.matched)) ran.put
 
-  on_unbuilt : (why : BuildFault) (names : List (List ℕ)) → engine.IsUnbuilt library (top_asked (string_bytes job.top)) names why → OnRefusal (status_of_build why) (IsUnbuilt cmd)
-  on_unbuilt (build.Refused r) names un = of_actor un
+  on_unbuilt : (why : BuildFault) (names : List (List ℕ)) → engine.IsUnbuilt library (top_asked (string_bytes job.top)) names why → OnRefusal (status_of_build why) (IsUnbuilt library job)
+  on_unbuilt (build.Refused r) names un = of_actor names un
   on_unbuilt (build.ReadFault file) names un = tt
   on_unbuilt build.Memory names un = tt
 
   pub unbuilt_complete : (why : BuildFault) (names : Names) (answer : Status) → engine.IsUnbuilt library (top_asked (string_bytes job.top)) (file_names names) why
-      → IsPut (status_of_build why) (last_line (about_words names job) (status_of_build why)) old new answer → OnRefusal answer (IsUnbuilt cmd)
-  unbuilt_complete why names answer un put = on_put (IsUnbuilt cmd) (status_of_build why) answer _ old new (on_unbuilt why (file_names names) un) put
+      → IsPut (status_of_build why) (last_line (about_words names job) (status_of_build why)) old new answer → OnRefusal answer (IsUnbuilt library job)
+  unbuilt_complete why names answer un put = on_put (IsUnbuilt library job) (status_of_build why) answer _ old new (on_unbuilt why (file_names names) un) put
 
   pub workers_complete : (r : Refusal) (names : Names) (answer : Status) → 2 ≤ job.workers → r.rule ≡ not_built → r.place.file ≡ 0 → r.place.offset ≡ 0
-      → IsPut (status.Refused r) (last_line (about_words names job) (status.Refused r)) old new answer → OnRefusal answer (IsUnbuilt cmd)
+      → IsPut (status.Refused r) (last_line (about_words names job) (status.Refused r)) old new answer → OnRefusal answer (IsUnbuilt library job)
   workers_complete r names answer many rule file offset put =
-      on_put (IsUnbuilt cmd) (status.Refused r) answer _ old new (of_workers (record { many = many; rule = rule; file = file; offset = offset })) put
+      on_put (IsUnbuilt library job) (status.Refused r) answer _ old new (of_workers (record { many = many; rule = rule; file = file; offset = offset })) put

@@ -40,7 +40,7 @@ use Rattle.rvc_engine.specs.Images.{MeansNet}
 use Rattle.rvc_engine.specs.Top.{top_asked}
 use Rattle.rvc_engine.specs.declared.image.Image.{Image}
 use Rattle.network_job.specs.Answering.{EndIsCaused, HeadFails, IfStarted, IsUnread, IsUnwritten, LeavesJob}
-use Rattle.network_job.specs.Files.{IsChannelOf, IsFeedOf, Keeps, WritesOnly}
+use Rattle.network_job.specs.Files.{IsChannelOf, IsFeedOf, OpensOnly, WritesOnly}
 use Rattle.network_job.specs.Leaving.{Came, LeavesRun, ending_of}
 use Rattle.network_job.specs.Network as asks
 use Rattle.network_job.specs.declared.outcome.JobFault.{JobFault}
@@ -52,8 +52,8 @@ use Rattle.run_report.specs.Puts.{GetsLess, GetsText}
 use Rattle.run_report.specs.Report.{report, run_lines}
 use Rattle.run_report.specs.declared.status.Status.{Status}
 use Rattle.run_report.specs.declared.status.Status.TheVariants as status
-use Rattle.run_job.specs.Commands.{AreCertified, AreGiven, Command, HasFiles, IsToRun, OpenedNothing, about_net, count_none, port_names, run_over, top_of, words_of}
-use Rattle.run_job.specs.Ends.{Comes, IsAnswered, IsRefused, IsUnbuilt, OnRefusal, Ran, RanOut, RanSome, WasUnread, WasUnwritten, by_words, is_reported, is_unreported}
+use Rattle.run_job.specs.Commands.{AreCertified, AreGiven, Command, HasFiles, IsToRun, OpenedNothing, TouchesOnly, about_net, count_none, port_names, run_over, top_of, words_of}
+use Rattle.run_job.specs.Ends.{Comes, IsRefused, Ran, by_words}
 use Rattle.run_job.specs.Steps.{CellsRan, ImageRan, about_image, lines_at, status_at, status_of}
 use Rattle.run_job.proofs.Cells.{many_leaves}
 use Rattle.run_job.proofs.Leaving.{same_names}
@@ -170,30 +170,43 @@ module _ (job : Job) (library : loading.Library) (misses faults : loading.Counts
   leaves_of : (came : Result Outcome JobFault) → CellsRan image job feeds feeds_new old between came → Leaves came
   leaves_of came ran inputs given = ran.leaves actors net inputs has is given
 
+  touched : OpensOnly image.flat.links.items (asks.in_names image.flat) (asks.words_of job) feeds feeds_new → WritesOnly (asks.out_names image.flat) (asks.words_of job) old between → TouchesOnly cmd net
+  touched opens writes =
+      let here : WritesOnly (port_names net.outs) (asks.words_of job) old between = subst (λ ps. WritesOnly ps (asks.words_of job) old between) (sym outs_are) writes in
+      record {
+        feeds = subst (λ ls. OpensOnly ls (port_names net.ins) (asks.words_of job) feeds feeds_new) (sym links_are)
+            (subst (λ ps. OpensOnly image.flat.links.items ps (asks.words_of job) feeds feeds_new) (sym ins_are) opens);
+        same_open = λ channel other not_of. only.same_open channel ∙ here.same_open channel not_of;
+        same_held = λ tells channel other not_of. only.same_held (here.same_telling ∙ tells) channel other ∙ here.same_held tells channel not_of;
+      }
+
   -- a run that came to its end
-  some_ran : (line : Line) (counts : Counts) → AreMatched (asks.in_names image.flat ++ asks.out_names image.flat) (asks.words_of job) → counts.firings ≤ job.budget
+  some_ran : (line : Line) (counts : Counts) → AreMatched (asks.in_names image.flat ++ asks.out_names image.flat) (asks.words_of job) → counts.firings ≤ job.budget → TouchesOnly cmd net
       → ((inputs : List (List ℕ)) → AreGiven cmd net inputs → LeavesRun (run_over cmd net inputs) (Came line) counts between)
       → Ran cmd line counts (lines_at image names job (Ok (record { end = end.Quiet; counts = counts }))) (about_image image names job)
-  some_ran line counts matched within leaves = record {
+  unfolding to_run files
+  some_ran line counts matched within touches leaves = record {
     net = net;
     is_to_run = to_run matched;
     leaves = λ inputs given. ended (run_over cmd net inputs) between new only line counts (leaves inputs given);
     within = within;
+    touches = touches;
     certified = count_none image.uncertified.items;
     are_certified = certified;
     about_is = about_is;
     lines_are = refl;
   }
 
-  how_ended : (how : RunEnd) (counts : Counts) → AreMatched (asks.in_names image.flat ++ asks.out_names image.flat) (asks.words_of job) → counts.firings ≤ job.budget
+  how_ended : (how : RunEnd) (counts : Counts) → AreMatched (asks.in_names image.flat ++ asks.out_names image.flat) (asks.words_of job) → counts.firings ≤ job.budget → TouchesOnly cmd net
       → EndIsCaused image.flat.links.items (asks.in_names image.flat) (asks.out_names image.flat) (asks.words_of job) feeds feeds_new old between how
       → ((inputs : List (List ℕ)) → AreGiven cmd net inputs → LeavesRun (run_over cmd net inputs) (ending_of how) counts between)
       → Comes cmd (status_at how counts.firings) (lines_at image names job (Ok (record { end = end.Quiet; counts = counts }))) (about_image image names job)
-  how_ended end.Quiet counts matched within caused leaves = record { counts = counts; ran = some_ran _ counts matched within leaves }
-  how_ended (end.Trapped inst action trap) counts matched within caused leaves = record { counts = counts; ran = some_ran _ counts matched within leaves }
-  how_ended (end.Stalled inst action link) counts matched within caused leaves = record { counts = counts; ran = some_ran _ counts matched within leaves }
-  how_ended end.Budget counts matched within caused leaves = record { counts = counts; ran = some_ran BudgetLine counts matched within leaves; firings_are = refl }
-  how_ended (end.ReadFault feed) counts matched within caused leaves = record {
+  unfolding to_run files
+  how_ended end.Quiet counts matched within touches caused leaves = record { counts = counts; ran = some_ran _ counts matched within touches leaves }
+  how_ended (end.Trapped inst action trap) counts matched within touches caused leaves = record { counts = counts; ran = some_ran _ counts matched within touches leaves }
+  how_ended (end.Stalled inst action link) counts matched within touches caused leaves = record { counts = counts; ran = some_ran _ counts matched within touches leaves }
+  how_ended end.Budget counts matched within touches caused leaves = record { counts = counts; ran = some_ran BudgetLine counts matched within touches leaves; firings_are = refl }
+  how_ended (end.ReadFault feed) counts matched within touches caused leaves = record {
     net = net;
     is_to_run = to_run matched;
     how = inr (record {
@@ -203,15 +216,17 @@ module _ (job : Job) (library : loading.Library) (misses faults : loading.Counts
       counts = counts;
       leaves = λ inputs given. cut (run_over cmd net inputs) between new only counts (leaves inputs given);
       within = within;
+      touches = touches;
     });
     about_is = about_is;
   }
-  how_ended (end.WriteFault channel) counts matched within caused leaves = record {
+  how_ended (end.WriteFault channel) counts matched within touches caused leaves = record {
     net = net;
     is_to_run = to_run matched;
     counted = risen_to old.faults between.faults new.faults caused.0 only.faults_stay;
     is_channel = subst (λ ps. IsChannelOf ps (asks.words_of job) channel) (sym outs_are) caused.1;
     leaves = λ inputs given. broken (run_over cmd net inputs) between new only (leaves inputs given);
+    touches = touches;
   }
 
   -- nothing was opened
@@ -219,9 +234,10 @@ module _ (job : Job) (library : loading.Library) (misses faults : loading.Counts
   nothing same = record { same_feeds = same.0; only_report = subst (λ cs. WritesOnlyAt 0 cs new) same.1 only }
 
   pub comes : (came : Result Outcome JobFault) → CellsRan image job feeds feeds_new old between came → Comes cmd (status_of came) (lines_at image names job came) (about_image image names job)
-  comes (Ok outcome) ran = how_ended outcome.end outcome.counts ran.matched ran.within ran.faults (leaves_of (Ok outcome) ran)
+  unfolding to_run files
+  comes (Ok outcome) ran = how_ended outcome.end outcome.counts ran.matched ran.within (touched ran.only_feeds ran.others) ran.faults (leaves_of (Ok outcome) ran)
   comes (Err (fault.Refused r)) ran = (
-    subst (IsRefused cmd r) (sym about_is) (by_words (record {
+    subst (IsRefused cmd r) (sym about_is) (by_words (file_names names) net (record {
       files = files;
       names_are = refl;
       wrong = subst (λ ps. IsWrongWord ps (asks.words_of job) r) (sym (ports_are image actors net has)) ran.refused;
@@ -247,4 +263,5 @@ module _ (job : Job) (library : loading.Library) (misses faults : loading.Counts
     is_channel = subst (λ ps. IsChannelOf ps (asks.words_of job) channel) (sym outs_are)
         (is_one_of (string_bytes job.trace) (asks.out_names image.flat) (asks.words_of job) channel old between ran.unwritten.fails);
     leaves = λ inputs given. broken (run_over cmd net inputs) between new only (leaves_of (Err (fault.WriteFault channel)) ran inputs given);
+    touches = touched ran.only_feeds ran.others;
   }

@@ -1,5 +1,5 @@
 -- The report is put behind what a run leaves, and changes nothing of that.
-use Rattle.std.proofs.Common.{◌≡◌, ◌≢◌, ◌⊎◌, inl, inr, ⊎_elim, ℕ, ◌+◌, ◌≤◌, true, List, [], ◌∷◌, ◌++◌, sym, ap, ◌∙◌, arith}
+use Rattle.std.proofs.Common.{◌≡◌, ◌≢◌, ◌⊎◌, inl, inr, ⊎_elim, ℕ, ◌+◌, ◌≤◌, true, List, [], ◌∷◌, ◌++◌, refl, sym, ap, ◌∙◌, arith}
 use Rattle.rvc_io.specs.Channels.{Channels, WritesOnlyAt}
 use Rattle.rvc_io.specs.Count.{HasRisen}
 use Rattle.trace_text.specs.declared.line.Line.{Line}
@@ -20,8 +20,8 @@ risen_to old between new (inr last) behind = inr (omega (arith, last, behind))
 -- ---- channels
 
 module _ {X : Type 0} (run : Setting X) (old new : Channels) (only : WritesOnlyAt 0 old new) where
-  one : 1 ≢ 0
-  one e = absurd (omega (arith, e))
+  first : (p : ℕ) → p ≡ 1 → p ≢ 0
+  first p is e = absurd (omega (arith, is, e))
 
   two : (p : ℕ) → 2 + p ≢ 0
   two p e = absurd (omega (arith, e))
@@ -38,19 +38,19 @@ module _ {X : Type 0} (run : Setting X) (old new : Channels) (only : WritesOnlyA
       let was = h (sym (only.same_open channel) ∙ open_now) told in
       (was.0, was.1 ∙ again (old.held channel) (new.held channel) was.0 (only.same_held told channel other))
     where
-      again : (one other rest : List ℕ) → other ≡ one → one ++ rest ≡ other ++ rest
-      again one other rest same = ap (λ xs. xs ++ rest) (sym same)
+      again : (this that rest : List ℕ) → that ≡ this → this ++ rest ≡ that ++ rest
+      again this that rest same = ap (λ xs. xs ++ rest) (sym same)
 
   wrote : (lines : List Line) (last : State X) → Wrote run lines last old → Wrote run lines last new
   wrote lines last w = record {
-    trace = holds 1 _ one w.trace;
+    trace = holds 1 _ (first 1 refl) w.trace;
     outputs = λ p file named. holds (2 + p) _ (two p) (w.outputs p file named);
     unnamed = λ p none. only.same_open (2 + p) ∙ w.unnamed p none;
   }
 
   wrote_prefixes : (lines : List Line) (last : State X) → WrotePrefixes run lines last old → WrotePrefixes run lines last new
   wrote_prefixes lines last w = record {
-    trace = holds_prefix 1 _ one w.trace;
+    trace = holds_prefix 1 _ (first 1 refl) w.trace;
     outputs = λ p file named. holds_prefix (2 + p) _ (two p) (w.outputs p file named);
     unnamed = λ p none. only.same_open (2 + p) ∙ w.unnamed p none;
   }

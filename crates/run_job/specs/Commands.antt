@@ -1,6 +1,6 @@
 -- A command that runs the network of a library: what it met, and which network that is.
 -- Trusted: part of what a promise means.
-use Rattle.std.specs.Prelude.{◌≡◌, ℕ, ◌+◌, List, [], ◌∷◌, Option, None, Some, map, length, string_bytes}
+use Rattle.std.specs.Prelude.{◌≡◌, ◌≢◌, ℕ, ◌+◌, true, List, [], ◌∷◌, Option, None, Some, map, length, string_bytes}
 use Rattle.rvc_io.specs.Channels.{Channels, WritesOnlyAt}
 use Rattle.rvc_io.specs.Feeds.{Inputs}
 use Rattle.rvc_words.specs.Words.{PortText, port_text}
@@ -18,7 +18,7 @@ use Rattle.determinacy_cert.specs.declared.fault.CertFault.{CertFault}
 use Rattle.rvc_engine.specs.Built.{AreJudged}
 use Rattle.rvc_engine.specs.Checked.{AreRead}
 use Rattle.rvc_engine.specs.Top.{top_asked}
-use Rattle.network_job.specs.Files.{AreInputs}
+use Rattle.network_job.specs.Files.{AreInputs, IsChannelOf, OpensOnly}
 use Rattle.network_job.specs.Leaving.{Setting, setting_of}
 use Rattle.run_report.specs.About.{About}
 
@@ -77,6 +77,17 @@ AreGiven cmd net inputs =
 -- the run that is to be made over these bytes, by the round, the burst, the budget and the growth that the job asks for
 abbrev pub run_over : Command → Network State → List (List ℕ) → Setting State
 run_over cmd net inputs = setting_of net inputs (start_of net inputs) cmd.job
+
+-- No feed was opened but those of its inputs that have a file; and no channel was opened or written but that of the
+-- report, the trace's, and those of its outputs that have a file.
+pub record TouchesOnly (cmd : Command) (net : Network State) : Type 0 where
+  pub feeds : OpensOnly net.links (port_names net.ins) (words_of cmd) cmd.feeds cmd.feeds_after
+  pub same_open : (channel : ℕ) → channel ≢ 0
+      → (IsChannelOf (port_names net.outs) (words_of cmd) channel → ⊥)
+      → cmd.channels_after.is_open channel ≡ cmd.channels.is_open channel
+  pub same_held : cmd.channels.tells ≡ true → (channel : ℕ) → channel ≢ 0
+      → (IsChannelOf (port_names net.outs) (words_of cmd) channel → ⊥)
+      → cmd.channels_after.held channel ≡ cmd.channels.held channel
 
 -- ---- its report
 

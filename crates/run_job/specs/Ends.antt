@@ -1,23 +1,25 @@
 -- To what a command comes that runs the network of a library, and what it leaves: a case for each status.
 -- Trusted: part of what a promise means.
-use Rattle.std.specs.Prelude.{◌≡◌, ◌⊎◌, ℕ, ◌≤◌, List, [], Some}
+use Rattle.std.specs.Prelude.{◌≡◌, ◌⊎◌, ℕ, ◌≤◌, List, [], Some, string_bytes}
 use Rattle.rvc_base.specs.Rules.{not_built}
 use Rattle.rvc_base.specs.declared.refusal.Refusal.{Refusal}
 use Rattle.rvc_io.specs.Channels.{Appends, WritesOnlyAt}
 use Rattle.rvc_io.specs.Count.{HasRisen}
 use Rattle.channel_writer.specs.Held.{AppendsFront}
+use Rattle.rvc_words.specs.declared.job.Job.{Job}
 use Rattle.trace_text.specs.declared.line.Line.{Line}
 use Rattle.trace_text.specs.declared.line.Line.TheVariants.{Quiet as QuietLine, Trap as TrapLine, Stall as StallLine, Budget as BudgetLine}
 use Rattle.cal_model.specs.Selection.{State}
 use Rattle.net_model.specs.declared.wiring.Counts.{Counts}
 use Rattle.net_model.specs.Network.{Network}
-use Rattle.actor_files.specs.Loading.{TellsAll}
+use Rattle.actor_files.specs.Loading.{Library, TellsAll}
 use Rattle.network_files.specs.Loading.{IsFaulted}
 use Rattle.port_words.specs.Matching.{IsWrongWord}
 use Rattle.port_words.specs.Opening.{FeedFails, feeds_of}
 use Rattle.conforming_jobs.specs.Conforming.{names_of_ports}
 use Rattle.rvc_engine.specs.NotBuilt.{LacksForm}
 use Rattle.rvc_engine.specs.Refused.{RefusesTop}
+use Rattle.rvc_engine.specs.Top.{top_asked}
 use Rattle.network_job.specs.Files.{IsChannelOf, IsFeedOf}
 use Rattle.network_job.specs.Leaving.{HasEnded, WasBroken, WasCut}
 use Rattle.run_report.specs.About.{About}
@@ -25,7 +27,7 @@ use Rattle.run_report.specs.Report.{report, run_lines}
 use Rattle.run_report.specs.declared.status.ReadAt.TheVariants.{File, Feed}
 use Rattle.run_report.specs.declared.status.Status.{Status}
 use Rattle.run_report.specs.declared.status.Status.TheVariants as status
-use Rattle.run_job.specs.Commands.{AreCertified, AreGiven, Command, HasFiles, IsToRun, OpenedNothing, about_files, about_net, port_names, run_over, top_of, words_of}
+use Rattle.run_job.specs.Commands.{AreCertified, AreGiven, Command, HasFiles, IsToRun, OpenedNothing, TouchesOnly, about_files, about_net, port_names, run_over, top_of, words_of}
 
 -- ---- a run that came to its end
 
@@ -38,6 +40,7 @@ pub record Ran (cmd : Command) (end : Line) (counts : Counts) (lines : List ℕ)
   pub leaves : (inputs : List (List ℕ)) → AreGiven cmd net inputs
       → HasEnded (run_over cmd net inputs) end counts cmd.channels_after
   pub within : counts.firings ≤ cmd.job.budget
+  pub touches : TouchesOnly cmd net
   pub certified : ℕ
   pub are_certified : AreCertified is_to_run.files.means.actors certified
   pub about_is : about ≡ about_net cmd is_to_run.files.names net
@@ -70,6 +73,7 @@ pub record FeedBroke (cmd : Command) (net : Network State) (feed : ℕ) : Type 0
   pub leaves : (inputs : List (List ℕ)) → AreGiven cmd net inputs
       → WasCut (run_over cmd net inputs) counts cmd.channels_after
   pub within : counts.firings ≤ cmd.job.budget
+  pub touches : TouchesOnly cmd net
 
 pub record WasUnread (cmd : Command) (feed : ℕ) (about : About) : Type 0 where
   pub net : Network State
@@ -86,12 +90,13 @@ pub record WasUnwritten (cmd : Command) (channel : ℕ) : Type 0 where
   pub is_channel : IsChannelOf (port_names net.outs) (words_of cmd) channel
   pub leaves : (inputs : List (List ℕ)) → AreGiven cmd net inputs
       → WasBroken (run_over cmd net inputs) cmd.channels_after
+  pub touches : TouchesOnly cmd net
 
 -- ---- no run
 
 -- a job of more workers than one isn't built yet: the refusal is of this rule, at the command line
-pub record AsksForWorkers (cmd : Command) (r : Refusal) : Type 0 where
-  pub many : 2 ≤ cmd.job.workers
+pub record AsksForWorkers (job : Job) (r : Refusal) : Type 0 where
+  pub many : 2 ≤ job.workers
   pub rule : r.rule ≡ not_built
   pub file : r.place.file ≡ 0
   pub offset : r.place.offset ≡ 0
@@ -110,10 +115,10 @@ pub record HasWrongWord (cmd : Command) (names : List (List ℕ)) (net : Network
 
 -- Why the job is refused.
 pub data IsRefused (cmd : Command) (r : Refusal) : About → Type 0 where
-  by_workers : AsksForWorkers cmd r → IsRefused cmd r (about_files cmd [])
-  by_files : {names : List (List ℕ)} → BreaksFiles cmd names r
+  by_workers : AsksForWorkers cmd.job r → IsRefused cmd r (about_files cmd [])
+  by_files : (names : List (List ℕ)) → BreaksFiles cmd names r
       → IsRefused cmd r (about_files cmd names)
-  by_words : {names : List (List ℕ)} {net : Network State} → HasWrongWord cmd names net r
+  by_words : (names : List (List ℕ)) (net : Network State) → HasWrongWord cmd names net r
       → IsRefused cmd r (about_net cmd names net)
 
 -- the reading of a file failed, which was counted
@@ -149,10 +154,10 @@ Comes cmd (status.Uncertified inst state first second reason) lines about = ⊥
 -- failed, which was counted, and channel 0 got a prefix of it: then the status is that of channel 0, whatever the command
 -- had come to.
 pub data IsAnswered (cmd : Command) : Status → Type 0 where
-  is_reported : {said : Status} {lines : List ℕ} {about : About} → Comes cmd said lines about
+  is_reported : {said : Status} (lines : List ℕ) (about : About) → Comes cmd said lines about
       → Appends 0 cmd.channels cmd.channels_after (report lines about said)
       → IsAnswered cmd said
-  is_unreported : {said : Status} {lines : List ℕ} {about : About} → Comes cmd said lines about
+  is_unreported : (said : Status) (lines : List ℕ) (about : About) → Comes cmd said lines about
       → AppendsFront 0 cmd.channels cmd.channels_after (report lines about said)
       → HasRisen cmd.channels.faults cmd.channels_after.faults
       → IsAnswered cmd (status.WriteFault 0)
@@ -160,9 +165,10 @@ pub data IsAnswered (cmd : Command) : Status → Type 0 where
 -- ---- completeness
 
 -- The job asks for what isn't built yet: for more workers than one, or for an actor of a form for which there is no code.
-pub data IsUnbuilt (cmd : Command) (r : Refusal) : Type 0 where
-  of_workers : AsksForWorkers cmd r → IsUnbuilt cmd r
-  of_actor : {names : List (List ℕ)} → LacksForm cmd.library (top_of cmd) names r → IsUnbuilt cmd r
+pub data IsUnbuilt (library : Library) (job : Job) (r : Refusal) : Type 0 where
+  of_workers : AsksForWorkers job r → IsUnbuilt library job r
+  of_actor : (names : List (List ℕ)) → LacksForm library (top_asked (string_bytes job.top)) names r
+      → IsUnbuilt library job r
 
 -- this holds of the refusal, if the job is refused
 abbrev pub OnRefusal : Status → (Refusal → Type 0) → Type 0

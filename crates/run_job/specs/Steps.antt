@@ -23,7 +23,7 @@ use Rattle.rvc_engine.specs.declared.fault.BuildFault.{BuildFault}
 use Rattle.rvc_engine.specs.declared.fault.BuildFault.TheVariants as build
 use Rattle.rvc_engine.specs.declared.image.Image.{Image}
 use Rattle.network_job.specs.Answering.{EndIsCaused, IfStarted, IfUnstarted, IsUnread, IsUnwritten, LeavesJob, OnRefused, OnUnread, OnUnwritten}
-use Rattle.network_job.specs.Files.{AreInputs, Keeps, WritesOnly}
+use Rattle.network_job.specs.Files.{AreInputs, Keeps, OpensOnly, WritesOnly}
 use Rattle.network_job.specs.Leaving.{setting_of}
 use Rattle.network_job.specs.Network as asks
 use Rattle.network_job.specs.declared.outcome.JobFault.{JobFault}
@@ -129,6 +129,7 @@ pub record CellsRan (image : Image) (job : Job) (feeds feeds_new : Inputs) (old 
   pub unwritten : OnUnwritten came (IsUnwritten image.flat.links.items (asks.in_names image.flat) (asks.out_names image.flat) (asks.words_of job) (string_bytes job.trace) feeds feeds_new old new)
   pub faults : IfOk came (λ outcome. EndIsCaused image.flat.links.items (asks.in_names image.flat) (asks.out_names image.flat) (asks.words_of job) feeds feeds_new old new outcome.end)
   pub report : Keeps 0 old new
+  pub only_feeds : OpensOnly image.flat.links.items (asks.in_names image.flat) (asks.words_of job) feeds feeds_new
   pub others : WritesOnly (asks.out_names image.flat) (asks.words_of job) old new
 
 -- .. and then the report was put, or wasn't

@@ -39,5 +39,6 @@ returns g c =
       unwritten = c.run_network.ensures.unwritten;
       faults = c.run_network.ensures.faults;
       report = c.run_network.ensures.report;
+      only_feeds = c.run_network.ensures.other_feeds;
       others = c.run_network.ensures.other_channels;
     }
