@@ -107,17 +107,17 @@ pick : (b : Bool) (xs ys xs' ys' : List ℤ) → IsPrefix xs xs' → IsPrefix ys
 pick true xs ys xs' ys' p q = p
 pick false xs ys xs' ys' p q = q
 
+chosen : (b : Bool) (xs : List ℤ) → (if b then xs else xs) ≡ xs
+chosen true xs = refl
+chosen false xs = refl
+
 sent_grows : (p : ℕ) (links : List Link) (flows more : List Flow) → Grow links flows more → IsPrefix (sent_to p links flows) (sent_to p links more)
 sent_grows p [] flows more grow = ([], refl)
 sent_grows p (link ∷ links) [] more grow = (sent_to p (link ∷ links) more, refl)
 sent_grows p (link ∷ links) (flow ∷ flows) [] grow =
-    subst (λ w. IsPrefix (if is_net_port p link.to then flow.sent else sent_to p links flows) w) (chosen (is_net_port p link.to))
+    subst (λ w. IsPrefix (if is_net_port p link.to then flow.sent else sent_to p links flows) w) (chosen (is_net_port p link.to) [])
     (pick (is_net_port p link.to) flow.sent (sent_to p links flows) [] [] (grow 0 (omega arith))
     (subst (λ w. IsPrefix (sent_to p links flows) w) (sent_nowhere p links) (sent_grows p links flows [] (λ l low. grow (suc l) (omega arith)))))
-  where
-    chosen : (b : Bool) → (if b then [] else []) ≡ [] {A = ℤ}
-    chosen true = refl
-    chosen false = refl
 sent_grows p (link ∷ links) (flow ∷ flows) (other ∷ more) grow =
     pick (is_net_port p link.to) flow.sent (sent_to p links flows) other.sent (sent_to p links more) (grow 0 (omega arith))
     (sent_grows p links flows more (λ l low. grow (suc l) (omega arith)))

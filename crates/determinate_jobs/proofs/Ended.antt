@@ -30,25 +30,20 @@ last_line net grow s last (line ∷ before) end plays =
     on_next (goes net s line) (λ next. PlaysFrom net grow next (before ++ end ∷ []) last)
     (λ u is rest. last_line net grow u last before end rest) plays.1
 
+some_same : {A : Type 0} (x y : A) → Some x ≡ Some y → x ≡ y
+some_same x y e = cc
+
 pub ends_quiet : {X : Type 0} (net : Network X) (grow : ℕ) (s last : State X) (before : List Line) (end : Line)
     → PlaysFrom net grow s (before ++ end ∷ []) last → end ≡ QuietLine → IsQuiet net last
-ends_quiet net grow s last before QuietLine plays refl =
-    let l = last_line net grow s last before QuietLine plays in
-    let same : l.before ≡ last = some_same l.before last l.leads in
-    subst (λ w. IsQuiet net w) same l.is_true.0
-  where
-    some_same : {A : Type 0} (x y : A) → Some x ≡ Some y → x ≡ y
-    some_same x y e = cc
+ends_quiet net grow s last before end plays is =
+    let l = last_line net grow s last before QuietLine (subst (λ w. PlaysFrom net grow s (before ++ w ∷ []) last) is plays) in
+    subst (λ w. IsQuiet net w) (some_same l.before last l.leads) l.is_true.0
 
 pub ends_between : {X : Type 0} (net : Network X) (grow : ℕ) (s last : State X) (before : List Line) (end : Line)
     → PlaysFrom net grow s (before ++ end ∷ []) last → end ≡ BudgetLine → IsBetween net grow last
-ends_between net grow s last before BudgetLine plays refl =
-    let l = last_line net grow s last before BudgetLine plays in
-    let same : l.before ≡ last = some_same l.before last l.leads in
-    subst (λ w. IsBetween net grow w) same l.is_true.0
-  where
-    some_same : {A : Type 0} (x y : A) → Some x ≡ Some y → x ≡ y
-    some_same x y e = cc
+ends_between net grow s last before end plays is =
+    let l = last_line net grow s last before BudgetLine (subst (λ w. PlaysFrom net grow s (before ++ w ∷ []) last) is plays) in
+    subst (λ w. IsBetween net grow w) (some_same l.before last l.leads) l.is_true.0
 
 marked : {X : Type 0} (b : Bool) (s t : State X) → (if b then Some (record s { trapped = true }) else None) ≡ Some t → t.trapped ≡ true
 marked true s t h = let e : record s { trapped = true } ≡ t = cc in sym (ap (λ w. w.trapped) e)

@@ -13,7 +13,7 @@ use Rattle.net_model.specs.Network.{Network}
 use Rattle.net_model.specs.State.{State, start_of}
 use Rattle.net_model.specs.Ends.{IsBetween, IsQuiet}
 use Rattle.net_model.specs.Event.{Event}
-use Rattle.net_model.specs.Laws.{IsRunOf, LinesAreRuns, SentGrows, StartsInOrder, firings_in, firings_shown}
+use Rattle.net_model.specs.Laws.{IsRunOf, LinesAreRuns, SentGrows, StartsInOrder, firings_in, firings_shown, sent_on_link}
 use Rattle.net_model.specs.Stable.{IsPrefix}
 use Rattle.net_model.specs.Trace.{bytes_out}
 use Rattle.net_model.specs.Wired.{IsWired}
@@ -21,6 +21,7 @@ use Rattle.determinacy_cert.specs.Certifying.{CertifiedAreDeterminate, NoFailure
 use Rattle.determinacy_cert.specs.Determinacy.{AsManyFirings, AsManyFiringsAreAll, IsDeterminate, IsQuietRun, NoQuietRunBesides, QuietRunsAgree, SentArePrefixes}
 use Rattle.fnl_flatten.specs.Flat.{FlatAreWired}
 use Rattle.network_job.specs.Leaving.{HasEnded, Setting, file_out, setting_of}
+use Rattle.source_network.specs.Files.{files_of}
 use Rattle.run_report.specs.About.{About}
 use Rattle.run_report.specs.declared.status.Status.{Status}
 use Rattle.rvc_words.specs.declared.job.Job.{Job}
@@ -42,18 +43,18 @@ pub record Laws (X : Type 0) : Type 0 where
 
 module _ {X : Type 0} (laws : Laws X) (net : Network X) (inputs : List (List ℕ)) (job : Job) (det : IsDeterminate net) (end : Line) (counts : Counts) (channels : Channels)
     (ended : HasEnded (setting_of net inputs (start_of net inputs) job) end counts channels) (events : List Event) (quiet : State X) (is : IsQuietRun net inputs events quiet) where
-  last : State X
+  abbrev last : State X
   last = ended.last
 
   -- its events
   ran : IsRunOf net (start_of net inputs) last (firings_shown (ended.before ++ end ∷ []))
   ran = laws.runs net job.grow (ended.before ++ end ∷ []) (start_of net inputs) last (laws.starts net inputs).0 ended.permitted.plays
 
-  alike : (l : ℕ) → _
+  alike : (l : ℕ) → sent_on_link ran.reached l ≡ sent_on_link last l
   alike l = sent_alike ran.reached last ran.same_tokens l
 
   grows : SentGrows net last quiet
-  grows l low = subst (λ w. IsPrefix w _) (alike l) (laws.sent net inputs ran.events events ran.reached quiet det ran.leads is l low)
+  grows l low = subst (λ w. IsPrefix w (sent_on_link quiet l)) (alike l) (laws.sent net inputs ran.events events ran.reached quiet det ran.leads is l low)
 
   continues : (p : ℕ) → IsPrefix (bytes_out net last p) (bytes_out net quiet p)
   continues = bytes_grow net last quiet grows
@@ -62,8 +63,8 @@ module _ {X : Type 0} (laws : Laws X) (net : Network X) (inputs : List (List ℕ
   back end_is l low =
       let reached_quiet : IsQuiet net ran.reached = quiet_alike net last ran.reached (sym ran.same_tokens)
           (ends_quiet net job.grow (start_of net inputs) last ended.before end ended.permitted.plays end_is) in
-      let same = laws.agree net inputs events ran.events quiet ran.reached det is (record { leads = ran.leads; quiet = reached_quiet }) l low in
-      ([], sym (alike l) ∙ (sym same ∙ sym (append-nil _)))
+      let same : sent_on_link quiet l ≡ sent_on_link ran.reached l = laws.agree net inputs events ran.events quiet ran.reached det is (record { leads = ran.leads; quiet = reached_quiet }) l low in
+      ([], sym (alike l) ∙ (sym same ∙ sym (append-nil (sent_on_link quiet l))))
 
   equals : end ≡ QuietLine → (p : ℕ) → bytes_out net quiet p ≡ bytes_out net last p
   equals end_is p = each_other (bytes_out net last p) (bytes_out net quiet p) (continues p) (bytes_grow net quiet last (back end_is) p)
@@ -101,16 +102,17 @@ pub tells : Laws ActorState → FlatAreWired ActorState → CertifiedAreDetermin
     → Each IsSound (actors_of ran) → TellsQuietRuns ran
 tells laws wired determinate none cmd end counts lines about ran sound =
     let means = ran.is_to_run.files.means in
+    let files = files_of ran.is_to_run.files.reads in
     let instances : about.instances ≡ length means.actors =
-        ap (λ a. a.instances) ran.about_is ∙ leaves_many _ means.tree.leaves means.actors ran.net.leaves means.are_actors in
+        ap (λ a. a.instances) ran.about_is ∙ leaves_many files means.tree.leaves means.actors ran.net.leaves means.are_actors in
     record {
       shown = (
         λ shows. all_counted means.actors ran.are_certified.said ran.are_certified.judged (sym ran.are_certified.counted ∙ (shows ∙ instances)),
         λ each. ran.are_certified.counted
-            ∙ (counted_all none _ means.tree.leaves means.actors ran.net.leaves ran.are_certified.said means.are_actors ran.are_certified.judged each ∙ sym instances),
+            ∙ (counted_all none files means.tree.leaves means.actors ran.net.leaves ran.are_certified.said means.are_actors ran.are_certified.judged each ∙ sym instances),
       );
       go_on = λ each inputs given.
           goes_on laws ran.net inputs cmd.job
-          (determinate ran.net (wired means.tree _ ran.net means.flat) (leaves_certified _ means.tree.leaves means.actors ran.net.leaves means.are_actors sound each))
+          (determinate ran.net (wired means.tree _ ran.net means.flat) (leaves_certified files means.tree.leaves means.actors ran.net.leaves means.are_actors sound each))
           end counts cmd.channels_after (ran.leaves inputs given);
     }

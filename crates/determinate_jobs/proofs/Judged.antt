@@ -14,7 +14,7 @@ use Rattle.determinacy_cert.specs.declared.fault.CertFault.TheVariants.{Uncertif
 use Rattle.fnl_tree.specs.Tree.{Leaf as TreeLeaf}
 use Rattle.rvc_engine.specs.Built.{AreJudged, IsJudged}
 use Rattle.run_job.specs.Commands.{count_none}
-use Rattle.source_network.specs.Source.{AreActors, Files}
+use Rattle.source_network.specs.Source.{AreActors, Files, IsLeaf}
 
 -- ---- counts
 
@@ -76,22 +76,34 @@ leaves_many files (leaf ∷ leaves) (actor ∷ actors) [] are = absurd are
 
 -- ---- the network
 
+each_at : {A : Type 0} (P : A → Type 0) (xs : List A) → Each P xs → (i : ℕ) (x : A) → slice_get xs i ≡ Some x → P x
+each_at P [] each i x at = cc
+each_at P (y ∷ xs) each zero x at = let e : y ≡ x = cc in subst P e each.0
+each_at P (y ∷ xs) each (suc i) x at = each_at P xs each.1 i x at
+
+each_both : {A : Type 0} (P Q : A → Type 0) (xs : List A) → Each P xs → Each Q xs → Each (λ x. P x × Q x) xs
+each_both P Q [] ps qs = tt
+each_both P Q (x ∷ xs) ps qs = ((ps.0, qs.0), each_both P Q xs ps.1 qs.1)
+
+-- what holds of each actor gives what holds of each leaf
+each_leaf : (P : Actor → Type 0) (Q : Leaf State → Type 0) → ((actor : Actor) (leaf : TreeLeaf) (x : Leaf State) → IsLeaf actor leaf x → P actor → Q x)
+    → (files : Files) (leaves : List TreeLeaf) (actors : List Actor) (xs : List (Leaf State)) → AreActors files leaves actors xs → Each P actors → Each Q xs
+each_leaf P Q f files [] [] [] are each = tt
+each_leaf P Q f files (leaf ∷ leaves) (actor ∷ actors) (x ∷ xs) are each =
+    (f actor leaf x are.1.0 each.0, each_leaf P Q f files leaves actors xs are.1.1 each.1)
+each_leaf P Q f files [] [] (x ∷ xs) are each = absurd are
+each_leaf P Q f files [] (actor ∷ actors) xs are each = absurd are
+each_leaf P Q f files (leaf ∷ leaves) [] xs are each = absurd are
+each_leaf P Q f files (leaf ∷ leaves) (actor ∷ actors) [] are each = absurd are
+
+certified_leaf : (actor : Actor) (leaf : TreeLeaf) (x : Leaf State) → IsLeaf actor leaf x → IsSound actor × IsCertified actor → IsOfCertified x.behaviour
+certified_leaf actor leaf x is both =
+    record { actor = actor; priorities = is.priorities; is = is.behaviour; sound = both.0; certified = both.1 }
+
 -- each leaf is that of a certified actor
 pub leaves_certified : (files : Files) (leaves : List TreeLeaf) (actors : List Actor) (xs : List (Leaf State)) → AreActors files leaves actors xs
     → Each IsSound actors → Each IsCertified actors → (i : ℕ) (x : Leaf State) → slice_get xs i ≡ Some x → IsOfCertified x.behaviour
-leaves_certified files [] [] [] are sound each i x at = cc
-leaves_certified files (leaf ∷ leaves) (actor ∷ actors) (y ∷ xs) are sound each zero x at =
-    let same : y ≡ x = cc in
-    subst (λ w. IsOfCertified w.behaviour) same (record {
-      actor = actor;
-      priorities = are.1.0.priorities;
-      is = are.1.0.behaviour;
-      sound = sound.0;
-      certified = each.0;
-    })
-leaves_certified files (leaf ∷ leaves) (actor ∷ actors) (y ∷ xs) are sound each (suc i) x at =
-    leaves_certified files leaves actors xs are.1.1 sound.1 each.1 i x at
-leaves_certified files [] [] (y ∷ xs) are sound each i x at = absurd are
-leaves_certified files [] (actor ∷ actors) xs are sound each i x at = absurd are
-leaves_certified files (leaf ∷ leaves) [] xs are sound each i x at = absurd are
-leaves_certified files (leaf ∷ leaves) (actor ∷ actors) [] are sound each i x at = absurd are
+leaves_certified files leaves actors xs are sound each =
+    each_at (λ x. IsOfCertified x.behaviour) xs
+    (each_leaf (λ actor. IsSound actor × IsCertified actor) (λ x. IsOfCertified x.behaviour) certified_leaf files leaves actors xs are
+    (each_both IsSound IsCertified actors sound each))

@@ -1,6 +1,6 @@
 -- What a run that came to its end tells of every quiet run over the same inputs, if each actor is certified.
 -- Trusted: part of what a promise means.
-use Rattle.std.specs.Prelude.{◌≡◌, ◌≢◌, ◌↔◌, ℕ, ◌<◌, true, List, length, Option, None, Some}
+use Rattle.std.specs.Prelude.{◌≡◌, ◌≢◌, ◌↔◌, ℕ, ◌+◌, ◌<◌, true, List, length, Option, None, Some}
 use Rattle.rvc_base.specs.declared.trap.Trap.{Trap}
 use Rattle.rvc_io.specs.Channels.{Channels}
 use Rattle.trace_text.specs.declared.line.Line.{Line}
