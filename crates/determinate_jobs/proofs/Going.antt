@@ -34,12 +34,12 @@ use Rattle.determinate_jobs.proofs.Judged.{all_counted, counted_all, leaves_cert
 
 -- the laws of determinate networks
 pub record Laws (X : Type 0) : Type 0 where
-  runs : LinesAreRuns X
-  starts : StartsInOrder X
-  sent : SentArePrefixes X
-  agree : QuietRunsAgree X
-  alone : NoQuietRunBesides X
-  all : AsManyFiringsAreAll X
+  pub runs : LinesAreRuns X
+  pub starts : StartsInOrder X
+  pub sent : SentArePrefixes X
+  pub agree : QuietRunsAgree X
+  pub alone : NoQuietRunBesides X
+  pub all : AsManyFiringsAreAll X
 
 module _ {X : Type 0} (laws : Laws X) (net : Network X) (inputs : List (List ℕ)) (job : Job) (det : IsDeterminate net) (end : Line) (counts : Counts) (channels : Channels)
     (ended : HasEnded (setting_of net inputs (start_of net inputs) job) end counts channels) (events : List Event) (quiet : State X) (is : IsQuietRun net inputs events quiet) where
