@@ -1,0 +1,4 @@
+mod Bared
+mod Ended
+mod Judged
+mod Going
