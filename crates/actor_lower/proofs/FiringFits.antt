@@ -93,7 +93,7 @@ fits-more whole callable k m base h code j out e le f = record {
       };
 }
 
-has-more : (whole : Code) (callable k m : ℕ) (rs : Routines) → k ≤ m → HasRunRoutines whole callable k rs → HasRunRoutines whole callable m rs
+pub has-more : (whole : Code) (callable k m : ℕ) (rs : Routines) → k ≤ m → HasRunRoutines whole callable k rs → HasRunRoutines whole callable m rs
 has-more whole callable k m rs le has = record {
   functions = λ text f e.
       let one = has.functions text f e in

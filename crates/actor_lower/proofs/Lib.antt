@@ -6,3 +6,6 @@ pub mod Tabled
 pub mod FiringFits
 pub mod BodyRows
 pub mod Rowed
+pub mod Routined
+pub mod Chosen
+pub mod Cleared

@@ -124,7 +124,7 @@ module _ (actor : Actor) (sound : IsSound actor) (l : coded.Actor) (is : IsLower
       body-runs : (k : ActionCode) → IsCodedAction actor a k draft → BodyRuns numbers_of_vars l x (lowered.taken l (tokens_on u) a) (coded.action_of k) (body actor y u a)
       body-runs k one =
           let room : draft.cells ≤ length cells = let e = code.cells in let f = cells-are.size in omega (arith, e, f) in
-          let fires : Fires actor a act one.firsts l.code k.fire y u cells = one.fires act l.code [] y u cells ready.there whole room stands.state ready.tokens ready.may_fire ready.has holds in
+          let fires : Fires actor a act one.firsts l.code k.fire y u cells = one.fires act l.code [] y u cells ready.there (whole, code.routines) room stands.state ready.tokens ready.may_fire ready.has holds in
           record {
             cells = cells;
             are = cells-are;

@@ -11,7 +11,7 @@ use Rattle.cal_model.specs.Actor.{Action, Actor}
 use Rattle.cal_model.specs.View.{action_view, actor_of, output_view, port_view}
 use Rattle.lowered_actor.specs.declared.parts.ActionCode.{ActionCode}
 use Rattle.expr_lower.specs.declared.draft.Draft.{Draft}
-use Rattle.stmt_lower.specs.Procedures.{no_routines}
+use Rattle.stmt_lower.specs.Procedures.{Routines}
 use Rattle.action_lower.specs.FiringWords.{AddsFiring}
 use Rattle.action_lower.specs.GuardWords.{AddsGuards}
 use Rattle.action_lower.specs.FiringCode.{first_on}
@@ -19,8 +19,8 @@ use Rattle.action_lower.proofs.ActionAt.{at-place}
 use Rattle.actor_lower.specs.Coded.{AddsBodies, AreCodedActions, AreSends, IsCodedAction, IsMore}
 use Rattle.actor_lower.specs.Faults.{AreWhole, left_out_at}
 use Rattle.actor_lower.proofs.Extending.{coded-more, firing-added, guards-added}
-use Rattle.actor_lower.proofs.Rowed.{action-bodies}
-use Rattle.action_lower.specs.Seats.{state_cells}
+use Rattle.actor_lower.proofs.Rowed.{firing-bodies, guards-bodies}
+use Rattle.actor_lower.specs.Drafted.{IsServed}
 use Rattle.cal_model.specs.Sound.{IsSound}
 
 pub there : {A : Type 0} (xs : List A) (k : ℕ) → k < length xs → (x : A) × (slice_get xs k ≡ Some x)
@@ -29,19 +29,20 @@ there (x ∷ xs) zero h = (x, refl)
 there (x ∷ xs) (suc k) h = there xs k (omega arith)
 
 module _ (b : Bound) (a : ℕ) (low : a < length b.actions.items) where
-  action-there : (act : Action) × (slice_get (actor_of b).actions a ≡ Some act)
+  pub action-there : (act : Action) × (slice_get (actor_of b).actions a ≡ Some act)
   action-there = there (actor_of b).actions a (let e = length-map b.actions.items action_view in omega (arith, low, e))
 
   pub guards-grown : (es : List ℕ) (old new : Draft) → AddsGuards (actor_of b) a es old new → IsMore old new
   guards-grown es old new added = guards-added (actor_of b) a action-there.0 es old new action-there.1 added
 
-  pub firing-grown : (entry : ℕ) (firsts : List ℕ) (old new : Draft) → AddsFiring no_routines (actor_of b) a entry firsts old new → IsMore old new
-  firing-grown entry firsts old new added = firing-added no_routines (actor_of b) a action-there.0 entry firsts old new action-there.1 added
+  pub firing-grown : (rs : Routines) (entry : ℕ) (firsts : List ℕ) (old new : Draft) → AddsFiring rs (actor_of b) a entry firsts old new → IsMore old new
+  firing-grown rs entry firsts old new added = firing-added rs (actor_of b) a action-there.0 entry firsts old new action-there.1 added
 
-  pub bodies-grown : (es : List ℕ) (entry : ℕ) (firsts : List ℕ) (old mid new : Draft) → IsSound (actor_of b) → state_cells (actor_of b) ≤ mid.cells → AddsGuards (actor_of b) a es old mid
-      → AddsFiring no_routines (actor_of b) a entry firsts mid new → AddsBodies (es ++ entry ∷ []) old new
-  bodies-grown es entry firsts old mid new sound le guards firing =
-      action-bodies (actor_of b) a action-there.0 es entry firsts old mid new sound le action-there.1 (firing-grown entry firsts mid new firing) guards firing
+  pub guards-alone : (es : List ℕ) (old new : Draft) → AddsGuards (actor_of b) a es old new → AddsBodies es old new
+  guards-alone es old new added = guards-bodies (actor_of b) a action-there.0 es old new action-there.1 added
+
+  pub firing-alone : (rs : Routines) (entry : ℕ) (firsts : List ℕ) (old new : Draft) → IsSound (actor_of b) → IsServed (actor_of b) rs old → AddsFiring rs (actor_of b) a entry firsts old new → AddsBodies (entry ∷ []) old new
+  firing-alone rs entry firsts old new sound served added = firing-bodies (actor_of b) a action-there.0 rs entry firsts old new sound served action-there.1 added
 
 -- where the outputs of an action are sent from
 pub sends-are : (b : Bound) (a n : ℕ) (act : BoundAction) (same : n ≡ a) (there : a < length b.actions.items) (is : act ≡ slice_index_or b.actions.items n act)
@@ -77,11 +78,11 @@ more-coded actor n actions now coded old new are grown one is = record {
       (last-or-before actions coded a x (ap (λ xs. slice_get xs a) (sym is) ∙ e));
 }
 
-pub whole-more : (b : Bound) (n : ℕ) → AreWhole b n → left_out_at b n ≡ None → AreWhole b (n + 1)
-whole-more b n whole here a low =
+pub whole-more : (rs : Routines) (b : Bound) (n : ℕ) → AreWhole rs b n → left_out_at rs b n ≡ None → AreWhole rs b (n + 1)
+whole-more rs b n whole here a low =
     ⊎_elim
     (λ (less : a < n). whole a less)
-    (λ (past : n ≤ a). let same : n ≡ a = omega (arith, low, past) in subst (λ k. left_out_at b k ≡ None) same here)
+    (λ (past : n ≤ a). let same : n ≡ a = omega (arith, low, past) in subst (λ k. left_out_at rs b k ≡ None) same here)
     (cases_lt a n)
 
 pub no-actions : (actor : Actor) (draft : Draft) → AreCodedActions actor 0 [] draft

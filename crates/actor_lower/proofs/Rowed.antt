@@ -1,5 +1,5 @@
 -- The code of actions is a row of bodies.
-use Rattle.std.proofs.Common.{◌≡◌, ℕ, zero, suc, ◌+◌, ◌<◌, ◌≤◌, ⊎_elim, Bool, true, false, List, [], ◌∷◌, ◌++◌, length, take, refl, sym, ap, subst, ◌∙◌, Some, arith, append_assoc, length-append}
+use Rattle.std.proofs.Common.{◌≡◌, ℕ, zero, suc, ◌+◌, ◌<◌, ◌≤◌, ⊎_elim, Bool, true, false, List, [], ◌∷◌, ◌++◌, length, map, take, refl, sym, ap, subst, ◌∙◌, Some, arith, append_assoc, length-append}
 use Rattle.std.specs.Prelude.{slice_get, ◌==◌, ◌||◌}
 use Rattle.std.proofs.lemmas.Bool.{eq-eqb, eqb-true}
 use Rattle.std.proofs.lemmas.List.{append-nil}
@@ -21,7 +21,7 @@ use Rattle.expr_lower.specs.Placed.{StandsAt}
 use Rattle.expr_lower.specs.Routining.{LocalsSized}
 use Rattle.expr_lower.proofs.Runs.{stands_left, stands_right}
 use Rattle.stmt_lower.specs.Calls.{HasRunRoutines}
-use Rattle.stmt_lower.specs.Procedures.{no_routines}
+use Rattle.stmt_lower.specs.Procedures.{Routines}
 use Rattle.lowered_actor.specs.declared.parts.ActionCode.{ActionCode}
 use Rattle.action_lower.specs.FiringCode.{IsFiringCode}
 use Rattle.action_lower.specs.FiringWords.{AddsFiring}
@@ -35,22 +35,31 @@ use Rattle.action_lower.proofs.Holding.{size-at}
 use Rattle.actor_lower.specs.Coded.{AddsBodies, AreBodiesOf, IsMore, all_entries, entries_of}
 use Rattle.actor_lower.specs.Fitting.{AreBodies, FitsAsFiring, body_more, no_body}
 use Rattle.actor_lower.proofs.Extending.{guards-grow}
-use Rattle.actor_lower.proofs.FiringFits.{firing-fits, fits-more}
+use Rattle.actor_lower.specs.Drafted.{GoesOn, HoldsRoutines, IsServed, starts}
+use Rattle.actor_lower.proofs.FiringFits.{firing-fits, fits-more, has-more}
 
 -- ---- guards and firings
 
 guards-rows : {names : List Name} {gs : List Tree} {es : List ℕ} {base n m : ℕ} {part : List Instr} → AreGuards names gs es base n part m → (whole : Code) → StandsAt whole.instrs base part → m ≤ whole.cells
-    → (rest : List ℕ) → AreBodies whole (base + length part) rest → AreBodies whole base (es ++ rest)
-guards-rows (no_guard base n) whole stands le rest rows = let none : base + 0 ≡ base = omega arith in subst (λ p. AreBodies whole p rest) none rows
-guards-rows (guard_more g gs es base n k m a b first others) whole stands le rest rows =
+    → (number : ℕ) → length whole.routines ≤ number → (rest : List ℕ) → AreBodies whole (base + length part) (number + length es) rest → AreBodies whole base number (es ++ rest)
+guards-rows (no_guard base n) whole stands le number behind rest rows =
+    let none : base + 0 ≡ base = omega arith in
+    let still : number + 0 ≡ number = omega arith in
+    subst (λ p. AreBodies whole p number rest) none (subst (λ k. AreBodies whole (base + 0) k rest) still rows)
+guards-rows (guard_more g gs es base n k m a b first others) whole stands le number behind rest rows =
     let more = guards-grow others in
     let here : StandsAt whole.instrs base (first.body ++ op.Answer ∷ []) = subst (StandsAt whole.instrs base) first.is (stands_left whole.instrs base a b stands) in
     let size : length a ≡ length first.body + 1 = ap length first.is ∙ length-append first.body (op.Answer ∷ []) in
     let split : base + length (a ++ b) ≡ base + length a + length b = let s = length-append a b in omega (arith, s) in
-    let later : AreBodies whole (base + length a) (es ++ rest) =
-    guards-rows others whole (stands_right whole.instrs base a b stands) le rest (subst (λ p. AreBodies whole p rest) split rows) in
+    let count : number + suc (length es) ≡ number + 1 + length es = omega arith in
+    let later : AreBodies whole (base + length a) (number + 1) (es ++ rest) =
+    guards-rows others whole (stands_right whole.instrs base a b stands) le (number + 1) (omega (arith, behind)) rest
+    (subst (λ k. AreBodies whole (base + length a + length b) k rest) count (subst (λ p. AreBodies whole p (number + suc (length es)) rest) split rows)) in
     let next : base + length a ≡ base + length first.body + 1 = omega (arith, size) in
-    body_more base (base + length first.body) (es ++ rest) (record {
+    body_more base (base + length first.body) number (es ++ rest) (record {
+      callable = 0;
+      before = omega arith;
+      routines = omega arith;
       instrs = first.body;
       left = 1;
       last = op.Answer;
@@ -58,20 +67,21 @@ guards-rows (guard_more g gs es base n k m a b first others) whole stands le res
       stands = stands_left whole.instrs base first.body (op.Answer ∷ []) here;
       fits = fits-more whole 0 k whole.cells base 0 first.body 1 (base + length first.body) 1 (omega (arith, more, le)) (first.lowered.fits whole 0 0);
       ends = (stands_right whole.instrs base first.body (op.Answer ∷ []) here).0;
-      is_end = refl;
-    }) (subst (λ p. AreBodies whole p (es ++ rest)) next later)
+      is_end = (behind, refl);
+    }) (subst (λ p. AreBodies whole p (number + 1) (es ++ rest)) next later)
 
-none-there : (whole : Code) (n : ℕ) → HasRunRoutines whole 0 n no_routines
-none-there whole n = record { functions = λ text f e. absurd (cc); procedures = λ text p e. absurd (cc) }
-
-firing-rows : {names : List Name} {ports : List Port} {act : Action} {firsts : List ℕ} {base n m : ℕ} {code : List Instr} → IsFiringCode no_routines names ports act firsts base n code m → AreBelow n names → LocalsSized act.locals
-    → ((port : ℕ) → IsSize (kind_of_port ports port)) → (whole : Code) → StandsAt whole.instrs base code → m ≤ whole.cells → (rest : List ℕ) → AreBodies whole (base + length code) rest → AreBodies whole base (base ∷ rest)
-firing-rows {names} {ports} {act} {firsts} {base} {n} {m} {code} is below sized kinds whole stands le rest rows =
-    let fit : FitsAsFiring whole 0 whole.cells base code = firing-fits whole 0 whole.cells no_routines names ports act firsts base n m code (none-there whole n) below sized kinds le stands is in
+firing-rows : {rs : Routines} {names : List Name} {ports : List Port} {act : Action} {firsts : List ℕ} {base n m : ℕ} {code : List Instr} → IsFiringCode rs names ports act firsts base n code m → AreBelow n names → LocalsSized act.locals
+    → ((port : ℕ) → IsSize (kind_of_port ports port)) → (whole : Code) → HasRunRoutines whole (length whole.routines) n rs → StandsAt whole.instrs base code → m ≤ whole.cells
+    → (number : ℕ) → length whole.routines ≤ number → (rest : List ℕ) → AreBodies whole (base + length code) (number + 1) rest → AreBodies whole base number (base ∷ rest)
+firing-rows {rs} {names} {ports} {act} {firsts} {base} {n} {m} {code} is below sized kinds whole has stands le number behind rest rows =
+    let fit : FitsAsFiring whole (length whole.routines) whole.cells base code = firing-fits whole (length whole.routines) whole.cells rs names ports act firsts base n m code has below sized kinds le stands is in
     let here : StandsAt whole.instrs base (fit.body ++ op.Done ∷ []) = subst (StandsAt whole.instrs base) fit.is stands in
     let size : length code ≡ length fit.body + 1 = ap length fit.is ∙ length-append fit.body (op.Done ∷ []) in
     let next : base + length code ≡ base + length fit.body + 1 = omega (arith, size) in
-    body_more base (base + length fit.body) rest (record {
+    body_more base (base + length fit.body) number rest (record {
+      callable = length whole.routines;
+      before = behind;
+      routines = omega arith;
       instrs = fit.body;
       left = 0;
       last = op.Done;
@@ -79,48 +89,51 @@ firing-rows {names} {ports} {act} {firsts} {base} {n} {m} {code} is below sized 
       stands = stands_left whole.instrs base fit.body (op.Done ∷ []) here;
       fits = fit.fits;
       ends = (stands_right whole.instrs base fit.body (op.Done ∷ []) here).0;
-      is_end = refl;
-    }) (subst (λ p. AreBodies whole p rest) next rows)
+      is_end = (behind, refl);
+    }) (subst (λ p. AreBodies whole p (number + 1) rest) next rows)
 
 -- ---- in a draft
 
-stood-in : (whole : Code) (old new code more : List Instr) → new ≡ old ++ code → whole.instrs ≡ new ++ more → StandsAt whole.instrs (length old) code
+pub stood-in : (whole : Code) (old new code more : List Instr) → new ≡ old ++ code → whole.instrs ≡ new ++ more → StandsAt whole.instrs (length old) code
 stood-in whole old new code more is all =
     let placed : whole.instrs ≡ old ++ (code ++ more) = all ∙ ap (λ xs. xs ++ more) is ∙ append_assoc old code more in
     subst (λ xs. StandsAt xs (length old) code) (sym placed) (stands-in old code more)
 
-guards-bodies : (actor : Actor) (a : ℕ) (act : Action) (es : List ℕ) (old new : Draft) → slice_get actor.actions a ≡ Some act → AddsGuards actor a es old new → AddsBodies es old new
-guards-bodies actor a act es old new e added whole more rest is room rows =
+pub guards-bodies : (actor : Actor) (a : ℕ) (act : Action) (es : List ℕ) (old new : Draft) → slice_get actor.actions a ≡ Some act → AddsGuards actor a es old new → AddsBodies es old new
+guards-bodies actor a act es old new e added whole more number rest goes room behind rows =
     let one = added act e in
+    let is = goes.0 in
     let size : length new.instrs.items ≡ length old.instrs.items + length one.code = ap length one.is ∙ length-append old.instrs.items one.code in
-    guards-rows one.has whole (stood-in whole old.instrs.items new.instrs.items one.code more one.is is) room rest (subst (λ k. AreBodies whole k rest) size rows)
+    guards-rows one.has whole (stood-in whole old.instrs.items new.instrs.items one.code more one.is is) room number behind rest (subst (λ k. AreBodies whole k (number + length es) rest) size rows)
 
-second-sized : (ps qs : List Port) → Each (λ p. IsSize p.kind) (ps ++ qs) → Each (λ p. IsSize p.kind) qs
+pub second-sized : (ps qs : List Port) → Each (λ p. IsSize p.kind) (ps ++ qs) → Each (λ p. IsSize p.kind) qs
 second-sized [] qs h = h
 second-sized (p ∷ ps) qs h = second-sized ps qs h.1
 
-firing-bodies : (actor : Actor) (a : ℕ) (act : Action) (entry : ℕ) (firsts : List ℕ) (old new : Draft) → IsSound actor → state_cells actor ≤ old.cells → slice_get actor.actions a ≡ Some act
-    → AddsFiring no_routines actor a entry firsts old new → AddsBodies (entry ∷ []) old new
-firing-bodies actor a act entry firsts old new sound le e added whole more rest is room rows =
+pub firing-bodies : (actor : Actor) (a : ℕ) (act : Action) (rs : Routines) (entry : ℕ) (firsts : List ℕ) (old new : Draft) → IsSound actor → IsServed actor rs old → slice_get actor.actions a ≡ Some act
+    → AddsFiring rs actor a entry firsts old new → AddsBodies (entry ∷ []) old new
+firing-bodies actor a act rs entry firsts old new sound served e added whole more number rest goes room behind rows =
     let one = added.1 act e in
+    let is = goes.0 in
+    let le : state_cells actor ≤ old.cells = let x = served.state in let y = served.below in omega (arith, x, y) in
+    let before : GoesOn old whole (one.code ++ more) = (is ∙ ap (λ xs. xs ++ more) one.is ∙ append_assoc old.instrs.items one.code more, goes.1 ∙ one.routines) in
+    let has : HasRunRoutines whole (length whole.routines) old.cells rs =
+    subst (λ k. HasRunRoutines whole k old.cells rs) (sym (ap length before.1)) (has-more whole (length old.routines.items) served.high old.cells rs served.below (served.called whole (one.code ++ more) before)) in
     let size : length new.instrs.items ≡ length old.instrs.items + length one.code = ap length one.is ∙ length-append old.instrs.items one.code in
     let is_action : IsAction actor act = action-at actor actor.actions a act sound.actions e in
     let sized : LocalsSized act.locals = locals-sized act.locals (with_patterns actor act.patterns (names_of actor)) is_action.locals in
-    let made : AreBodies whole (length old.instrs.items) (length old.instrs.items ∷ rest) =
-    firing-rows one.has (seen-below old.cells actor act le) sized (λ port. size-at actor.outs port (second-sized actor.ins actor.outs sound.port_sizes)) whole
-    (stood-in whole old.instrs.items new.instrs.items one.code more one.is is) room rest (subst (λ k. AreBodies whole k rest) size rows) in
-    subst (λ k. AreBodies whole (length old.instrs.items) (k ∷ rest)) (sym added.0) made
+    let made : AreBodies whole (length old.instrs.items) number (length old.instrs.items ∷ rest) =
+    firing-rows one.has (seen-below old.cells actor act le) sized (λ port. size-at actor.outs port (second-sized actor.ins actor.outs sound.port_sizes)) whole has
+    (stood-in whole old.instrs.items new.instrs.items one.code more one.is is) room number behind rest (subst (λ k. AreBodies whole k (number + 1) rest) size rows) in
+    subst (λ k. AreBodies whole (length old.instrs.items) number (k ∷ rest)) (sym added.0) made
 
 pub bodies-join : (es fs : List ℕ) (one two three : Draft) → IsMore two three → AddsBodies es one two → AddsBodies fs two three → AddsBodies (es ++ fs) one three
-bodies-join es fs one two three grown f g whole more rest is room rows =
-    subst (AreBodies whole (length one.instrs.items)) (sym (append_assoc es fs rest))
-    (f whole (grown.code ++ more) (fs ++ rest) (is ∙ ap (λ xs. xs ++ more) grown.is ∙ append_assoc two.instrs.items grown.code more) (let le = grown.cells in omega (arith, le, room)) (g whole more rest is room rows))
-
--- those of one action
-pub action-bodies : (actor : Actor) (a : ℕ) (act : Action) (es : List ℕ) (entry : ℕ) (firsts : List ℕ) (old mid new : Draft) → IsSound actor → state_cells actor ≤ mid.cells → slice_get actor.actions a ≡ Some act → IsMore mid new
-    → AddsGuards actor a es old mid → AddsFiring no_routines actor a entry firsts mid new → AddsBodies (es ++ entry ∷ []) old new
-action-bodies actor a act es entry firsts old mid new sound le e grown guards firing =
-    bodies-join es (entry ∷ []) old mid new grown (guards-bodies actor a act es old mid e guards) (firing-bodies actor a act entry firsts mid new sound le e firing)
+bodies-join es fs one two three grown f g whole more number rest goes room behind rows =
+    let count : number + length (es ++ fs) ≡ number + length es + length fs = let s = length-append es fs in omega (arith, s) in
+    subst (AreBodies whole (length one.instrs.items) number) (sym (append_assoc es fs rest))
+    (f whole (grown.code ++ more) number (fs ++ rest) (goes.0 ∙ ap (λ xs. xs ++ more) grown.is ∙ append_assoc two.instrs.items grown.code more, goes.1 ∙ grown.routines)
+    (let le = grown.cells in omega (arith, le, room)) behind
+    (g whole more (number + length es) rest goes room (omega (arith, behind)) (subst (λ k. AreBodies whole (length three.instrs.items) k rest) count rows)))
 
 -- ---- all actions
 
@@ -132,11 +145,23 @@ pub actions-bodies : (xs now : List ActionCode) (x : ActionCode) (one two three 
 actions-bodies xs now x one two three is grown f g =
     subst (λ es. AddsBodies es one three) (sym (ap all_entries is ∙ all-more xs x)) (bodies-join (all_entries xs) (entries_of x) one two three grown f g)
 
-pub bodies-of : (xs : List ActionCode) (old new : Draft) → old.instrs.items ≡ [] → AddsBodies (all_entries xs) old new → AreBodiesOf xs new
-bodies-of xs old new empty added whole is cells =
+pub no-bodies : (draft : Draft) → AddsBodies [] draft draft
+no-bodies draft whole more number rest goes room behind rows =
+    let still : number + 0 ≡ number = omega arith in
+    subst (λ k. AreBodies whole (length draft.instrs.items) k rest) still rows
+
+pub bodies-of : (xs : List ActionCode) (old new : Draft) → HoldsRoutines old → IsMore old new → AddsBodies (all_entries xs) old new → AreBodiesOf xs new
+bodies-of xs old new holds grown added whole is routines cells =
     let all : whole.instrs ≡ new.instrs.items ++ [] = is ∙ sym (append-nil new.instrs.items) in
-    let rows : AreBodies whole (length old.instrs.items) (all_entries xs ++ []) = added whole [] [] all (omega (arith, cells)) (no_body (length new.instrs.items) (sym (ap length is))) in
-    subst (λ es. AreBodies whole 0 es) (append-nil (all_entries xs)) (subst (λ zs. AreBodies whole (length zs) (all_entries xs ++ [])) empty rows)
+    let same : whole.routines ≡ old.routines.items = routines ∙ grown.routines in
+    let count : length whole.routines ≡ length old.routines.items = ap length same in
+    let rows : AreBodies whole (length old.instrs.items) (length old.routines.items) (all_entries xs ++ []) =
+    added whole [] (length old.routines.items) [] (all, routines) (omega (arith, cells)) (omega (arith, count))
+    (no_body (length new.instrs.items) (length old.routines.items + length (all_entries xs)) (sym (ap length is))) in
+    let made : AreBodies whole 0 0 (starts old ++ (all_entries xs ++ [])) =
+    holds whole (all_entries xs ++ []) (record { more = grown.code; instrs = is ∙ grown.is; others = []; routines = same ∙ sym (append-nil old.routines.items) }) (let le = grown.cells in omega (arith, cells, le)) rows in
+    let begin : starts old ≡ starts new = ap (λ rs. map (λ r. r.start) rs) (sym grown.routines) in
+    subst (λ es. AreBodies whole 0 0 (starts new ++ es)) (append-nil (all_entries xs)) (subst (λ es. AreBodies whole 0 0 (es ++ (all_entries xs ++ []))) begin made)
 
 -- ---- admitted code isn't bad
 

@@ -1,6 +1,6 @@
 -- Actions whose code stands in a draft.
 -- Not trusted: no promise is read with it.
-use Rattle.std.specs.Prelude.{◌≡◌, ℕ, ◌≤◌, ℤ, true, List, [], ◌∷◌, ◌++◌, length, map, Some, slice_get}
+use Rattle.std.specs.Prelude.{◌≡◌, ℕ, ◌+◌, ◌≤◌, ℤ, true, List, [], ◌∷◌, ◌++◌, length, map, Some, slice_get}
 use Rattle.std.specs.List.{range_with_len}
 use Rattle.cal_model.specs.Actor.{Action, Actor}
 use Rattle.cal_model.specs.ActorState.{IsActorState, AreTokensOf}
@@ -17,6 +17,7 @@ use Rattle.action_lower.specs.FiringCode.{Fires, first_on}
 use Rattle.action_lower.specs.GuardWords.{AnswerAsGuards}
 use Rattle.action_lower.specs.Seats.{HoldVars}
 use Rattle.actor_tables.specs.Tables.{AreRatesOf}
+use Rattle.actor_lower.specs.Drafted.{GoesOn, starts}
 use Rattle.actor_lower.specs.Fitting.{AreBodies}
 
 -- a draft begins with all that there was before, has the same routines, and has as many cells or more
@@ -26,12 +27,12 @@ pub record IsMore (old new : Draft) : Type 0 where
   pub routines : new.routines.items ≡ old.routines.items
   pub cells : old.cells ≤ new.cells
 
--- Whatever is written behind the draft, a run from this entry does what the firing of an action does: in each state of
+-- Whatever instructions are written behind the draft, a run from this entry does what the firing of an action does: in each state of
 -- the actor in which it is eligible, whose variables the state cells hold, over tokens of its ports.
 abbrev pub FiresFrom : Actor → ℕ → ℕ → List ℕ → Draft → Type 0
 FiresFrom actor a entry firsts draft =
     (act : Action) (whole : Code) (more : List Instr) (x : State) (u : List (List ℤ)) (cells : List ℤ)
-    → slice_get actor.actions a ≡ Some act → whole.instrs ≡ draft.instrs.items ++ more
+    → slice_get actor.actions a ≡ Some act → GoesOn draft whole more
     → draft.cells ≤ length cells
     → IsActorState actor x → AreTokensOf actor u → eligible actor x.at a ≡ true
     → has_its_tokens actor u a ≡ true → HoldVars actor x cells
@@ -56,9 +57,10 @@ pub record AreCodedActions (actor : Actor) (n : ℕ) (actions : List ActionCode)
   pub each : (a : ℕ) (coded : ActionCode) → slice_get actions a ≡ Some coded
       → IsCodedAction actor a coded draft
 
--- code has the instructions and the cells of a draft
+-- code has the instructions, the routines and the cells of a draft
 pub record IsCodeOf (draft : Draft) (code : Code) : Type 0 where
   pub instrs : code.instrs ≡ draft.instrs.items
+  pub routines : code.routines ≡ draft.routines.items
   pub cells : code.cells ≡ draft.cells
 
 -- a lowered actor is that of these parts, and keeps the facts
@@ -77,14 +79,15 @@ all_entries [] = []
 all_entries (coded ∷ actions) = entries_of coded ++ all_entries actions
 
 -- Bodies with these entries were added to a draft: whatever is written behind, if bodies stand there, these stand before
--- them.
+-- them. The bodies of routines stand before all of them.
 abbrev pub AddsBodies : List ℕ → Draft → Draft → Type 0
-AddsBodies entries old new = (whole : Code) (more : List Instr) (rest : List ℕ)
-    → whole.instrs ≡ new.instrs.items ++ more → new.cells ≤ whole.cells
-    → AreBodies whole (length new.instrs.items) rest
-    → AreBodies whole (length old.instrs.items) (entries ++ rest)
+AddsBodies entries old new = (whole : Code) (more : List Instr) (number : ℕ) (rest : List ℕ)
+    → GoesOn new whole more → new.cells ≤ whole.cells → length whole.routines ≤ number
+    → AreBodies whole (length new.instrs.items) (number + length entries) rest
+    → AreBodies whole (length old.instrs.items) number (entries ++ rest)
 
--- the code of a draft is that of the bodies of these actions
+-- the code of a draft is that of its routines and of the bodies of these actions
 abbrev pub AreBodiesOf : List ActionCode → Draft → Type 0
 AreBodiesOf actions draft = (whole : Code) → whole.instrs ≡ draft.instrs.items
-    → whole.cells ≡ draft.cells → AreBodies whole 0 (all_entries actions)
+    → whole.routines ≡ draft.routines.items → whole.cells ≡ draft.cells
+    → AreBodies whole 0 0 (starts draft ++ all_entries actions)

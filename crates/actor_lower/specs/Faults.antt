@@ -1,14 +1,15 @@
 -- Why an actor isn't lowered.
--- Trusted but for `IsWhyAction`: part of what a promise means.
+-- Trusted but for `IsWhyAction`, `IsWhyActions` and `IsRoutineFault`: part of what a promise means.
 use Rattle.std.specs.Prelude.{◌≡◌, ℕ, ◌<◌, length, Option, None, Some}
 use Rattle.cal_model.specs.declared.bound.Bound.{Bound}
 use Rattle.cal_model.specs.View.{actor_of}
 use Rattle.expr_lower.specs.declared.fault.LowerFault.{LowerFault}
 use Rattle.expr_lower.specs.declared.fault.LowerFault.TheVariants as lowering
 use Rattle.expr_lower.specs.Growing.{◌or_else◌}
-use Rattle.stmt_lower.specs.Procedures.{no_routines}
+use Rattle.stmt_lower.specs.Procedures.{Routines}
 use Rattle.action_lower.specs.GuardWords.{left_out_action}
 use Rattle.action_lower.specs.FiringWords.{left_out_of}
+use Rattle.actor_lower.specs.Settled.{AreSettled}
 use Rattle.actor_lower.specs.declared.fault.ActorFault.{ActorFault}
 use Rattle.actor_lower.specs.declared.fault.ActorFault.TheVariants.{Memory, NotLowered, TooLarge, NotSeen}
 
@@ -21,30 +22,49 @@ actor_fault (lowering.NotLowered at) = NotLowered at
 
 -- ---- what is left out
 
--- the place of the first part of an action, its guards before the rest, for which no code is made; there are no
--- routines, so each call is such a part
-abbrev pub left_out_at : Bound → ℕ → Option ℕ
-left_out_at b a = left_out_action (actor_of b) a or_else left_out_of no_routines b a
+-- the place of the first part of an action, its guards before the rest, for which no code is made, if the firing may call
+-- these
+abbrev pub left_out_at : Routines → Bound → ℕ → Option ℕ
+left_out_at rs b a = left_out_action (actor_of b) a or_else left_out_of rs b a
 
 -- nothing is left out of the first n actions
-abbrev pub AreWhole : Bound → ℕ → Type 0
-AreWhole b n = (a : ℕ) → a < n → left_out_at b a ≡ None
+abbrev pub AreWhole : Routines → Bound → ℕ → Type 0
+AreWhole rs b n = (a : ℕ) → a < n → left_out_at rs b a ≡ None
 
 -- it is the place of the first part that is left out, in the first action that has one
-pub record IsLeftOut (b : Bound) (at : ℕ) : Type 0 where
+pub record IsLeftOut (rs : Routines) (b : Bound) (at : ℕ) : Type 0 where
   pub action : ℕ
   pub there : action < length b.actions.items
-  pub before : AreWhole b action
-  pub part : left_out_at b action ≡ Some at
+  pub before : AreWhole rs b action
+  pub part : left_out_at rs b action ≡ Some at
+
+-- .. and firings may call each function and each procedure of which no part is left out
+pub record IsPartLeftOut (b : Bound) (at : ℕ) : Type 0 where
+  pub routines : Routines
+  pub settled : AreSettled (actor_of b) routines
+  pub part : IsLeftOut routines b at
+
+-- nothing is left out of the actions, if firings may call each function and each procedure of which nothing is
+pub record IsWhole (b : Bound) : Type 0 where
+  pub routines : Routines
+  pub settled : AreSettled (actor_of b) routines
+  pub actions : AreWhole routines b (length b.actions.items)
 
 -- ---- causes
 
 -- a part is left out only if it is the first one, and code that isn't seen to keep the facts is whole
 abbrev pub IsActorFault : Bound → ActorFault → Type 0
 IsActorFault b Memory = Unit {0}
-IsActorFault b (NotLowered at) = IsLeftOut b at
+IsActorFault b (NotLowered at) = IsPartLeftOut b at
 IsActorFault b TooLarge = Unit {0}
-IsActorFault b NotSeen = AreWhole b (length b.actions.items)
+IsActorFault b NotSeen = IsWhole b
+
+-- .. of all actions, if firings may call these
+abbrev pub IsWhyActions : Routines → Bound → ActorFault → Type 0
+IsWhyActions rs b Memory = Unit {0}
+IsWhyActions rs b (NotLowered at) = IsLeftOut rs b at
+IsWhyActions rs b TooLarge = Unit {0}
+IsWhyActions rs b NotSeen = ⊥
 
 -- once code was made of all parts, none is left out
 abbrev pub IsCodeFault : ActorFault → Type 0
@@ -53,9 +73,16 @@ IsCodeFault (NotLowered at) = ⊥
 IsCodeFault TooLarge = Unit {0}
 IsCodeFault NotSeen = Unit {0}
 
+-- .. and routines alone can't be seen to keep the facts or not
+abbrev pub IsRoutineFault : ActorFault → Type 0
+IsRoutineFault Memory = Unit {0}
+IsRoutineFault (NotLowered at) = ⊥
+IsRoutineFault TooLarge = Unit {0}
+IsRoutineFault NotSeen = ⊥
+
 -- .. of one action
-abbrev pub IsWhyAction : Bound → ℕ → LowerFault → Type 0
-IsWhyAction b a lowering.Memory = Unit {0}
-IsWhyAction b a lowering.TooLong = Unit {0}
-IsWhyAction b a lowering.TooManyCells = Unit {0}
-IsWhyAction b a (lowering.NotLowered at) = left_out_at b a ≡ Some at
+abbrev pub IsWhyAction : Routines → Bound → ℕ → LowerFault → Type 0
+IsWhyAction rs b a lowering.Memory = Unit {0}
+IsWhyAction rs b a lowering.TooLong = Unit {0}
+IsWhyAction rs b a lowering.TooManyCells = Unit {0}
+IsWhyAction rs b a (lowering.NotLowered at) = left_out_at rs b a ≡ Some at

@@ -1,4 +1,6 @@
 pub mod Coded
+pub mod Drafted
 pub mod Faults
+pub mod Settled
 pub mod Standing
 pub mod Fitting

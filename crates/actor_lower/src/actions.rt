@@ -3,20 +3,24 @@
 ghost use Rattle.std.specs.Prelude.{◌≡◌, ◌<◌, ◌≤◌, ◌++◌, ◌∷◌, [], IfErr, IfOk, None, OnOk, length};
 ghost use Rattle.cal_model.specs.Sound.{IsSound};
 ghost use Rattle.cal_model.specs.View.{actor_of};
+ghost use Rattle.stmt_lower.specs.Procedures.{routines_of};
 ghost use Rattle.action_lower.specs.GuardWords.{AnswerAsGuards};
 ghost use Rattle.action_lower.specs.Seats.{state_cells};
 ghost use Rattle.actor_tables.specs.Tables.{AreRates, AreRatesOf};
 ghost use Rattle.actor_lower.specs.Coded.{AddsBodies, AreCodedActions, FiresFrom, IsCodedAction, IsMore, all_entries, entries_of};
-ghost use Rattle.actor_lower.specs.Faults.{AreWhole, IsActorFault, IsWhyAction, left_out_at};
+ghost use Rattle.actor_lower.specs.Drafted.{IsServed};
+ghost use Rattle.actor_lower.specs.Faults.{AreWhole, IsWhyAction, IsWhyActions, left_out_at};
 
 use crate::fault::ActorFault;
+use crate::firings::put_firing;
 use crate::sends::sends_of;
-use action_lower::{lower_firing, lower_guards};
+use action_lower::lower_guards;
 use actor_tables::Rates;
 use cal_model::Bound;
-use expr_lower::{Draft, LowerFault};
+use expr_lower::{Callee, Draft, LowerFault};
 use lowered_actor::ActionCode;
 use std::alloc::Global;
+use stmt_lower::ProcCallee;
 
 /// Where the code of an action stands in a draft.
 #[derive(Debug, Drop)]
@@ -31,23 +35,38 @@ struct Entries {
 pub(crate) fn lower_actions(
     alloc: Global,
     b: &Bound,
+    callees: &[Callee],
+    procedures: &[ProcCallee],
+    kept: u32,
     rates: &[Rates],
     draft: &mut Draft,
 ) -> Result<Vec<ActionCode>, ActorFault>
     requires sound { IsSound (actor_of b.now) }
-    requires cells { state_cells (actor_of b.now) ≤ draft.old.cells }
+    requires kept { kept ≡ state_cells (actor_of b.now) }
+    requires served { IsServed (actor_of b.now) (routines_of callees.now procedures.now) draft.old }
     requires rates { AreRates (actor_of b.now) (length b.now.actions.items) rates.now }
     ensures coded { IfOk result (λ actions. AreCodedActions (actor_of b.now)
         (length b.now.actions.items) actions.items draft.new) }
     ensures bodies { IfOk result
         (λ actions. AddsBodies (all_entries actions.items) draft.old draft.new) }
     ensures more { OnOk result (IsMore draft.old draft.new) }
-    ensures whole { OnOk result (AreWhole b.now (length b.now.actions.items)) }
-    ensures fault { IfErr result (IsActorFault b.now) }
+    ensures whole { OnOk result (AreWhole (routines_of callees.now procedures.now) b.now
+        (length b.now.actions.items)) }
+    ensures fault { IfErr result
+        (IsWhyActions (routines_of callees.now procedures.now) b.now) }
 {
     let mut actions = Vec::new(alloc);
     for action in 0..rates.len() as u16 {
-        let coded = lower_action(alloc, b, action, &rates[usize::from(action)], draft)?;
+        let coded = lower_action(
+            alloc,
+            b,
+            callees,
+            procedures,
+            kept,
+            action,
+            &rates[usize::from(action)],
+            draft,
+        )?;
         actions.push(coded)?;
     }
     Ok(actions)
@@ -57,21 +76,27 @@ pub(crate) fn lower_actions(
 fn lower_action(
     alloc: Global,
     b: &Bound,
+    callees: &[Callee],
+    procedures: &[ProcCallee],
+    kept: u32,
     action: u16,
     rates: &Rates,
     draft: &mut Draft,
 ) -> Result<ActionCode, LowerFault>
     requires sound { IsSound (actor_of b.now) }
     requires action { action < length b.now.actions.items }
-    requires cells { state_cells (actor_of b.now) ≤ draft.old.cells }
+    requires kept { kept ≡ state_cells (actor_of b.now) }
+    requires served { IsServed (actor_of b.now) (routines_of callees.now procedures.now) draft.old }
     requires rates { AreRatesOf (actor_of b.now) action rates.now.needs.items rates.now.gives.items }
     ensures coded { IfOk result (λ coded. IsCodedAction (actor_of b.now) action coded draft.new) }
     ensures bodies { IfOk result (λ coded. AddsBodies (entries_of coded) draft.old draft.new) }
     ensures more { OnOk result (IsMore draft.old draft.new) }
-    ensures whole { OnOk result (left_out_at b.now action ≡ None) }
-    ensures fault { IfErr result (IsWhyAction b.now action) }
+    ensures whole { OnOk result
+        (left_out_at (routines_of callees.now procedures.now) b.now action ≡ None) }
+    ensures fault { IfErr result
+        (IsWhyAction (routines_of callees.now procedures.now) b.now action) }
 {
-    let entries = lower_entries(alloc, b, action, draft)?;
+    let entries = lower_entries(alloc, b, callees, procedures, kept, action, draft)?;
     let outputs = &b.actions[usize::from(action)].outputs;
     let sends = sends_of(alloc, outputs, &entries.firsts, b.outs.len() as u32)?;
     Ok(ActionCode {
@@ -87,12 +112,16 @@ fn lower_action(
 fn lower_entries(
     alloc: Global,
     b: &Bound,
+    callees: &[Callee],
+    procedures: &[ProcCallee],
+    kept: u32,
     action: u16,
     draft: &mut Draft,
 ) -> Result<Entries, LowerFault>
     requires sound { IsSound (actor_of b.now) }
     requires action { action < length b.now.actions.items }
-    requires cells { state_cells (actor_of b.now) ≤ draft.old.cells }
+    requires kept { kept ≡ state_cells (actor_of b.now) }
+    requires served { IsServed (actor_of b.now) (routines_of callees.now procedures.now) draft.old }
     ensures guards { IfOk result
         (λ entries. AnswerAsGuards (actor_of b.now) action entries.guards.items draft.new) }
     ensures bodies { IfOk result (λ entries.
@@ -100,11 +129,13 @@ fn lower_entries(
     ensures fires { IfOk result (λ entries. FiresFrom (actor_of b.now) action entries.fire
         entries.firsts.items draft.new) }
     ensures more { OnOk result (IsMore draft.old draft.new) }
-    ensures whole { OnOk result (left_out_at b.now action ≡ None) }
-    ensures fault { IfErr result (IsWhyAction b.now action) }
+    ensures whole { OnOk result
+        (left_out_at (routines_of callees.now procedures.now) b.now action ≡ None) }
+    ensures fault { IfErr result
+        (IsWhyAction (routines_of callees.now procedures.now) b.now action) }
 {
     let guards = lower_guards(alloc, b, action, draft)?;
-    let firing = lower_firing(alloc, b, action, &[], &[], draft)?;
+    let firing = put_firing(alloc, b, callees, procedures, kept, action, draft)?;
     Ok(Entries {
         guards,
         fire: firing.entry,

@@ -1,15 +1,16 @@
 //! From an actor to a lowered one.
 
-ghost use Rattle.std.specs.Prelude.{IfErr, IfOk, OnOk, length};
+ghost use Rattle.std.specs.Prelude.{IfErr, IfOk, OnOk};
 ghost use Rattle.cal_model.specs.Sound.{IsSound};
 ghost use Rattle.cal_model.specs.View.{actor_of};
 ghost use Rattle.actor_lower.specs.Coded.{IsMadeOf};
-ghost use Rattle.actor_lower.specs.Faults.{AreWhole, IsActorFault, IsCodeFault};
+ghost use Rattle.actor_lower.specs.Faults.{IsActorFault, IsCodeFault, IsWhole};
 ghost use Rattle.actor_lower.specs.Standing.{StandsForActor};
 
 use crate::actions::lower_actions;
 use crate::code::{admitted, first_numbers};
 use crate::fault::ActorFault;
+use crate::routines::lower_routines;
 use actor_tables::laws::{lowered_actors_behave_as_meant, runs_suffice, tables_are_meant};
 use actor_tables::lower_tables;
 use cal_model::Bound;
@@ -25,14 +26,14 @@ use std::alloc::Global;
 ///
 /// `Memory` if memory runs out. All other answers say what can't be lowered yet (`fault`): `NotLowered` with the offset
 /// of the first part of a guard or a firing for which no code is made, in the first action that has one, as
-/// [`lower_guards`](action_lower::lower_guards) and [`lower_firing`](action_lower::lower_firing) say of actions that
-/// call nothing; `TooLarge` if the code has 2 to the power of 32 instructions or its cells can't be counted; `NotSeen`
-/// if code was made of all parts, but it isn't seen that it keeps the facts of a lowered actor. The code is always
+/// [`lower_guards`](action_lower::lower_guards) and [`lower_firing`](action_lower::lower_firing) say. A guard calls
+/// nothing yet, and a firing each function and each procedure of which no part is left out: a call of another one is such
+/// a part. `TooLarge` if the code has 2 to the power of 32 instructions or routines or its cells can't be counted; `NotSeen` if code was made of all parts, but it isn't seen that it keeps the facts of a lowered actor. The code is always
 /// admitted.
 pub fn lower(alloc: Global, b: &Bound) -> Result<Lowered, ActorFault>
     requires sound { IsSound (actor_of b.now) }
     ensures stands_for { IfOk result (StandsForActor (actor_of b.now)) }
-    ensures whole { OnOk result (AreWhole b.now (length b.now.actions.items)) }
+    ensures whole { OnOk result (IsWhole b.now) }
     ensures fault { IfErr result (IsActorFault b.now) }
 {
     // they tell that the tables, the guards and the firings make the behaviour, and what the firings send
@@ -45,7 +46,16 @@ pub fn lower(alloc: Global, b: &Bound) -> Result<Lowered, ActorFault>
         routines: Vec::new(alloc),
         cells: tables.kept,
     };
-    let actions = lower_actions(alloc, b, &tables.rates, &mut draft)?;
+    let called = lower_routines(alloc, b, &mut draft)?;
+    let actions = lower_actions(
+        alloc,
+        b,
+        &called.callees,
+        &called.procedures,
+        tables.kept,
+        &tables.rates,
+        &mut draft,
+    )?;
     let code = admitted(alloc, draft, &actions)?;
     let first = first_numbers(alloc, b, code.cells())?;
     let parts = Parts {

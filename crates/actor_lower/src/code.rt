@@ -1,6 +1,6 @@
 //! The code of all actions, and the numbers in its cells at first.
 
-ghost use Rattle.std.specs.Prelude.{◌≡◌, [], IfErr, IfOk, take};
+ghost use Rattle.std.specs.Prelude.{◌≡◌, IfErr, IfOk, take};
 ghost use Rattle.cal_model.specs.Selection.{start_of};
 ghost use Rattle.cal_model.specs.Sound.{IsSound};
 ghost use Rattle.cal_model.specs.View.{actor_of};
@@ -25,7 +25,6 @@ pub(crate) fn admitted(
     actions: &[ActionCode],
 ) -> Result<Admitted, ActorFault>
     requires bodies { AreBodiesOf actions.now draft }
-    requires routines { draft.routines.items ≡ [] }
     ensures code { IfOk result (IsCodeOf draft) }
     ensures fault { IfErr result IsCodeFault }
 {

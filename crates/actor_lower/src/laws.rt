@@ -9,8 +9,9 @@ pub fn firings_fit()
     ensures { FiringsFit }
 {}
 
-/// Code without routines is admitted, and its types have sizes that are allowed, if it is a row of bodies, each from an
-/// entry on, whose instructions fit and which end as guards or firings do.
+/// Code is admitted, and its types have sizes that are allowed, if it is a row of bodies whose instructions fit: those of
+/// its routines, each of which calls only those before it, and then those of its entries, which end as guards or firings
+/// do.
 pub fn bodies_are_admitted()
     ensures { BodiesAreAdmitted }
 {}

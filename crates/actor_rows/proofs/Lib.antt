@@ -1,1 +1,2 @@
 pub mod SoundCount
+pub mod SoundDouble

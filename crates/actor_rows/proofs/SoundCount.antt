@@ -9,24 +9,24 @@ use Rattle.cal_model.specs.Value.{NumKind}
 use Rattle.cal_model.specs.Sound.{IsAction, IsSound}
 use Rattle.actor_rows.specs.Counting.{count, counting}
 
-nothing-in : {A : Type 0} (x : A) → ¬ Contains [] x
+pub nothing-in : {A : Type 0} (x : A) → ¬ Contains [] x
 nothing-in x c = let h : c.0 < 0 = c.1 in absurd (omega arith)
 
-in-one : {A : Type 0} (x y : A) → Contains (y ∷ []) x → y ≡ x
+pub in-one : {A : Type 0} (x y : A) → Contains (y ∷ []) x → y ≡ x
 in-one x y (zero, h, e) = e
 in-one x y (suc k, h, e) = absurd (omega arith)
 
-apart : ¬ Contains (codes "Out" ∷ []) (codes "In")
+pub apart : ¬ Contains (codes "Out" ∷ []) (codes "In")
 apart c = let same : codes "Out" ≡ codes "In" = in-one (codes "In") (codes "Out") c in let sizes = ap length same in omega arith
 
 differ : ¬ Contains (codes "k" ∷ []) (codes "x")
 differ c = let same : codes "k" ≡ codes "x" = in-one (codes "x") (codes "k") c in let heads : 107 ≡ 120 = ap (λ s. slice_index_or s 0 0) same in omega (arith, heads)
 
-no-chain : (a b : ℕ) (through : List ℕ) → ChainLeads [] a through b → ⊥
+pub no-chain : (a b : ℕ) (through : List ℕ) → ChainLeads [] a through b → ⊥
 no-chain a b [] h = nothing-in (a, b) h
 no-chain a b (x ∷ through) h = nothing-in (a, x) h.0
 
-few-if-one : (b : Bool) → (if b then 1 else 0) ≤ 4096
+pub few-if-one : (b : Bool) → (if b then 1 else 0) ≤ 4096
 few-if-one true = omega arith
 few-if-one false = omega arith
 

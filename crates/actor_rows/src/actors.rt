@@ -48,7 +48,7 @@ fn made(alloc: Global) -> Result<Bound, AllocError>
     })
 }
 
-fn port(alloc: Global, name: &str) -> Result<Vec<Port>, AllocError>
+pub(crate) fn port(alloc: Global, name: &str) -> Result<Vec<Port>, AllocError>
     ensures { IfOk result (λ ports. map port_view ports.items ≡ row.byte name.now ∷ []) }
 {
     let port = Port {

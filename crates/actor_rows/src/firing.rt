@@ -1,18 +1,30 @@
-//! The actor that counts, lowered and at work.
+//! Actors that are lowered and at work.
 
-use crate::count;
+use crate::{count, double};
 use actor_cell::Cell;
 use actor_lower::{ActorFault, lower};
+use lowered_actor::Lowered;
 use net_model::{BurstEnd, Firing};
 use rvc_base::{Memory, Num};
 use std::alloc::Global;
 use std::sync::Arc;
 use std::test::Fail;
 
-/// A cell of the actor, with room for 8 tokens and 8 firings; none if the actor isn't lowered.
-fn cell(alloc: Global) -> Result<Option<Cell>, Memory> {
+/// A cell of the actor that counts.
+fn counter(alloc: Global) -> Result<Option<Cell>, Memory> {
     let b = count(alloc)?;
-    match lower(alloc, &b) {
+    cell_of(alloc, lower(alloc, &b))
+}
+
+/// A cell of the one that doubles.
+fn doubler(alloc: Global) -> Result<Option<Cell>, Memory> {
+    let b = double(alloc)?;
+    cell_of(alloc, lower(alloc, &b))
+}
+
+/// A cell of a lowered actor, with room for 8 tokens and 8 firings; none if the actor isn't lowered.
+fn cell_of(alloc: Global, lowered: Result<Lowered, ActorFault>) -> Result<Option<Cell>, Memory> {
+    match lowered {
         Ok(lowered) => {
             let code = Arc::new(alloc, lowered)?;
             if code.ins() != 1 || code.outs() != 1 {
@@ -60,7 +72,7 @@ fn counts_up_to_each_token(rt: HostRuntime) -> Result<(), Fail> {
         (&[200], &[]),
     ];
     for (tokens, sent) in rows {
-        let Some(mut cell) = cell(rt.alloc())? else {
+        let Some(mut cell) = counter(rt.alloc())? else {
             return Err(Fail::from(Memory));
         };
         let end = burst(&mut cell, tokens);
@@ -69,5 +81,18 @@ fn counts_up_to_each_token(rt: HostRuntime) -> Result<(), Fail> {
             "{end:?}"
         );
     }
+    Ok(())
+}
+
+#[test]
+fn keeps_the_doubles_of_two_tokens(rt: HostRuntime) -> Result<(), Fail> {
+    let Some(mut cell) = doubler(rt.alloc())? else {
+        return Err(Fail::from(Memory));
+    };
+    let end = burst(&mut cell, &[3, 5, 200]);
+    assert!(rt;
+        end == Some(BurstEnd::Waits) && sent_are(&cell, &[6, 16, 154]),
+        "{end:?}"
+    );
     Ok(())
 }

@@ -87,3 +87,71 @@ pub(crate) fn repeat(alloc: Global, test: Expr, body: Stmt) -> Result<Stmt, Allo
         at: 0,
     })
 }
+
+/// `base[place]`
+pub(crate) fn item(alloc: Global, base: Expr, place: Expr) -> Result<Expr, AllocError>
+    ensures { IfOk result (λ e. expr_tree e
+        ≡ tree.index (expr_tree base) (expr_tree place) 0) }
+{
+    Ok(Expr {
+        form: ExprForm::Index {
+            base: Box::new(alloc, base)?,
+            place: Box::new(alloc, place)?,
+        },
+        at: 0,
+    })
+}
+
+/// `text(arg)`
+pub(crate) fn call(alloc: Global, text: &str, arg: Expr) -> Result<Expr, AllocError>
+    ensures { IfOk result (λ e. expr_tree e
+        ≡ tree.call text.now (listed (expr_tree arg ∷ [])) 0) }
+{
+    Ok(Expr {
+        form: ExprForm::Call {
+            name: String::from_str(alloc, text)?,
+            args: vec![in alloc; arg]?,
+        },
+        at: 0,
+    })
+}
+
+/// `text(arg);`
+pub(crate) fn run(alloc: Global, text: &str, arg: Expr) -> Result<Stmt, AllocError>
+    ensures { IfOk result (λ s. stmt_tree s
+        ≡ tree.call_stmt (tree.ident text.now 0) (listed (expr_tree arg ∷ [])) 0) }
+{
+    Ok(Stmt {
+        form: StmtForm::Call {
+            name: Ident {
+                text: String::from_str(alloc, text)?,
+                at: 0,
+            },
+            args: vec![in alloc; arg]?,
+        },
+        at: 0,
+    })
+}
+
+/// `text[place] := value;`
+pub(crate) fn assign_item(
+    alloc: Global,
+    text: &str,
+    place: Expr,
+    value: Expr,
+) -> Result<Stmt, AllocError>
+    ensures { IfOk result (λ s. stmt_tree s ≡ tree.assign (tree.ident text.now 0)
+        (listed (expr_tree place ∷ [])) (expr_tree value) 0) }
+{
+    Ok(Stmt {
+        form: StmtForm::Assign {
+            name: Ident {
+                text: String::from_str(alloc, text)?,
+                at: 0,
+            },
+            places: vec![in alloc; place]?,
+            value,
+        },
+        at: 0,
+    })
+}

@@ -8,12 +8,12 @@ use Rattle.rvc_base.specs.Turns.{max_turns}
 use Rattle.code_ir.specs.declared.outcome.Outcome.{Outcome}
 use Rattle.code_ir.specs.Code.{Code}
 use Rattle.code_ir.specs.Effect.{cell}
-use Rattle.code_ir.specs.Running.{runs}
+use Rattle.code_ir.specs.Running.{HasItsTokens, runs}
 use Rattle.lowered_actor.specs.declared.parts.StateCell.{StateCell}
 use Rattle.lowered_actor.specs.Actor.{Action, Actor, number_on}
 use Rattle.lowered_actor.specs.Facts.{IsAsked, IsSaved, IsGuard, IsFiring, SameState, cells_from}
 use Rattle.lowered_actor.specs.Straight.{is_saved, may_store}
-use Rattle.kept_facts.specs.Fitting.{Body, FitsBody}
+use Rattle.kept_facts.specs.Fitting.{HasBody}
 use Rattle.kept_facts.proofs.Alike.{Inside, Runs, never-lacks, runs-alike}
 
 -- what is known of runs
@@ -75,47 +75,62 @@ each-sent left last c (suc n) same =
 
 -- ---- bodies
 
-module _ (actor : Actor) (once : OneEnd) (action : Action) (body : Body) where
-  module _ (firing : Bool) (fits : FitsBody actor action firing body) (cells others : List ℤ) (tokens : ℕ → List ℤ) (asked : IsAsked actor action cells tokens) (also : IsAsked actor action others tokens) (same : SameState actor cells others) where
-    starts : Inside actor action firing tokens asked.tokens_there body fits body.begin cells others
-    starts = record {
-      from = omega arith;
-      to = fits.some;
+module _ (actor : Actor) (once : OneEnd) (action : Action) (firing : Bool) (entry : ℕ) (has : HasBody actor action firing entry) where
+  module _ (cells others : List ℤ) (tokens : ℕ → List ℤ) (asked : IsAsked actor action cells tokens) (also : IsAsked actor action others tokens) (same : SameState actor cells others) where
+    enough : (p : ℕ) → number_on action.needs p ≤ length (tokens p)
+    enough p = let e = asked.tokens_there p in omega (arith, e)
+
+    starts : Inside actor firing tokens has.routines has.are action enough has.body has.fits has.sends entry [] cells others
+    starts = subst (λ p. Inside actor firing tokens has.routines has.are action enough has.body has.fits has.sends p [] cells others) has.begins (record {
       sizes = asked.cells_there ∙ sym also.cells_there;
-      agree = λ c set. below-take actor.kept cells others c same (fits.first c set);
-    }
+      are = record {
+        from = omega arith;
+        to = has.fits.some;
+        agree = λ c set. below-take actor.kept cells others c same (has.first c set);
+      };
+    })
 
-    ends : (o : Outcome) (left : List ℤ) → runs actor.code body.begin cells tokens o left → Runs actor action firing tokens asked.tokens_there body fits body.begin max_turns [] cells others o left
-    ends o left run = runs-alike actor action firing tokens asked.tokens_there body fits run body.begin max_turns [] cells others refl starts
+    ends : (o : Outcome) (left : List ℤ) → runs actor.code entry cells tokens o left
+        → Runs actor firing tokens has.routines has.are action enough has.body has.fits has.sends entry max_turns [] [] cells others o left
+    ends o left run = runs-alike actor firing tokens has.routines has.are action enough has.body has.fits has.sends run entry max_turns [] [] cells others refl starts
 
-  pub guard-keeps : FitsBody actor action false body → IsGuard actor action body.begin
-  guard-keeps fits = record {
-    reads = λ cells tokens asked u r. never-lacks actor action false tokens asked.tokens_there body fits r body.begin max_turns [] cells refl (starts false fits cells cells tokens asked asked refl);
-    answers = λ cells tokens o left asked run. (ends false fits cells cells tokens asked asked refl o left run).ended.right;
-    keeps = λ cells tokens o left asked run.
-        let e = (ends false fits cells cells tokens asked asked refl o left run).ended in
-        same-take actor.kept left cells e.size (λ c low. e.keeps c (ap (λ b. b || (false && is_saved actor.saved c)) (no-le actor.kept c low)));
-    alike = λ cells others tokens o p left last asked also same run other.
-        let e = ends false fits cells others tokens asked also same o left run in
-        (once actor.code body.begin others tokens o p e.last last e.other other).0;
-  }
+  module _ (cells : List ℤ) (tokens : ℕ → List ℤ) (asked : IsAsked actor action cells tokens) where
+    abbrev alone : (o : Outcome) (left : List ℤ) → runs actor.code entry cells tokens o left
+        → Runs actor firing tokens has.routines has.are action (enough cells cells tokens asked asked refl) has.body has.fits has.sends entry max_turns [] [] cells cells o left
+    alone o left run = ends cells cells tokens asked asked refl o left run
 
-  pub firing-keeps : FitsBody actor action true body → IsFiring actor action body.begin
-  firing-keeps fits = record {
-    reads = λ cells tokens asked u r. never-lacks actor action true tokens asked.tokens_there body fits r body.begin max_turns [] cells refl (starts true fits cells cells tokens asked asked refl);
-    ends = λ cells tokens o left asked run. (ends true fits cells cells tokens asked asked refl o left run).ended.right;
-    keeps = λ cells tokens o left asked run c low none.
-        let e = (ends true fits cells cells tokens asked asked refl o left run).ended in
-        same-cell left cells c e.size (e.keeps c (kept-alone actor c low none));
-    alike = λ cells others tokens o p left last asked also same run other.
-        let e = ends true fits cells others tokens asked also same o left run in
-        let two = once actor.code body.begin others tokens o p e.last last e.other other in (
-          two.0,
-          λ done. (
-            same-take actor.kept left e.last e.ended.sizes e.ended.same ∙ ap (take actor.kept) two.1,
-            λ q low.
-                each-sent left e.last (number_on action.sends q) (number_on action.gives q) (λ k less. e.ended.sent done q k low less)
-                ∙ ap (λ l. cells_from l (number_on action.sends q) (number_on action.gives q)) two.1,
-          ),
-        );
-  }
+    lacks-none : HasItsTokens actor.code entry cells tokens
+    lacks-none u r =
+        never-lacks actor firing tokens has.routines has.are action (enough cells cells tokens asked asked refl) has.body has.fits has.sends r entry max_turns [] [] cells refl (starts cells cells tokens asked asked refl)
+
+pub guard-keeps : (actor : Actor) → OneEnd → (action : Action) (entry : ℕ) → HasBody actor action false entry → IsGuard actor action entry
+guard-keeps actor once action entry has = record {
+  reads = λ cells tokens asked. lacks-none actor once action false entry has cells tokens asked;
+  answers = λ cells tokens o left asked run. (alone actor once action false entry has cells tokens asked o left run).ended.right;
+  keeps = λ cells tokens o left asked run.
+      let e = (alone actor once action false entry has cells tokens asked o left run).ended in
+      same-take actor.kept left cells e.size (λ c low. e.keeps c (ap (λ b. b || (false && is_saved actor.saved c)) (no-le actor.kept c low)));
+  alike = λ cells others tokens o p left last asked also same run other.
+      let e = ends actor once action false entry has cells others tokens asked also same o left run in
+      (once actor.code entry others tokens o p e.last last e.other other).0;
+}
+
+pub firing-keeps : (actor : Actor) → OneEnd → (action : Action) (entry : ℕ) → HasBody actor action true entry → IsFiring actor action entry
+firing-keeps actor once action entry has = record {
+  reads = λ cells tokens asked. lacks-none actor once action true entry has cells tokens asked;
+  ends = λ cells tokens o left asked run. (alone actor once action true entry has cells tokens asked o left run).ended.right;
+  keeps = λ cells tokens o left asked run c low none.
+      let e = (alone actor once action true entry has cells tokens asked o left run).ended in
+      same-cell left cells c e.size (e.keeps c (kept-alone actor c low none));
+  alike = λ cells others tokens o p left last asked also same run other.
+      let e = ends actor once action true entry has cells others tokens asked also same o left run in
+      let two = once actor.code entry others tokens o p e.last last e.other other in (
+        two.0,
+        λ done. (
+          same-take actor.kept left e.last e.ended.sizes e.ended.same ∙ ap (take actor.kept) two.1,
+          λ q low.
+              each-sent left e.last (number_on action.sends q) (number_on action.gives q) (λ k less. e.ended.sent done q k low less)
+              ∙ ap (λ l. cells_from l (number_on action.sends q) (number_on action.gives q)) two.1,
+        ),
+      );
+}

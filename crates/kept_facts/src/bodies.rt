@@ -1,56 +1,50 @@
 //! Whether a body keeps the facts.
 
-ghost use Rattle.std.specs.Prelude.{◌≡◌, ◌<◌, ◌≤◌, IsTrue, length};
+ghost use Rattle.std.specs.Prelude.{◌≡◌, ◌<◌, IsTrue, Some, slice_get};
 ghost use Rattle.code_ir.specs.declared.instr.Instr.TheVariants as op;
 ghost use Rattle.lowered_actor.specs.Actor.{action_of, actor_of};
 ghost use Rattle.lowered_actor.specs.Facts.{Fits};
-ghost use Rattle.kept_facts.specs.Fitting.{AreSet, FitsAll, FitsAt, FitsBody, body_of};
+ghost use Rattle.kept_facts.specs.Fitting.{AreSet, FitsAll, FitsAt, FitsBody, FitsHere, Sends};
 
-use crate::edges::{jump_fits, next_fits, reads_fit};
-use crate::spans::{Span, are_set, none_is_set};
+use crate::body::{Body, Last, are_set};
+use crate::edges::{call_fits, jump_fits, next_fits, reads_fit};
 use crate::stores::may_stand;
 use code_ir::Instr;
 use lowered_actor::{ActionCode, Parts};
 
-/// Whether the body from a place to another one keeps the facts of a firing or of a guard, as its spans show it.
+/// Whether a body keeps the facts of a firing or of a guard, as its rows show it: of one that takes so many tokens from
+/// each port and ends so.
 pub(crate) fn fits_body(
     parts: &Parts,
-    action: &ActionCode,
+    routines: &[Option<Body>],
     firing: bool,
-    begin: usize,
-    end: usize,
-    spans: &[Span],
+    needs: &[u32],
+    last: Last,
+    body: &Body,
 ) -> bool
-    requires { Fits (actor_of parts.now) (action_of action.now) }
-    ensures { IsTrue result → FitsBody (actor_of parts.now) (action_of action.now) firing
-        (body_of begin end spans.now) }
+    ensures { IsTrue result
+        → FitsBody (actor_of parts.now) routines.now firing needs.now last body.now }
 {
-    if begin >= end || end > parts.code.instrs().len() {
+    if body.begin >= body.end {
         return false;
     }
-    if !none_is_set(parts.kept, spans, begin) {
-        return false;
-    }
-    all_fit(parts, action, firing, begin, end, spans)
+    all_fit(parts, routines, firing, needs, last, body)
 }
 
 /// Whether each instruction of the body fits.
 fn all_fit(
     parts: &Parts,
-    action: &ActionCode,
+    routines: &[Option<Body>],
     firing: bool,
-    begin: usize,
-    end: usize,
-    spans: &[Span],
+    needs: &[u32],
+    last: Last,
+    body: &Body,
 ) -> bool
-    requires fits { Fits (actor_of parts.now) (action_of action.now) }
-    requires begins { begin < end }
-    requires inside { end ≤ length (actor_of parts.now).code.instrs }
-    ensures { IsTrue result → FitsAll (actor_of parts.now) (action_of action.now) firing
-        (body_of begin end spans.now) end }
+    ensures { IsTrue result
+        → FitsAll (actor_of parts.now) routines.now firing needs.now last body.now body.now.end }
 {
-    for place in begin..end {
-        if !fits_here(parts, action, firing, begin, end, spans, place) {
+    for place in body.begin..body.end {
+        if !fits_here(parts, routines, firing, needs, last, body, place) {
             return false;
         }
     }
@@ -60,54 +54,100 @@ fn all_fit(
 /// Whether the instruction at a place of the body fits.
 fn fits_here(
     parts: &Parts,
-    action: &ActionCode,
+    routines: &[Option<Body>],
     firing: bool,
-    begin: usize,
-    end: usize,
-    spans: &[Span],
+    needs: &[u32],
+    last: Last,
+    body: &Body,
     place: usize,
 ) -> bool
-    requires fits { Fits (actor_of parts.now) (action_of action.now) }
-    requires before { place < end }
-    requires inside { end ≤ length (actor_of parts.now).code.instrs }
-    ensures { IsTrue result → FitsAt (actor_of parts.now) (action_of action.now) firing
-        (body_of begin end spans.now) place }
+    requires { place < body.now.end }
+    ensures { IsTrue result
+        → FitsAt (actor_of parts.now) routines.now firing needs.now last body.now place }
 {
-    let instr = &parts.code.instrs()[place];
-    may_stand(parts, action, firing, instr)
-        && reads_fit(parts.kept, spans, place, instr)
-        && next_fits(parts.kept, spans, end, place, instr)
-        && jump_fits(parts.kept, spans, begin, end, place, instr)
-        && done_fits(parts, action, spans, place, instr)
+    match parts.code.instrs().get(place) {
+        Some(instr) => instr_fits(parts, routines, firing, needs, last, body, place, instr),
+        None => true,
+    }
 }
 
-/// Whether the cells of the tokens to send are set at a place, if a firing ends there.
-fn done_fits(
+/// Whether an instruction fits at a place of the body.
+fn instr_fits(
     parts: &Parts,
-    action: &ActionCode,
-    spans: &[Span],
+    routines: &[Option<Body>],
+    firing: bool,
+    needs: &[u32],
+    last: Last,
+    body: &Body,
     place: usize,
     instr: &Instr,
 ) -> bool
+    requires { place < body.now.end }
+    ensures { IsTrue result → FitsHere (actor_of parts.now) routines.now firing needs.now last
+        body.now place instr.now }
+{
+    if !may_stand(parts, firing, needs, last, instr) {
+        return false;
+    }
+    if !reads_fit(parts.kept, body, place, instr) {
+        return false;
+    }
+    if !next_fits(parts.kept, body, place, instr) {
+        return false;
+    }
+    if !jump_fits(parts.kept, body, place, instr) {
+        return false;
+    }
+    call_fits(parts, routines, body, place, instr)
+}
+
+/// Whether the cells of the tokens to send are set wherever a firing is done.
+pub(crate) fn sends(parts: &Parts, action: &ActionCode, body: &Body) -> bool
+    requires { Fits (actor_of parts.now) (action_of action.now) }
+    ensures { IsTrue result
+        → Sends (actor_of parts.now) (action_of action.now) body.now body.now.end }
+{
+    for place in body.begin..body.end {
+        if !sends_at(parts, action, body, place) {
+            return false;
+        }
+    }
+    true
+}
+
+/// Whether they are at a place, if the firing is done there.
+fn sends_at(parts: &Parts, action: &ActionCode, body: &Body, place: usize) -> bool
+    requires { Fits (actor_of parts.now) (action_of action.now) }
+    ensures { IsTrue result → slice_get (actor_of parts.now).code.instrs place ≡ Some op.Done
+        → AreSet (actor_of parts.now) (action_of action.now) body.now place }
+{
+    match parts.code.instrs().get(place) {
+        Some(instr) => done_sends(parts, action, body, place, instr),
+        None => true,
+    }
+}
+
+/// Whether they are behind an instruction, if the firing is done there.
+fn done_sends(parts: &Parts, action: &ActionCode, body: &Body, place: usize, instr: &Instr) -> bool
     requires { Fits (actor_of parts.now) (action_of action.now) }
     ensures { IsTrue result → instr.now ≡ op.Done
-        → AreSet (actor_of parts.now) (action_of action.now) spans.now place }
+        → AreSet (actor_of parts.now) (action_of action.now) body.now place }
 {
     match *instr {
-        Instr::Done => sends_are_set(parts, action, spans, place),
+        Instr::Done => sends_are_set(parts, action, body, place),
         _ => true,
     }
 }
 
 /// Whether the cells of the tokens to send are set at a place.
-fn sends_are_set(parts: &Parts, action: &ActionCode, spans: &[Span], place: usize) -> bool
+fn sends_are_set(parts: &Parts, action: &ActionCode, body: &Body, place: usize) -> bool
     requires { Fits (actor_of parts.now) (action_of action.now) }
-    ensures { IsTrue result → AreSet (actor_of parts.now) (action_of action.now) spans.now place }
+    ensures { IsTrue result → AreSet (actor_of parts.now) (action_of action.now) body.now place }
 {
     for port in 0..parts.outs as usize {
         if !are_set(
             parts.kept,
-            spans,
+            body,
             place,
             action.sends[port],
             action.gives[port],

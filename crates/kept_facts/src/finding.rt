@@ -1,13 +1,51 @@
-//! The spans of a body's cells. Whether they show that the body keeps the facts is tested once they are found.
+//! The rows of a body. Whether they show that the body keeps the facts is tested once they are found.
 
-use crate::instrs::target;
-use crate::spans::Span;
+ghost use Rattle.std.specs.Prelude.{◌≡◌, IfOk};
+
+use crate::body::Body;
+use crate::instrs::{goes_on, target};
 use code_ir::Instr;
-use lowered_actor::{ActionCode, Parts};
+use lowered_actor::Parts;
 use std::alloc::{AllocError, Global};
 
+/// The body that begins at a place, with what is set at each place if the cells that it needs are set where it begins.
+pub(crate) fn body_at(
+    alloc: Global,
+    parts: &Parts,
+    routines: &[Option<Body>],
+    begin: usize,
+) -> Result<Body, AllocError>
+    ensures { IfOk result (λ body. body.begin ≡ begin) }
+{
+    let end = end_of(parts.code.instrs(), begin);
+    let scratch = parts.code.cells().saturating_sub(parts.kept) as usize;
+    let mut needed = vec![in alloc; false; scratch]?;
+    let mut rows = rows_from(alloc, &needed, begin, end)?;
+    settle(parts, routines, begin, &mut rows, &mut needed)?;
+    let mut rows = rows_from(alloc, &needed, begin, end)?;
+    settle(parts, routines, begin, &mut rows, &mut needed)?;
+    Ok(Body { begin, end, rows })
+}
+
+/// Goes through a body as long as that changes what is set.
+fn settle(
+    parts: &Parts,
+    routines: &[Option<Body>],
+    begin: usize,
+    rows: &mut Vec<Vec<bool>>,
+    needed: &mut Vec<bool>,
+) -> Result<(), AllocError> {
+    for _pass in 0..rows.len() {
+        let changed = pass(parts, routines, begin, rows, needed)?;
+        if !changed {
+            return Ok(());
+        }
+    }
+    Ok(())
+}
+
 /// The place behind the first instruction from one on that ends a body.
-pub(crate) fn end_of(instrs: &[Instr], begin: usize) -> usize {
+fn end_of(instrs: &[Instr], begin: usize) -> usize {
     for place in begin..instrs.len() {
         if ends(&instrs[place]) {
             return place + 1;
@@ -16,83 +54,165 @@ pub(crate) fn end_of(instrs: &[Instr], begin: usize) -> usize {
     instrs.len()
 }
 
-/// Whether it ends a guard or a firing.
+/// Whether it ends a guard, a firing or a routine.
 fn ends(instr: &Instr) -> bool {
     match *instr {
         Instr::Answer => true,
         Instr::Done => true,
+        Instr::Return => true,
         _ => false,
     }
 }
 
-/// The spans of all cells in the body from a place to another one: each begins at the first instruction that writes the
-/// cell, and goes on to the last one that reads it, or to the end of a loop which it was written before.
-pub(crate) fn spans_of(
+/// The row of the first place, and for each place behind it one in which all is set: as long as no way to it is seen.
+fn rows_from(
     alloc: Global,
-    parts: &Parts,
-    action: &ActionCode,
+    first: &[bool],
     begin: usize,
     end: usize,
-) -> Result<Vec<Span>, AllocError> {
-    let none = Span {
-        from: usize::MAX,
-        to: 0,
-    };
-    let mut spans = vec![in alloc; none; parts.code.cells() as usize]?;
-    let instrs = parts.code.instrs();
-    for place in begin..end {
-        if place < instrs.len() {
-            follow(&mut spans, action, place, &instrs[place]);
-        }
+) -> Result<Vec<Vec<bool>>, AllocError> {
+    let mut rows = Vec::new(alloc);
+    rows.push(Vec::from_slice(alloc, first)?)?;
+    for _place in begin..end {
+        rows.push(vec![in alloc; true; first.len()]?)?;
     }
-    Ok(spans)
+    Ok(rows)
 }
 
-/// Takes what an instruction at a place writes and needs into the spans.
-fn follow(spans: &mut [Span], action: &ActionCode, place: usize, instr: &Instr) {
+/// Goes once through a body: at a place that may come next is set what was set before or is written there, on each way.
+/// What is read and isn't set is needed at the begin. Whether anything changed comes back.
+fn pass(
+    parts: &Parts,
+    routines: &[Option<Body>],
+    begin: usize,
+    rows: &mut Vec<Vec<bool>>,
+    needed: &mut Vec<bool>,
+) -> Result<bool, AllocError> {
+    let instrs = parts.code.instrs();
+    let mut changed = false;
+    for k in 0..rows.len() {
+        let place = begin.saturating_add(k);
+        if place < instrs.len() {
+            let mut row = rows[k].clone()?;
+            read(parts.kept, routines, &instrs[place], &mut row, needed);
+            write(parts.kept, &instrs[place], &mut row);
+            if pass_on(begin, place, &instrs[place], &row, rows) {
+                changed = true;
+            }
+        }
+    }
+    Ok(changed)
+}
+
+/// What an instruction reads is needed at the begin if it isn't set.
+fn read(
+    kept: u32,
+    routines: &[Option<Body>],
+    instr: &Instr,
+    row: &mut [bool],
+    needed: &mut [bool],
+) {
     match *instr {
-        Instr::Store(cell, _) => begin_at(spans, cell as usize, place),
-        Instr::Load(cell) => go_on_to(spans, cell as usize, 1, place),
-        Instr::LoadAt(cell, count) => go_on_to(spans, cell as usize, count as usize, place),
-        Instr::Done => go_on_to_end(spans, action, place),
+        Instr::Load(cell) => read_each(kept, cell, 1, row, needed),
+        Instr::LoadAt(cell, count) => read_each(kept, cell, count, row, needed),
+        Instr::Copy(_, from, count, _) => read_each(kept, from, count, row, needed),
+        Instr::CopyTo(_, _, from, count, _) => read_each(kept, from, count, row, needed),
+        Instr::CopyFrom(_, from, count, _) => read_each(kept, from, count, row, needed),
+        Instr::Call(r) => read_needed(routines, r, row, needed),
         _ => {}
     }
+}
+
+/// So many cells are read.
+fn read_each(kept: u32, cell: u32, count: u32, row: &mut [bool], needed: &mut [bool]) {
+    for k in 0..count as usize {
+        let cell = cell as usize + k;
+        if cell >= kept as usize {
+            need(cell - kept as usize, row, needed);
+        }
+    }
+}
+
+/// What a routine needs is read.
+fn read_needed(routines: &[Option<Body>], r: u32, row: &mut [bool], needed: &mut [bool]) {
+    if let Some(Some(callee)) = routines.get(r as usize) {
+        if let Some(first) = callee.rows.get(0) {
+            for k in 0..first.len() {
+                if first[k] {
+                    need(k, row, needed);
+                }
+            }
+        }
+    }
+}
+
+/// A cell is needed at the begin unless it is set.
+fn need(cell: usize, row: &mut [bool], needed: &mut [bool]) {
+    if cell < row.len() && cell < needed.len() && !row[cell] {
+        row[cell] = true;
+        needed[cell] = true;
+    }
+}
+
+/// What an instruction writes is set.
+fn write(kept: u32, instr: &Instr, row: &mut [bool]) {
+    match *instr {
+        Instr::Store(cell, _) => write_each(kept, cell, 1, row),
+        Instr::Copy(to, _, count, _) => write_each(kept, to, count, row),
+        Instr::CopyFrom(to, _, _, count) => write_each(kept, to, count, row),
+        Instr::TokenList(to, _, _, _, count) => write_each(kept, to, count, row),
+        Instr::Zero(cell, count) => write_each(kept, cell, count, row),
+        _ => {}
+    }
+}
+
+/// So many cells are set.
+fn write_each(kept: u32, cell: u32, count: u32, row: &mut [bool]) {
+    for k in 0..count as usize {
+        let cell = cell as usize + k;
+        if cell >= kept as usize && cell - (kept as usize) < row.len() {
+            row[cell - kept as usize] = true;
+        }
+    }
+}
+
+/// At the places that may come next no more is set than this. Whether less is set there than before comes back.
+fn pass_on(
+    begin: usize,
+    place: usize,
+    instr: &Instr,
+    row: &[bool],
+    rows: &mut [Vec<bool>],
+) -> bool {
+    let mut changed = false;
+    if goes_on(instr) {
+        changed = meet_at(begin, place.saturating_add(1), row, rows);
+    }
     if let Some(to) = target(instr) {
-        go_round(spans, to as usize, place);
-    }
-}
-
-/// The span of a cell begins at a place, unless it has begun.
-fn begin_at(spans: &mut [Span], cell: usize, place: usize) {
-    if cell < spans.len() && spans[cell].from == usize::MAX {
-        spans[cell].from = place;
-    }
-}
-
-/// The spans of so many cells go on to a place.
-fn go_on_to(spans: &mut [Span], cell: usize, count: usize, place: usize) {
-    for k in cell..cell.saturating_add(count) {
-        if k < spans.len() {
-            spans[k].to = place;
+        if meet_at(begin, to as usize, row, rows) {
+            changed = true;
         }
     }
+    changed
 }
 
-/// Those of the cells of tokens to send do.
-fn go_on_to_end(spans: &mut [Span], action: &ActionCode, place: usize) {
-    for port in 0..action.gives.len() {
-        if port < action.sends.len() {
-            let count = action.gives[port] as usize;
-            go_on_to(spans, action.sends[port] as usize, count, place);
-        }
+/// At a place no more is set than this.
+fn meet_at(begin: usize, place: usize, row: &[bool], rows: &mut [Vec<bool>]) -> bool {
+    if begin <= place && place - begin < rows.len() {
+        meet(&mut rows[place - begin], row)
+    } else {
+        false
     }
 }
 
-/// Behind a jump back from a place each span that is gone into goes on to the place.
-fn go_round(spans: &mut [Span], to: usize, place: usize) {
-    for span in spans.iter_mut() {
-        if span.from < to && to <= span.to && span.to < place {
-            span.to = place;
+/// No more is set than this.
+fn meet(into: &mut [bool], row: &[bool]) -> bool {
+    let mut changed = false;
+    for k in 0..into.len() {
+        if k < row.len() && into[k] && !row[k] {
+            into[k] = false;
+            changed = true;
         }
     }
+    changed
 }

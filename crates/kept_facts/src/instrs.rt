@@ -2,9 +2,16 @@
 
 ghost use Rattle.std.specs.Prelude.{◌≡◌};
 ghost use Rattle.code_ir.specs.Typing.{goes_on, target};
-ghost use Rattle.kept_facts.specs.Spans.{writes};
+ghost use Rattle.kept_facts.specs.Rows.{called, is_among, writes};
 
 use code_ir::Instr;
+
+/// Whether a cell is one of so many cells from one on.
+pub(crate) fn is_among(from: u32, count: u32, cell: usize) -> bool
+    ensures { result ≡ is_among from count cell }
+{
+    from as usize <= cell && cell < from as usize + count as usize
+}
 
 /// Whether it surely writes a cell.
 pub(crate) fn writes(instr: &Instr, cell: usize) -> bool
@@ -12,6 +19,10 @@ pub(crate) fn writes(instr: &Instr, cell: usize) -> bool
 {
     match *instr {
         Instr::Store(c, _) => c as usize == cell,
+        Instr::Copy(to, _, count, _) => is_among(to, count, cell),
+        Instr::CopyFrom(to, _, _, count) => is_among(to, count, cell),
+        Instr::TokenList(to, _, _, _, count) => is_among(to, count, cell),
+        Instr::Zero(from, count) => is_among(from, count, cell),
         _ => false,
     }
 }
@@ -36,6 +47,16 @@ pub(crate) fn target(instr: &Instr) -> Option<u32>
     match *instr {
         Instr::Jump(t) => Some(t),
         Instr::JumpIfNot(t) => Some(t),
+        _ => None,
+    }
+}
+
+/// The routine that it calls.
+pub(crate) fn called(instr: &Instr) -> Option<u32>
+    ensures { result ≡ called instr.now }
+{
+    match *instr {
+        Instr::Call(r) => Some(r),
         _ => None,
     }
 }

@@ -1,18 +1,19 @@
-//! Whether code keeps the facts of lowered actors: of any code without routines and whole lists.
+//! Whether code keeps the facts of lowered actors: of any code whose bodies have one end each.
 //!
-//! A guard or a firing may use cells of its own, but nothing may depend on what they held before. So each cell of its
-//! own gets a span of places: behind the first instruction that writes it, up to the last one that needs it. A body
-//! keeps the facts if no way leads into a span but by the instruction that begins it, and if each cell is read inside
-//! its span; besides it reads no token behind those that its action takes, writes no state cell that it may not, and
-//! ends as it must.
+//! A guard or a firing may use cells of its own, but nothing may depend on what they held before. So for each place of a
+//! body it is found which of these cells are set there, on each way that leads to it: what one instruction has set stays
+//! set. A body keeps the facts if each cell is set where it is read, and none at the begin; besides it reads no token
+//! behind those that its action takes, writes no state cell that it may not, and ends as it must. A routine may need
+//! cells that are set where it is called, as those of its arguments; it keeps the facts as a part of the bodies that
+//! call it.
 #![tactic(auto)]
 
 mod bodies;
+mod body;
 mod edges;
 mod finding;
 mod instrs;
 mod keeping;
-mod spans;
 mod stores;
 
 pub use keeping::keep_facts;

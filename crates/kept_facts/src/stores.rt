@@ -1,17 +1,24 @@
 //! Which instructions may stand in a body.
 
 ghost use Rattle.std.specs.Prelude.{◌≡◌, ℕ, ◌+◌, ◌*◌, ◌<◌, ◌≤◌, true, IsTrue};
-ghost use Rattle.lowered_actor.specs.Actor.{action_of, actor_of, number_on};
+ghost use Rattle.lowered_actor.specs.Actor.{actor_of, number_on};
 ghost use Rattle.lowered_actor.specs.Straight.{is_saved, may_store};
-ghost use Rattle.kept_facts.specs.Fitting.{MayStand};
+ghost use Rattle.kept_facts.specs.Fitting.{MayStand, MayStoreEach};
 
+use crate::body::Last;
 use code_ir::Instr;
-use lowered_actor::{ActionCode, Parts, StateCell};
+use lowered_actor::{Parts, StateCell};
 
 /// Whether an instruction may stand in a body of a firing or of a guard: it writes only where that is allowed, reads no
-/// token behind those that the action takes, and ends the body as it must.
-pub(crate) fn may_stand(parts: &Parts, action: &ActionCode, firing: bool, instr: &Instr) -> bool
-    ensures { IsTrue result → MayStand (actor_of parts.now) (action_of action.now) firing instr.now }
+/// token behind those that are taken, and ends the body as it must.
+pub(crate) fn may_stand(
+    parts: &Parts,
+    firing: bool,
+    needs: &[u32],
+    last: Last,
+    instr: &Instr,
+) -> bool
+    ensures { IsTrue result → MayStand (actor_of parts.now) firing needs.now last instr.now }
 {
     match *instr {
         Instr::Const(_) => true,
@@ -20,8 +27,16 @@ pub(crate) fn may_stand(parts: &Parts, action: &ActionCode, firing: bool, instr:
         Instr::Index(_, _) => true,
         Instr::LoadAt(_, _) => true,
         Instr::StoreAt(cell, count, _) => may_store_each(parts, firing, cell, count),
-        Instr::Token(port, k) => k < needed(action, port),
-        Instr::TokenAt(port, k, step, count) => are_needed(k, step, count, needed(action, port)),
+        Instr::Copy(to, _, count, _) => may_store_each(parts, firing, to, count),
+        Instr::CopyTo(to, count, _, _, _) => may_store_each(parts, firing, to, count),
+        Instr::CopyFrom(to, _, _, count) => may_store_each(parts, firing, to, count),
+        Instr::Token(port, k) => k < needed(needs, port),
+        Instr::TokenAt(port, k, step, count) => are_needed(k, step, count, needed(needs, port)),
+        Instr::TokenList(to, port, k, step, count) => {
+            may_store_each(parts, firing, to, count)
+                && are_needed(k, step, count, needed(needs, port))
+        }
+        Instr::Zero(cell, count) => may_store_each(parts, firing, cell, count),
         Instr::Neg => true,
         Instr::BitNot => true,
         Instr::Not => true,
@@ -44,23 +59,20 @@ pub(crate) fn may_stand(parts: &Parts, action: &ActionCode, firing: bool, instr:
         Instr::Jump(_) => true,
         Instr::JumpIfNot(_) => true,
         Instr::Turn => true,
+        Instr::Call(_) => true,
         Instr::Drop => true,
-        Instr::Answer => !firing,
-        Instr::Done => firing,
-        _ => false,
+        Instr::Return => matches!(last, Last::Return),
+        Instr::Answer => matches!(last, Last::Answer),
+        Instr::Done => matches!(last, Last::Done),
     }
 }
 
-/// How many tokens an action takes from a port: none beyond its ports.
-fn needed(action: &ActionCode, port: u32) -> u32
-    ensures { result ≡ number_on (action_of action.now).needs port }
+/// How many tokens are taken from a port: none beyond these.
+fn needed(needs: &[u32], port: u32) -> u32
+    ensures { result ≡ number_on needs.now port }
 {
     let port = port as usize;
-    if port < action.needs.len() {
-        action.needs[port]
-    } else {
-        0
-    }
+    if port < needs.len() { needs[port] } else { 0 }
 }
 
 /// Whether so many tokens, each so many places behind the one before, are among those that are needed.
@@ -86,8 +98,7 @@ fn may_store(parts: &Parts, firing: bool, cell: usize) -> bool
 
 /// Whether each of so many cells may be written.
 fn may_store_each(parts: &Parts, firing: bool, cell: u32, count: u32) -> bool
-    ensures { IsTrue result → (d : ℕ) → cell ≤ d → d < cell + count
-        → may_store (actor_of parts.now) firing d ≡ true }
+    ensures { IsTrue result → MayStoreEach (actor_of parts.now) firing cell count }
 {
     for k in 0..count as usize {
         if !may_store(parts, firing, cell as usize + k) {

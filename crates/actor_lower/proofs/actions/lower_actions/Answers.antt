@@ -1,19 +1,21 @@
-use Rattle.std.proofs.Common.{◌≡◌, ◌≤◌, [], arith, rules, subst, sym}
+use Rattle.std.proofs.Common.{◌≡◌, ◌<◌, [], arith, length, rules, subst, sym}
 use Rattle.cal_model.specs.View.{actor_of}
-use Rattle.action_lower.specs.Seats.{state_cells}
+use Rattle.stmt_lower.specs.Procedures.{routines_of}
 use Rattle.actor_lower.specs.Coded.{AddsBodies, AreCodedActions, all_entries}
-use Rattle.actor_lower.proofs.Extending.{more-again}
+use Rattle.actor_lower.specs.Faults.{IsWhyActions}
+use Rattle.actor_lower.proofs.Chosen.{why-actions, why-err}
+use Rattle.actor_lower.proofs.Extending.{more-again, served-more}
 use Rattle.actor_lower.proofs.Placed.{more-coded, no-actions, no-more, whole-more}
-use Rattle.actor_lower.proofs.Rowed.{actions-bodies}
+use Rattle.actor_lower.proofs.Rowed.{actions-bodies, no-bodies}
 use Rattle.actor_lower.proofs.actions.lower_actions.Goals as goal
 
 pub loop-action-init : goal.loop-action-init
 loop-action-init c =
     let none : c.new-actions.result.items ≡ [] = search rules in (
       subst (λ xs. AreCodedActions (actor_of c.args.b.now) 0 xs c.args.draft.now) (sym none) (no-actions (actor_of c.args.b.now) c.args.draft.now),
-      c.requires.cells,
+      c.requires.served,
       no-more c.args.draft.now,
-      subst (λ xs. AddsBodies (all_entries xs) c.args.draft.now c.args.draft.now) (sym none) (λ whole more rest is room rows. rows),
+      subst (λ xs. AddsBodies (all_entries xs) c.args.draft.now c.args.draft.now) (sym none) (no-bodies c.args.draft.now),
       λ a low. absurd (omega (arith, low)),
     )
 
@@ -21,9 +23,15 @@ pub loop-action-preserved : goal.loop-action-preserved
 loop-action-preserved c = (
   more-coded (actor_of c.args.b.now) c.loop-action.action c.loop-action.actions.items c.push.new.self.items c.in_ok-coded.coded c.loop-action.draft c.lower_action.new.draft
       c.loop-action.invariant.0 c.in_ok-coded.ensures.more c.in_ok-coded.ensures.coded c.in_ok-push.ensures.items,
-  (let le : state_cells (actor_of c.args.b.now) ≤ c.loop-action.draft.cells = c.loop-action.invariant.1 in let ge = c.in_ok-coded.ensures.more.cells in omega (arith, le, ge)),
+  served-more (actor_of c.args.b.now) (routines_of c.args.callees.now c.args.procedures.now) c.loop-action.draft c.lower_action.new.draft c.in_ok-coded.ensures.more c.loop-action.invariant.1,
   more-again c.args.draft.now c.loop-action.draft c.lower_action.new.draft c.loop-action.invariant.2 c.in_ok-coded.ensures.more,
   actions-bodies c.loop-action.actions.items c.push.new.self.items c.in_ok-coded.coded c.args.draft.now c.loop-action.draft c.lower_action.new.draft
       c.in_ok-push.ensures.items c.in_ok-coded.ensures.more c.loop-action.invariant.3 c.in_ok-coded.ensures.bodies,
-  whole-more c.args.b.now c.loop-action.action c.loop-action.invariant.4 c.in_ok-coded.ensures.whole,
+  whole-more (routines_of c.args.callees.now c.args.procedures.now) c.args.b.now c.loop-action.action c.loop-action.invariant.4 c.in_ok-coded.ensures.whole,
 )
+
+pub returns-in_err-coded-clause-fault : goal.returns-in_err-coded-clause-fault
+returns-in_err-coded-clause-fault c =
+    let low : c.loop-action.action < length c.args.b.now.actions.items = search rules in
+    why-err c.from_residual.result _ (IsWhyActions (routines_of c.args.callees.now c.args.procedures.now) c.args.b.now) c.from_residual.ensures.1
+    (λ mine is. why-actions (routines_of c.args.callees.now c.args.procedures.now) c.args.b.now c.loop-action.action c.in_err-coded.field-0.0 mine is low c.loop-action.invariant.4 c.in_err-coded.ensures.fault)

@@ -1,39 +1,33 @@
-use Rattle.std.proofs.Common.{◌≤◌, ◌++◌, ◌∷◌, [], arith}
+use Rattle.std.proofs.Common.{◌++◌, ◌∷◌, [], arith}
 use Rattle.cal_model.specs.View.{actor_of}
-use Rattle.action_lower.specs.Seats.{state_cells}
-use Rattle.actor_lower.specs.Coded.{AddsBodies, FiresFrom, IsMore}
-use Rattle.actor_lower.proofs.Extending.{fires-from, more-again}
-use Rattle.actor_lower.proofs.Placed.{bodies-grown, firing-grown, guards-grown}
+use Rattle.stmt_lower.specs.Procedures.{routines_of}
+use Rattle.actor_lower.specs.Coded.{AddsBodies, IsMore}
+use Rattle.actor_lower.specs.Drafted.{IsServed}
+use Rattle.actor_lower.proofs.Extending.{more-again, served-more}
+use Rattle.actor_lower.proofs.Placed.{guards-alone, guards-grown}
+use Rattle.actor_lower.proofs.Rowed.{bodies-join}
 use Rattle.actor_lower.proofs.actions.lower_entries.Goals as goal
 
-pub lower_firing-requires-clause-cells : goal.lower_firing-requires-clause-cells
-lower_firing-requires-clause-cells c =
-    let more : IsMore c.args.draft.now c.lower_guards.new.draft = guards-grown c.args.b.now c.args.action c.requires.action c.in_ok-guards.guards.items c.args.draft.now c.lower_guards.new.draft c.in_ok-guards.ensures.code in
-    let le = more.cells in
-    let low = c.requires.cells in
-    omega (arith, le, low)
+pub lower_guards-requires-clause-cells : goal.lower_guards-requires-clause-cells
+lower_guards-requires-clause-cells c = let low = c.requires.served.state in let high = c.requires.served.below in omega (arith, low, high)
 
-pub returns-clause-fires : goal.returns-clause-fires
-returns-clause-fires c =
+pub put_firing-requires-clause-served : goal.put_firing-requires-clause-served
+put_firing-requires-clause-served c =
     let more : IsMore c.args.draft.now c.lower_guards.new.draft = guards-grown c.args.b.now c.args.action c.requires.action c.in_ok-guards.guards.items c.args.draft.now c.lower_guards.new.draft c.in_ok-guards.ensures.code in
-    let low : state_cells (actor_of c.args.b.now) ≤ c.lower_guards.new.draft.cells = let le = more.cells in let h = c.requires.cells in omega (arith, le, h) in
-    let made : FiresFrom (actor_of c.args.b.now) c.args.action c.in_ok-firing.firing.entry c.in_ok-firing.firing.firsts.items c.lower_firing.new.draft =
-    fires-from (actor_of c.args.b.now) c.args.action c.in_ok-firing.firing.firsts.items c.in_ok-firing.firing.entry c.lower_guards.new.draft c.lower_firing.new.draft low c.in_ok-firing.ensures.code.0 c.in_ok-firing.ensures.fired in
-    made
+    let served : IsServed (actor_of c.args.b.now) (routines_of c.args.callees.now c.args.procedures.now) c.lower_guards.new.draft =
+    served-more (actor_of c.args.b.now) (routines_of c.args.callees.now c.args.procedures.now) c.args.draft.now c.lower_guards.new.draft more c.requires.served in
+    served
 
 pub returns-clause-more : goal.returns-clause-more
 returns-clause-more c =
-    let made : IsMore c.args.draft.now c.lower_firing.new.draft =
-    more-again c.args.draft.now c.lower_guards.new.draft c.lower_firing.new.draft
-    (guards-grown c.args.b.now c.args.action c.requires.action c.in_ok-guards.guards.items c.args.draft.now c.lower_guards.new.draft c.in_ok-guards.ensures.code)
-    (firing-grown c.args.b.now c.args.action c.requires.action c.in_ok-firing.firing.entry c.in_ok-firing.firing.firsts.items c.lower_guards.new.draft c.lower_firing.new.draft c.in_ok-firing.ensures.code) in
+    let made : IsMore c.args.draft.now c.put_firing.new.draft =
+    more-again c.args.draft.now c.lower_guards.new.draft c.put_firing.new.draft
+    (guards-grown c.args.b.now c.args.action c.requires.action c.in_ok-guards.guards.items c.args.draft.now c.lower_guards.new.draft c.in_ok-guards.ensures.code) c.in_ok-firing.ensures.more in
     made
 
 pub returns-clause-bodies : goal.returns-clause-bodies
 returns-clause-bodies c =
-    let more : IsMore c.args.draft.now c.lower_guards.new.draft = guards-grown c.args.b.now c.args.action c.requires.action c.in_ok-guards.guards.items c.args.draft.now c.lower_guards.new.draft c.in_ok-guards.ensures.code in
-    let low : state_cells (actor_of c.args.b.now) ≤ c.lower_guards.new.draft.cells = let le = more.cells in let h = c.requires.cells in omega (arith, le, h) in
-    let made : AddsBodies (c.in_ok-guards.guards.items ++ c.in_ok-firing.firing.entry ∷ []) c.args.draft.now c.lower_firing.new.draft =
-    bodies-grown c.args.b.now c.args.action c.requires.action c.in_ok-guards.guards.items c.in_ok-firing.firing.entry c.in_ok-firing.firing.firsts.items c.args.draft.now c.lower_guards.new.draft c.lower_firing.new.draft
-    c.requires.sound low c.in_ok-guards.ensures.code c.in_ok-firing.ensures.code in
+    let made : AddsBodies (c.in_ok-guards.guards.items ++ c.in_ok-firing.firing.entry ∷ []) c.args.draft.now c.put_firing.new.draft =
+    bodies-join c.in_ok-guards.guards.items (c.in_ok-firing.firing.entry ∷ []) c.args.draft.now c.lower_guards.new.draft c.put_firing.new.draft c.in_ok-firing.ensures.more
+    (guards-alone c.args.b.now c.args.action c.requires.action c.in_ok-guards.guards.items c.args.draft.now c.lower_guards.new.draft c.in_ok-guards.ensures.code) c.in_ok-firing.ensures.bodies in
     made

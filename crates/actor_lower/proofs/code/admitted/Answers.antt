@@ -1,6 +1,7 @@
-use Rattle.std.proofs.Common.{refl, subst, sym}
-use Rattle.code_ir.specs.Code.{Code}
+use Rattle.std.proofs.Common.{◌++◌, refl, subst, sym}
+use Rattle.code_ir.specs.Code.{Code, begins}
 use Rattle.code_ir.specs.Typing.{IsCause}
+use Rattle.actor_lower.specs.Drafted.{starts}
 use Rattle.actor_lower.specs.Fitting.{AreBodies}
 use Rattle.actor_lower.proofs.Rowed.{never-bad}
 use Rattle.actor_lower.proofs.code.admitted.Goals as goal
@@ -8,11 +9,11 @@ use Rattle.actor_lower.proofs.code.admitted.Goals as goal
 pub admit-requires-clause-sized : goal.admit-requires-clause-sized
 admit-requires-clause-sized c =
     let whole : Code = record { instrs = c.args.draft.instrs.items; routines = c.args.draft.routines.items; entries = c.in_ok-entries.entries.items; cells = c.args.draft.cells } in
-    let rows : AreBodies whole 0 whole.entries = subst (AreBodies whole 0) (sym c.in_ok-entries.ensures) (c.requires.bodies whole refl refl) in
-    (c.bodies_are_admitted.ensures whole c.requires.routines rows).1
+    let rows : AreBodies whole 0 0 (begins whole) = subst (λ es. AreBodies whole 0 0 (starts c.args.draft ++ es)) (sym c.in_ok-entries.ensures) (c.requires.bodies whole refl refl refl) in
+    (c.bodies_are_admitted.ensures whole rows).1
 
 pub unreachable-requires : goal.unreachable-requires
 unreachable-requires c =
     let whole : Code = record { instrs = c.args.draft.instrs.items; routines = c.args.draft.routines.items; entries = c.in_ok-entries.entries.items; cells = c.args.draft.cells } in
-    let rows : AreBodies whole 0 whole.entries = subst (AreBodies whole 0) (sym c.in_ok-entries.ensures) (c.requires.bodies whole refl refl) in
-    never-bad whole c.in-Err-Bad.field-0-0 (c.bodies_are_admitted.ensures whole c.requires.routines rows).0 (subst (IsCause whole) c.in-Err-Bad.field-0-is c.in-Err-Bad.ensures.bad)
+    let rows : AreBodies whole 0 0 (begins whole) = subst (λ es. AreBodies whole 0 0 (starts c.args.draft ++ es)) (sym c.in_ok-entries.ensures) (c.requires.bodies whole refl refl refl) in
+    never-bad whole c.in-Err-Bad.field-0-0 (c.bodies_are_admitted.ensures whole rows).0 (subst (IsCause whole) c.in-Err-Bad.field-0-is c.in-Err-Bad.ensures.bad)

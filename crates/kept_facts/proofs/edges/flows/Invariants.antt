@@ -1,6 +1,7 @@
-use Rattle.std.proofs.Common.{ℕ, ◌<◌}
-use Rattle.kept_facts.specs.Spans.{FlowsAt}
+use Rattle.std.proofs.Common.{◌≡◌, ℕ, ◌+◌, ◌<◌, ◌⊎◌, true, false}
+use Rattle.std.specs.Prelude.{slice_index_or}
+use Rattle.kept_facts.specs.Rows.{is_set, row_at, writes}
 use Rattle.kept_facts.proofs.edges.flows.Given as goal
 
-abbrev pub invariant-loop-cell : goal.invariant-loop-cell
-invariant-loop-cell l = (c : ℕ) → c < l.cell → FlowsAt l.kept l.spans l.instr l.from l.to c
+abbrev pub invariant-loop-k : goal.invariant-loop-k
+invariant-loop-k l = (j : ℕ) → j < l.k → slice_index_or (row_at l.body l.to) j false ≡ true → (is_set l.kept l.body l.from (l.kept + j) ≡ true) ⊎ (writes l.instr (l.kept + j) ≡ true)

@@ -16,8 +16,8 @@ loop-entry-preserved c =
 
 pub returns : goal.returns
 returns c =
-    IfOk-weaker c.keeps_body-2.result _ _ (λ keeps h done. record {
+    IfOk-weaker c.keeps_firing.result _ _ (λ keeps h done. record {
       guards = all-whole (HasBody (actor_of c.args.parts.now) (action_of c.args.action.now) false) c.args.action.now.guards.items c.loop-entry.entry-index
           (subst (λ (l : List ℕ). length l ≤ c.loop-entry.entry-index) c.deref-entry-items.ensures.value c.loop-entry-test.false) c.loop-entry.invariant;
       firing = h done;
-    }) c.keeps_body-2.ensures
+    }) c.keeps_firing.ensures

@@ -1,0 +1,20 @@
+use Rattle.cal_model.specs.View.{actor_of}
+use Rattle.stmt_lower.specs.Procedures.{routines_of}
+use Rattle.actor_lower.proofs.Extending.{fires-from}
+use Rattle.actor_lower.proofs.Placed.{firing-alone, firing-grown}
+use Rattle.actor_lower.proofs.firings.put_plain.Goals as goal
+
+pub returns-clause-fires : goal.returns-clause-fires
+returns-clause-fires c =
+    fires-from (actor_of c.args.b.now) c.args.action (routines_of c.args.callees.now c.args.procedures.now) c.in_ok-firing.firing.firsts.items c.in_ok-firing.firing.entry c.args.draft.now c.lower_firing.new.draft
+    c.requires.sound c.requires.served c.in_ok-firing.ensures.code.0 c.in_ok-firing.ensures.fired
+
+pub returns-clause-bodies : goal.returns-clause-bodies
+returns-clause-bodies c =
+    firing-alone c.args.b.now c.args.action c.requires.action (routines_of c.args.callees.now c.args.procedures.now) c.in_ok-firing.firing.entry c.in_ok-firing.firing.firsts.items c.args.draft.now c.lower_firing.new.draft
+    c.requires.sound c.requires.served c.in_ok-firing.ensures.code
+
+pub returns-clause-more : goal.returns-clause-more
+returns-clause-more c =
+    firing-grown c.args.b.now c.args.action c.requires.action (routines_of c.args.callees.now c.args.procedures.now) c.in_ok-firing.firing.entry c.in_ok-firing.firing.firsts.items c.args.draft.now c.lower_firing.new.draft
+    c.in_ok-firing.ensures.code

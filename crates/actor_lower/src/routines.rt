@@ -1,0 +1,53 @@
+//! The functions and the procedures of an actor as routines.
+
+ghost use Rattle.std.specs.Prelude.{◌≡◌, [], IfErr, IfOk};
+ghost use Rattle.cal_model.specs.Sound.{IsSound};
+ghost use Rattle.cal_model.specs.View.{actor_of};
+ghost use Rattle.stmt_lower.specs.Procedures.{routines_of};
+ghost use Rattle.action_lower.specs.Seats.{state_cells};
+ghost use Rattle.actor_lower.specs.Drafted.{HoldsRoutines, IsServed};
+ghost use Rattle.actor_lower.specs.Faults.{IsRoutineFault};
+ghost use Rattle.actor_lower.specs.Settled.{AreSettled};
+
+use crate::fault::ActorFault;
+use crate::functions::lower_functions;
+use crate::globals::global_names;
+use crate::procedures::lower_procedures;
+use cal_model::Bound;
+use expr_lower::{Callee, Draft};
+use std::alloc::Global;
+use stmt_lower::ProcCallee;
+
+/// What the actions of an actor may call.
+#[derive(Debug, Drop)]
+pub(crate) struct Called {
+    pub callees: Vec<Callee>,
+    pub procedures: Vec<ProcCallee>,
+}
+
+/// Appends the routine of each function and of each procedure of which no part is left out, each behind those that it
+/// calls.
+pub(crate) fn lower_routines(
+    alloc: Global,
+    b: &Bound,
+    draft: &mut Draft,
+) -> Result<Called, ActorFault>
+    requires sound { IsSound (actor_of b.now) }
+    requires instrs { draft.old.instrs.items ≡ [] }
+    requires routines { draft.old.routines.items ≡ [] }
+    requires cells { draft.old.cells ≡ state_cells (actor_of b.now) }
+    ensures settled { IfOk result (λ called. AreSettled (actor_of b.now)
+        (routines_of called.callees.items called.procedures.items)) }
+    ensures served { IfOk result (λ called. IsServed (actor_of b.now)
+        (routines_of called.callees.items called.procedures.items) draft.new) }
+    ensures bodies { IfOk result (λ called. HoldsRoutines draft.new) }
+    ensures fault { IfErr result IsRoutineFault }
+{
+    let names = global_names(alloc, b)?;
+    let callees = lower_functions(alloc, b, &names, draft)?;
+    let procedures = lower_procedures(alloc, b, &names, &callees, draft)?;
+    Ok(Called {
+        callees,
+        procedures,
+    })
+}
