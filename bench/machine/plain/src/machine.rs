@@ -170,19 +170,29 @@ fn shift(b: Num) -> Result<u32, Trap> {
 
 /// What is told of each instruction that runs.
 pub trait Count {
-    fn one(&mut self);
+    fn one(&mut self, instr: Instr);
 }
 
 /// Nothing is counted.
 impl Count for () {
     #[inline(always)]
-    fn one(&mut self) {}
+    fn one(&mut self, _instr: Instr) {}
 }
 
-/// Instructions are counted.
-impl Count for u64 {
-    fn one(&mut self) {
-        *self += 1;
+/// How many instructions ran, and how many of them counted a turn.
+#[derive(Default)]
+#[allow(dead_code)]
+pub struct Tally {
+    pub instrs: u64,
+    pub turns: u64,
+}
+
+impl Count for Tally {
+    fn one(&mut self, instr: Instr) {
+        self.instrs += 1;
+        if let Instr::Turn = instr {
+            self.turns += 1;
+        }
     }
 }
 
@@ -211,8 +221,9 @@ impl Code {
         let mut depth = 0;
         let mut left = 1_048_576u32;
         loop {
-            count.one();
-            match self.instrs[place] {
+            let instr = self.instrs[place];
+            count.one(instr);
+            match instr {
                 Instr::Const(v) => stack.push(v),
                 Instr::Load(c) => stack.push(numbers[c as usize]),
                 Instr::Store(c, t) => numbers[c as usize] = stored(t, stack.pop()),
