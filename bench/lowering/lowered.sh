@@ -22,13 +22,10 @@ below=$(awk '
         for (k = 1; k <= count; k++) if (order[k] in wanted) print order[k]
     }' "$top/crates.txt")
 for name in $below; do
-    mkdir -p "$work/crates/$name/out"
+    mkdir -p "$work/crates/$name"
     cp -r "$top/crates/$name/src" "$top/crates/$name/specs" "$work/crates/$name/"
     if [ -d "$top/crates/$name/proofs" ]; then
         cp -r "$top/crates/$name/proofs" "$work/crates/$name/"
-    fi
-    if [ -d "$top/crates/$name/out/rlib" ]; then
-        cp -a "$top/crates/$name/out/rlib" "$work/crates/$name/out/"
     fi
     grep "^$name:" "$top/crates.txt" >>"$work/crates.txt"
 done
