@@ -1,0 +1,5 @@
+mod Leaves
+mod Deciding
+mod Ending
+mod OneActors
+mod Answering
