@@ -1,11 +1,10 @@
 -- What a command answers, from how it ended.
-use Rattle.std.proofs.Common.{◌≡◌, ℕ, inl, inr, Bool, true, false, List, length, take, Option, Some, sym, ap, subst, ◌∙◌}
+use Rattle.std.proofs.Common.{◌≡◌, ℕ, inl, inr, Bool, true, false, List, take, Option, Some, sym, ap, subst, ◌∙◌}
 use Rattle.std.specs.Prelude.{slice_get}
 use Rattle.std.proofs.lemmas.Option.{slice_get_within}
 use Rattle.rvc_base.specs.declared.refusal.Refusal.{Refusal}
-use Rattle.rvc_io.specs.Channels.{Channels, WritesOnlyAt}
+use Rattle.rvc_io.specs.Channels.{WritesOnlyAt}
 use Rattle.actor_files.specs.Loading.{Counts, Library, TellsAll}
-use Rattle.cal_model.specs.Actor.{Actor}
 use Rattle.cal_model.specs.Certified.{IsCertified}
 use Rattle.cal_model.specs.Selection.{State}
 use Rattle.cal_model.specs.Sound.{Each}
@@ -15,7 +14,6 @@ use Rattle.port_words.specs.Matching.{AreMatched, IsWrongWord, is_named, is_port
 use Rattle.rvc_words.specs.Words.{PortText}
 use Rattle.run_report.specs.About.{About}
 use Rattle.run_report.specs.Report.{report}
-use Rattle.run_report.specs.declared.status.ReadAt.TheVariants.{File, Feed}
 use Rattle.run_report.specs.declared.status.Status.{Status}
 use Rattle.run_report.specs.declared.status.Status.TheVariants as status
 use Rattle.rvc_engine.specs.Laws.{NetworksAreNotRefused}
@@ -27,7 +25,7 @@ use Rattle.source_network.specs.Source.{IsSourceNetwork}
 use Rattle.check_job.specs.Commands.{Command, IsOfJob, JobConforms, RefusesJob, in_files, in_words, top_of, words_of}
 use Rattle.check_job.specs.Ends.{IsRefused, by_files, by_words}
 use Rattle.check_job.specs.Steps.{IsPut, told, untold}
-use Rattle.certify_job.specs.Ends.{Comes, FailsFirst, IsAnswered, IsDecided, IsUndecided, Judged, is_reported, is_unreported}
+use Rattle.certify_job.specs.Ends.{Comes, FailsFirst, IsAnswered, IsDecided, IsUndecided, is_reported, is_unreported}
 use Rattle.certify_job.specs.Steps.{IsEnded}
 use Rattle.certify_job.proofs.OneActors.{same_actors}
 

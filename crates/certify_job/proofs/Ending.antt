@@ -2,11 +2,8 @@
 use Rattle.std.proofs.Common.{◌≡◌, ℕ, List, [], ◌∷◌, ◌++◌, map, refl, sym, ap, subst, ◌∙◌}
 use Rattle.std.specs.Prelude.{string_bytes}
 use Rattle.rvc_base.specs.declared.refusal.Refusal.{Refusal}
-use Rattle.actor_files.specs.Loading.{TellsAll}
-use Rattle.cal_model.specs.Actor.{Actor}
 use Rattle.cal_model.specs.Laws.{SoundHavePriorities}
 use Rattle.cal_model.specs.Selection.{State}
-use Rattle.cal_model.specs.Sound.{Each, IsSound}
 use Rattle.conforming_jobs.specs.Conforming.{names_of_ports}
 use Rattle.determinacy_cert.specs.Certifying.{NoFailureWhereCertified}
 use Rattle.fnl_flatten.specs.declared.flat.Flat.{Flat}
@@ -31,7 +28,7 @@ use Rattle.check_job.specs.Commands.{Command, HasFiles, about_files, top_of, wor
 use Rattle.check_job.specs.Ends.{by_files, by_words}
 use Rattle.check_job.specs.Steps.{IsPut, status_of}
 use Rattle.certify_job.specs.Ends.{Comes, Judged, SoManyCertified, actors_of}
-use Rattle.certify_job.specs.Steps.{IsEnded, IsVerdict, count_none, status_from}
+use Rattle.certify_job.specs.Steps.{IsEnded, IsVerdict, count_none}
 use Rattle.certify_job.specs.declared.judging.Verdict.{Verdict}
 use Rattle.certify_job.proofs.Deciding.{Outcome, decided}
 use Rattle.certify_job.proofs.Leaves.{so_many}

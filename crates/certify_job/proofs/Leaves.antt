@@ -1,6 +1,6 @@
 -- Actors that are judged one after the other, and what is said of each leaf.
-use Rattle.std.proofs.Common.{◌≡◌, ℕ, zero, suc, ◌+◌, ◌<◌, ◌≤◌, List, [], ◌∷◌, ◌++◌, length, map, Option, None, Some, refl, sym, ap, subst, ◌∙◌, arith}
-use Rattle.std.specs.Prelude.{All, slice_get, slice_index_or, take}
+use Rattle.std.proofs.Common.{◌≡◌, ℕ, zero, suc, ◌+◌, ◌<◌, List, [], ◌∷◌, ◌++◌, length, map, Option, None, Some, refl, sym, ap, subst, ◌∙◌, arith}
+use Rattle.std.specs.Prelude.{All, slice_get, slice_index_or}
 use Rattle.std.proofs.lemmas.List.{append_assoc, append-nil, length-map}
 use Rattle.std.proofs.lemmas.List.Elements.{All-head, All-tail}
 use Rattle.cal_model.specs.Actor.{Actor}
@@ -11,12 +11,12 @@ use Rattle.cal_model.specs.Sound.{Each, IsSound}
 use Rattle.cal_model.specs.View.{actor_of}
 use Rattle.cal_model.specs.declared.bound.Bound.{Bound}
 use Rattle.determinacy_cert.specs.Certifying.{NoFailureWhereCertified}
-use Rattle.determinacy_cert.specs.Failing.{failures, first}
+use Rattle.determinacy_cert.specs.Failing.{first}
 use Rattle.determinacy_cert.specs.declared.fault.CertFault.{CertFault}
 use Rattle.determinacy_cert.specs.declared.fault.CertFault.TheVariants.{Uncertified, Memory}
 use Rattle.leaf_actors.specs.Leaves.{at_places, with_first}
 use Rattle.rvc_engine.specs.Built.{AreJudged, IsJudged}
-use Rattle.certify_job.specs.Ends.{FailsFirst, SoManyCertified, no_actor, not_one, one_more}
+use Rattle.certify_job.specs.Ends.{SoManyCertified, no_actor, not_one, one_more}
 use Rattle.certify_job.specs.Steps.{count_none, said_at}
 
 -- ---- all of them

@@ -1,3 +1,4 @@
+mod Putting
 mod Leaves
 mod Deciding
 mod Ending

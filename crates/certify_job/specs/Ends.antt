@@ -16,7 +16,7 @@ use Rattle.run_report.specs.Report.{certified_line, report}
 use Rattle.run_report.specs.declared.status.ReadAt.TheVariants.{File, Feed}
 use Rattle.run_report.specs.declared.status.Status.{Status}
 use Rattle.run_report.specs.declared.status.Status.TheVariants as status
-use Rattle.check_job.specs.Commands.{Command, IsOfJob, about_files}
+use Rattle.check_job.specs.Commands.{Command, IsOfJob}
 use Rattle.check_job.specs.Ends.{FileUnread, IsRefused}
 
 -- ---- which actors are certified

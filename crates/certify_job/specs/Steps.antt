@@ -1,7 +1,6 @@
 -- The steps of certifying.
 -- Not trusted: no promise is read with it.
 use Rattle.std.specs.Prelude.{◌≡◌, ◌+◌, ℕ, List, [], ◌∷◌, map, Option, None, Some, slice_index_or}
-use Rattle.rvc_base.specs.declared.ids.InstId.{InstId}
 use Rattle.cal_model.specs.Actor.{Actor}
 use Rattle.determinacy_cert.specs.declared.fault.CertFault.{CertFault}
 use Rattle.determinacy_cert.specs.declared.fault.CertFault.TheVariants.{Uncertified, Memory}

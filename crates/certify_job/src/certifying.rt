@@ -12,6 +12,8 @@ ghost use Rattle.certify_job.specs.Steps.{IsEnded};
 use crate::judging::{Verdict, judge_leaves};
 use crate::reporting::report_certified;
 use actor_files::Names;
+use cal_model::sound_actors_have_priorities;
+use determinacy_cert::no_failure_where_certified;
 use port_words::match_words;
 use run_report::{REPORT_CHANNEL, ReadAt, Status};
 use rvc_engine::{BuildFault, Checked, check_network};
@@ -76,6 +78,8 @@ fn end_of<D: Drains>(
     if ins.len() > MAX_PORTS || outs.len() > MAX_PORTS {
         return report_certified(Status::OutOfMemory, 0, names, job, drains);
     }
+    sound_actors_have_priorities();
+    no_failure_where_certified();
     match match_words(job.ports.as_slice(), ins, outs) {
         Ok(()) => match judge_leaves(alloc, &checked.actors) {
             Ok(Verdict { certified, said }) => report_certified(said, certified, names, job, drains),
