@@ -9,7 +9,7 @@ ghost use Rattle.check_job.specs.Commands.{top_of};
 ghost use Rattle.check_job.specs.Steps.{status_of};
 ghost use Rattle.certify_job.specs.Steps.{IsEnded};
 
-use crate::judging::{Verdict, judge_leaves};
+use crate::judging::judge_leaves;
 use crate::reporting::report_certified;
 use actor_files::Names;
 use cal_model::sound_actors_have_priorities;
@@ -82,7 +82,7 @@ fn end_of<D: Drains>(
     no_failure_where_certified();
     match match_words(job.ports.as_slice(), ins, outs) {
         Ok(()) => match judge_leaves(alloc, &checked.actors) {
-            Ok(Verdict { certified, said }) => report_certified(said, certified, names, job, drains),
+            Ok(verdict) => report_certified(verdict.said, verdict.certified, names, job, drains),
             Err(Memory) => report_certified(Status::OutOfMemory, 0, names, job, drains),
         },
         Err(refusal) => report_certified(Status::Refused(refusal), 0, names, job, drains),

@@ -12,9 +12,9 @@ returns-in-Ok-judge_leaves g c = λ library misses faults is.
     let ins : c.as_slice-ins.result.now ≡ c.args.checked.now.flat.ins.items = search rules in
     let outs : c.as_slice-outs.result.now ≡ c.args.checked.now.flat.outs.items = search rules in
     let words : c.as_slice.result.now ≡ c.args.job.now.ports.items = search rules in
-    ended _ c.in-Ok-judge_leaves.said c.report_certified-in-Ok-judge_leaves.result (certified_line c.in-Ok-judge_leaves.certified) (about_files c.args.job.now (file_names c.args.names.now))
+    ended _ c.in-Ok-judge_leaves.verdict.said c.report_certified-in-Ok-judge_leaves.result (certified_line c.in-Ok-judge_leaves.verdict.certified) (about_files c.args.job.now (file_names c.args.names.now))
     (comes c.sound_actors_have_priorities.ensures c.no_failure_where_certified.ensures _ (file_names c.args.names.now) c.args.checked.now
-    (record { certified = c.in-Ok-judge_leaves.certified; said = c.in-Ok-judge_leaves.said }) (about_files c.args.job.now (file_names c.args.names.now))
+    c.in-Ok-judge_leaves.verdict (about_files c.args.job.now (file_names c.args.names.now))
     (moved AreMatched c.as_slice-ins.result.now _ c.as_slice-outs.result.now _ c.as_slice.result.now _ ins outs words c.in-Ok.ensures.matched) is c.in-Ok-judge_leaves.ensures)
     c.report_certified-in-Ok-judge_leaves.ensures
 

@@ -1,4 +1,4 @@
-use Rattle.std.proofs.Common.{◌≡◌, ◌∷◌, [], rules}
+use Rattle.std.proofs.Common.{◌≡◌, ◌∷◌, length, rules}
 use Rattle.certify_job.proofs.Leaves.{all_many, one_judged}
 use Rattle.certify_job.proofs.judging.judge_all.Goals as goal
 
@@ -10,5 +10,5 @@ actors-preserved c =
 
 pub returns-clause-many : goal.returns-clause-many
 returns-clause-many c =
-    let none : c.actors.rest.now ≡ [] = search rules in
+    let none : length c.actors.rest.now ≡ 0 = search rules in
     all_many c.args.actors.now c.actors.rest.now c.actors.said.items c.actors.invariant none
