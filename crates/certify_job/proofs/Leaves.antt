@@ -113,7 +113,7 @@ pub one_counted : (all : List (Option CertFault)) (places rest others : List ℕ
     → Counted all places rest count → Counted all places others (count + 1)
 one_counted all places rest others p count opened nothing h = (
   one_less (slice_index_or all p None) (said_at all others) count (count_none (said_at all places)) nothing
-  (ap (λ ps. count + count_none (said_at all ps)) (sym opened) ∙ h.0),
+      (ap (λ ps. count + count_none (said_at all ps)) (sym opened) ∙ h.0),
   fewer places rest others p count opened h.1,
   rest_low (length all) rest others p opened h.2,
 )
@@ -123,7 +123,7 @@ pub none_counted : (all : List (Option CertFault)) (places rest others : List �
 none_counted all places rest others p count opened something h =
     let few : (count + 1) + length others ≤ length places = fewer places rest others p count opened h.1 in (
       none_less (slice_index_or all p None) (said_at all others) count (count_none (said_at all places)) something
-      (ap (λ ps. count + count_none (said_at all ps)) (sym opened) ∙ h.0),
+          (ap (λ ps. count + count_none (said_at all ps)) (sym opened) ∙ h.0),
       omega (arith, few),
       rest_low (length all) rest others p opened h.2,
     )

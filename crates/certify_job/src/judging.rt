@@ -71,10 +71,7 @@ fn judge(alloc: Global, actor: &Bound) -> Result<Option<CertFault>, Memory>
 }
 
 /// The same of each of several actors.
-fn judge_all(
-    alloc: Global,
-    actors: &[Bound],
-) -> Result<Vec<Option<CertFault>>, Memory>
+fn judge_all(alloc: Global, actors: &[Bound]) -> Result<Vec<Option<CertFault>>, Memory>
     requires { Each IsSound (map actor_of actors.now) }
     ensures judged { IfOk result (λ said. AreJudged (map actor_of actors.now) said.items) }
     ensures many { IfOk result (λ said. length said.items ≡ length actors.now) }

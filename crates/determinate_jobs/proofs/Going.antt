@@ -1,5 +1,5 @@
 -- Every quiet run goes on from where a run ended.
-use Rattle.std.proofs.Common.{◌≡◌, ◌≢◌, ℕ, ◌+◌, ◌<◌, ◌≤◌, true, List, [], ◌∷◌, ◌++◌, length, sym, ap, ◌∙◌, subst, append-nil, arith}
+use Rattle.std.proofs.Common.{◌≡◌, ◌≢◌, ℕ, ◌<◌, ◌≤◌, true, List, [], ◌∷◌, ◌++◌, length, sym, ap, ◌∙◌, subst, append-nil, arith}
 use Rattle.rvc_base.specs.declared.trap.Trap.{Trap}
 use Rattle.rvc_io.specs.Channels.{Channels}
 use Rattle.trace_text.specs.declared.line.Line.{Line}
@@ -58,7 +58,7 @@ module _ {X : Type 0} (laws : Laws X) (net : Network X) (inputs : List (List ℕ
   back : end ≡ QuietLine → SentGrows net quiet last
   back end_is l low =
       let reached_quiet : IsQuiet net ran.reached = quiet_alike net last ran.reached (sym ran.same_tokens)
-          (ends_quiet net job.grow (start_of net inputs) last ended.before end ended.permitted.plays end_is) in
+      (ends_quiet net job.grow (start_of net inputs) last ended.before end ended.permitted.plays end_is) in
       let same : sent_on_link quiet l ≡ sent_on_link ran.reached l = laws.agree net inputs events ran.events quiet ran.reached det is (record { leads = ran.leads; quiet = reached_quiet }) l low in
       ([], sym (alike l) ∙ (sym same ∙ sym (append-nil (sent_on_link quiet l))))
 
@@ -77,7 +77,7 @@ module _ {X : Type 0} (laws : Laws X) (net : Network X) (inputs : List (List ℕ
       let made : length (firings_in ran.events) ≡ job.budget = ap length ran.same_firings ∙ (sym ended.counted.firings ∙ ended.spent end_is) in
       let most : length (firings_in ran.events) ≤ length (firings_in events) = many.most in
       let not_all : length (firings_in ran.events) ≢ length (firings_in events) = λ same.
-          between.not_quiet (quiet_alike net ran.reached last ran.same_tokens (many.all_made same (settled_alike net last ran.reached (sym ran.same_tokens) between.settled))) in
+      between.not_quiet (quiet_alike net ran.reached last ran.same_tokens (many.all_made same (settled_alike net last ran.reached (sym ran.same_tokens) between.settled))) in
       less (length (firings_in ran.events)) job.budget (length (firings_in events)) made most not_all
     where
       less : (n b m : ℕ) → n ≡ b → n ≤ m → n ≢ m → b < m
@@ -100,7 +100,7 @@ tells laws wired determinate none cmd end counts lines about ran sound =
     let means = ran.is_to_run.files.means in
     let files = files_of ran.is_to_run.files.reads in
     let instances : about.instances ≡ length means.actors =
-        ap (λ a. a.instances) ran.about_is ∙ leaves_many files means.tree.leaves means.actors ran.net.leaves means.are_actors in
+    ap (λ a. a.instances) ran.about_is ∙ leaves_many files means.tree.leaves means.actors ran.net.leaves means.are_actors in
     record {
       shown = (
         λ shows. all_counted means.actors ran.are_certified.said ran.are_certified.judged (sym ran.are_certified.counted ∙ (shows ∙ instances)),

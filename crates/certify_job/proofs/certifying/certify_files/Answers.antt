@@ -1,4 +1,4 @@
-use Rattle.std.proofs.Common.{rules, ◌≡◌, subst}
+use Rattle.std.proofs.Common.{rules, subst}
 use Rattle.actor_files.specs.Views.{file_names}
 use Rattle.run_report.specs.Report.{certified_line, report}
 use Rattle.rvc_engine.specs.Refused.{IsFault}
