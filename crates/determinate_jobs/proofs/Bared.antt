@@ -5,8 +5,8 @@ use Rattle.std.proofs.lemmas.Grind.{flat_map-append}
 use Rattle.std.specs.Prelude.{Option, None, Some, ℤ, slice_get, if◌then◌else◌}
 use Rattle.std.specs.List.{flat_map, range_with_len}
 use Rattle.net_model.specs.declared.wiring.Link.{Link}
-use Rattle.net_model.specs.Network.{Leaf, Network, is_input, is_leaf_port, is_net_port, kind_at}
-use Rattle.net_model.specs.State.{Flow, State, effect_at, effect_of, inbox, inboxes, sent_to, waiting}
+use Rattle.net_model.specs.Network.{Leaf, Network, is_leaf_port, is_net_port, kind_at}
+use Rattle.net_model.specs.State.{Flow, State, effect_at, effect_of, inbox, sent_to, waiting}
 use Rattle.net_model.specs.Ends.{AllArrived, IsQuiet, IsSettled, all_fed, with_rest}
 use Rattle.net_model.specs.Event.{each_flow}
 use Rattle.net_model.specs.Laws.{SentGrows, sent_of, sent_on_link, without_capacities, without_capacity}

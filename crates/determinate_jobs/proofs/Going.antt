@@ -1,11 +1,9 @@
 -- Every quiet run goes on from where a run ended.
-use Rattle.std.proofs.Common.{◌≡◌, ◌≢◌, ℕ, ◌+◌, ◌<◌, ◌≤◌, ◌⊎◌, inl, inr, ⊎_elim, true, List, [], ◌∷◌, ◌++◌, length, refl, sym, ap, ◌∙◌, subst, append-nil, arith}
-use Rattle.std.specs.Prelude.{Option, None, Some}
+use Rattle.std.proofs.Common.{◌≡◌, ◌≢◌, ℕ, ◌<◌, ◌≤◌, true, List, [], ◌∷◌, ◌++◌, length, sym, ap, ◌∙◌, subst, append-nil, arith}
 use Rattle.rvc_base.specs.declared.trap.Trap.{Trap}
 use Rattle.rvc_io.specs.Channels.{Channels}
 use Rattle.trace_text.specs.declared.line.Line.{Line}
 use Rattle.trace_text.specs.declared.line.Line.TheVariants.{Quiet as QuietLine, Trap as TrapLine, Budget as BudgetLine}
-use Rattle.cal_model.specs.Certified.{IsCertified}
 use Rattle.cal_model.specs.Selection.{State as ActorState}
 use Rattle.cal_model.specs.Sound.{Each, IsSound}
 use Rattle.net_model.specs.declared.wiring.Counts.{Counts}
@@ -16,18 +14,16 @@ use Rattle.net_model.specs.Event.{Event}
 use Rattle.net_model.specs.Laws.{IsRunOf, LinesAreRuns, SentGrows, StartsInOrder, firings_in, firings_shown, sent_on_link}
 use Rattle.net_model.specs.Stable.{IsPrefix}
 use Rattle.net_model.specs.Trace.{bytes_out}
-use Rattle.net_model.specs.Wired.{IsWired}
 use Rattle.determinacy_cert.specs.Certifying.{CertifiedAreDeterminate, NoFailureWhereCertified}
 use Rattle.determinacy_cert.specs.Determinacy.{AsManyFirings, AsManyFiringsAreAll, IsDeterminate, IsQuietRun, NoQuietRunBesides, QuietRunsAgree, SentArePrefixes}
 use Rattle.fnl_flatten.specs.Flat.{FlatAreWired}
-use Rattle.network_job.specs.Leaving.{HasEnded, Setting, file_out, setting_of}
+use Rattle.network_job.specs.Leaving.{HasEnded, setting_of}
 use Rattle.source_network.specs.Files.{files_of}
 use Rattle.run_report.specs.About.{About}
-use Rattle.run_report.specs.declared.status.Status.{Status}
 use Rattle.rvc_words.specs.declared.job.Job.{Job}
-use Rattle.run_job.specs.Commands.{AreGiven, Command, run_over}
+use Rattle.run_job.specs.Commands.{Command}
 use Rattle.run_job.specs.Ends.{Ran}
-use Rattle.determinate_jobs.specs.QuietRuns.{AllGoOn, GoesOn, TellsQuietRuns, actors_of}
+use Rattle.determinate_jobs.specs.QuietRuns.{GoesOn, TellsQuietRuns, actors_of}
 use Rattle.determinate_jobs.proofs.Bared.{bytes_grow, each_other, quiet_alike, sent_alike, settled_alike}
 use Rattle.determinate_jobs.proofs.Ended.{ends_between, ends_quiet, ends_trapped}
 use Rattle.determinate_jobs.proofs.Judged.{all_counted, counted_all, leaves_certified, leaves_many}

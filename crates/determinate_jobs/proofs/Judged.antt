@@ -1,14 +1,13 @@
 -- Which actors are certified: as many as there are, or not each; and the networks of those that are.
-use Rattle.std.proofs.Common.{◌≡◌, ◌≢◌, ℕ, zero, suc, ◌+◌, ◌≤◌, List, [], ◌∷◌, length, map, refl, sym, ap, ◌∙◌, subst, arith}
-use Rattle.std.specs.Prelude.{◌↔◌, Option, None, Some, slice_get}
+use Rattle.std.proofs.Common.{◌≡◌, ℕ, zero, suc, ◌+◌, ◌≤◌, List, [], ◌∷◌, length, refl, sym, ap, ◌∙◌, subst, arith}
+use Rattle.std.specs.Prelude.{Option, None, Some, slice_get}
 use Rattle.cal_model.specs.Actor.{Actor}
 use Rattle.cal_model.specs.Certified.{IsCertified}
-use Rattle.cal_model.specs.Firing.{behaviour}
 use Rattle.cal_model.specs.Selection.{Priorities, State}
 use Rattle.cal_model.specs.Sound.{Each, IsSound}
-use Rattle.net_model.specs.Network.{Leaf, Network}
-use Rattle.determinacy_cert.specs.Certifying.{AreCertified, IsOfCertified, NoFailureWhereCertified}
-use Rattle.determinacy_cert.specs.Failing.{failures, first}
+use Rattle.net_model.specs.Network.{Leaf}
+use Rattle.determinacy_cert.specs.Certifying.{IsOfCertified, NoFailureWhereCertified}
+use Rattle.determinacy_cert.specs.Failing.{first}
 use Rattle.determinacy_cert.specs.declared.fault.CertFault.{CertFault}
 use Rattle.determinacy_cert.specs.declared.fault.CertFault.TheVariants.{Uncertified, Memory}
 use Rattle.fnl_tree.specs.Tree.{Leaf as TreeLeaf}

@@ -1,0 +1,6 @@
+mod Putting
+mod Leaves
+mod Deciding
+mod Ending
+mod OneActors
+mod Answering
