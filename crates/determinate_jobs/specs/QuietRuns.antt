@@ -7,7 +7,7 @@ use Rattle.trace_text.specs.declared.line.Line.{Line}
 use Rattle.trace_text.specs.declared.line.Line.TheVariants.{Quiet as QuietLine, Trap as TrapLine, Stall as StallLine, Budget as BudgetLine}
 use Rattle.cal_model.specs.Actor.{Actor}
 use Rattle.cal_model.specs.Certified.{IsCertified}
-use Rattle.cal_model.specs.Sound.{Each, IsSound}
+use Rattle.cal_model.specs.Sound.{Each}
 use Rattle.net_model.specs.declared.wiring.Counts.{Counts}
 use Rattle.net_model.specs.State.{State}
 use Rattle.net_model.specs.Event.{Event}
@@ -77,7 +77,7 @@ line_of (status.Uncertified inst state first second reason) = None
 -- A command that came to this status, with these lines in its report and speaking of this, tells what every quiet run gives.
 abbrev pub QuietRunsGoOn : Command → Status → (lines : List ℕ) → About → Type 0
 QuietRunsGoOn cmd said lines about = (end : Line) → line_of said ≡ Some end → (counts : Counts)
-    (ran : Ran cmd end counts lines about) → Each IsSound (actors_of ran) → TellsQuietRuns ran
+    (ran : Ran cmd end counts lines about) → TellsQuietRuns ran
 
 -- .. whatever it is
 abbrev pub RunsTellQuietRuns : Type 0

@@ -184,6 +184,7 @@ module _ (job : Job) (library : loading.Library) (misses faults : loading.Counts
     leaves = λ inputs given. ended (run_over cmd net inputs) between new only line counts (leaves inputs given);
     within = within;
     touches = touches;
+    sound = has.sound;
     certified = count_none image.uncertified.items;
     are_certified = certified;
     about_is = about_is;

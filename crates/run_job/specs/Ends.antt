@@ -10,6 +10,7 @@ use Rattle.rvc_words.specs.declared.job.Job.{Job}
 use Rattle.trace_text.specs.declared.line.Line.{Line}
 use Rattle.trace_text.specs.declared.line.Line.TheVariants.{Quiet as QuietLine, Trap as TrapLine, Stall as StallLine, Budget as BudgetLine}
 use Rattle.cal_model.specs.Selection.{State}
+use Rattle.cal_model.specs.Sound.{Each, IsSound}
 use Rattle.net_model.specs.declared.wiring.Counts.{Counts}
 use Rattle.net_model.specs.Network.{Network}
 use Rattle.actor_files.specs.Loading.{Library, TellsAll}
@@ -41,6 +42,7 @@ pub record Ran (cmd : Command) (end : Line) (counts : Counts) (lines : List ℕ)
       → HasEnded (run_over cmd net inputs) end counts cmd.channels_after
   pub within : counts.firings ≤ cmd.job.budget
   pub touches : TouchesOnly cmd net
+  pub sound : Each IsSound is_to_run.files.means.actors
   pub certified : ℕ
   pub are_certified : AreCertified is_to_run.files.means.actors certified
   pub about_is : about ≡ about_net cmd is_to_run.files.names net
