@@ -3,7 +3,7 @@
 use Rattle.std.specs.Prelude.{◌≡◌, ◌⊎◌, ℕ, true, List, [], ◌∷◌, is_some, map}
 use Rattle.rvc_base.specs.declared.refusal.Front.{Front}
 use Rattle.rvc_base.specs.declared.refusal.Front.TheVariants as front
-use Rattle.actor_files.specs.Loading.{Library}
+use Rattle.actor_files.specs.Loading.{Counts, Library}
 use Rattle.actor_files.specs.declared.fault.LoadFault.{LoadFault}
 use Rattle.actor_files.specs.declared.fault.LoadFault.TheVariants as load
 use Rattle.cal_imports.specs.Sources.{source_named}
@@ -19,7 +19,7 @@ use Rattle.leaf_actors.specs.declared.found.LeafActors.{LeafActors}
 use Rattle.source_network.specs.Actors.{head_of}
 use Rattle.source_network.specs.Files.{Asked, Read, class_asked, files_of}
 use Rattle.source_network.specs.Source.{Files, IsTree}
-use Rattle.rvc_engine.specs.Checked.{AreRead, HasSource, StandAtLeaves}
+use Rattle.rvc_engine.specs.Checked.{AreRead, CountsMisses, HasSource, StandAtLeaves}
 use Rattle.rvc_engine.specs.Refused.{AreLeavesIn, Breaks}
 use Rattle.rvc_engine.specs.declared.checked.Checked.{Checked}
 use Rattle.rvc_engine.specs.declared.held.Held.{Held}
@@ -86,8 +86,10 @@ IsWhy files class (front.Refused r) = Breaks files class r
 IsWhy files class front.Memory = Unit {0}
 
 -- files were read, with what was checked of them
-pub record IsHeld (library : Library) (top : Asked) (names : List (List ℕ)) (held : Held) : Type 0 where
+pub record IsHeld (library : Library) (top : Asked) (misses : Counts) (names : List (List ℕ)) (held : Held)
+    : Type 0 where
   pub reads : List Read
   pub are_read : AreRead library top names reads
   pub files_are : files_in held.files ≡ files_of reads
   pub source : HasSource (files_in held.files) (class_asked top) held.checked
+  pub missed : CountsMisses top misses held.checked.flat
