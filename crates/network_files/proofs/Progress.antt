@@ -108,11 +108,11 @@ module _ (library : Library) (top : Asked) (done : List Read) (names : List (Lis
     -- its file is read now
     module _ (found : List (List ℕ)) (new : State) (unread : has w known.networks known.sources ≡ false) (a : AddsRead (trial_of library w names) found known new) where
 
-      r : Read
+      abbrev r : Read
       r = record { class = w.class; text = a.text; content = a.adds.content }
 
-      asked : List Request
-      asked = requests_by (suc (length done)) r.content
+      abbrev asked_now : List Request
+      asked_now = requests_by (suc (length done)) r.content
 
       count : length names ≡ length done
       count = count_names done names is.names_are
@@ -148,7 +148,7 @@ module _ (library : Library) (top : Asked) (done : List Read) (names : List (Lis
         small = small_more;
       }
 
-      waiting_now : new.waiting ≡ rest ++ asked
+      waiting_now : new.waiting ≡ rest ++ asked_now
       waiting_now = a.adds.adds.waiting_are ∙ ap (λ ws. ws ++ requests_by (suc (length names)) r.content) kept.waiting
           ∙ ap (λ n. rest ++ requests_by (suc n) r.content) count
 
@@ -170,9 +170,9 @@ module _ (library : Library) (top : Asked) (done : List Read) (names : List (Lis
           small = subst (λ n. n ≤ max_bytes) (sym a.adds.adds.bytes_are) a.adds.small;
           looked_at = record {
             passed = is.looked_at.passed ++ q ∷ [];
-            splits = requests_more top done r ∙ ap (λ qs. qs ++ asked) split
-                ∙ append_assoc is.looked_at.passed (q ∷ rest) asked
-                ∙ sym (append_assoc is.looked_at.passed (q ∷ []) (rest ++ asked))
+            splits = requests_more top done r ∙ ap (λ qs. qs ++ asked_now) split
+                ∙ append_assoc is.looked_at.passed (q ∷ rest) asked_now
+                ∙ sym (append_assoc is.looked_at.passed (q ∷ []) (rest ++ asked_now))
                 ∙ ap (λ ws. (is.looked_at.passed ++ q ∷ []) ++ ws) (sym waiting_now);
             all_read = λ choice h. all_read_more choice done is.looked_at.passed q r (is.looked_at.all_read choice (before_more choice h))
                 (ap (λ v. v.class) (wanted_now choice h)) (kind ∙ ap (λ v. v.network) (wanted_now choice h));

@@ -10,7 +10,7 @@ use Rattle.rvc_io.specs.Count.{HasRisen}
 use Rattle.rvc_io.specs.Told.{Told, Untold, Lacking, Holding, IsLacking}
 use Rattle.cal_imports.specs.Sources.{Source, source_named}
 use Rattle.cal_imports.specs.View.{sources}
-use Rattle.cal_scope.specs.Names.{is_among, with_name}
+use Rattle.cal_scope.specs.Names.{is_among, with_name as with_class}
 use Rattle.actor_files.specs.FileText.{IsText}
 use Rattle.actor_files.specs.Loading.{Counts, Library, max_bytes, max_files}
 use Rattle.actor_files.specs.declared.fault.LoadFault.{LoadFault}
@@ -54,7 +54,7 @@ with_missed class s = record {
   networks = s.networks;
   sources = s.sources;
   bytes = s.bytes;
-  missed = with_name class s.missed;
+  missed = with_class class s.missed;
   waiting = s.waiting;
 }
 

@@ -19,7 +19,7 @@ returns-then-has-clause-halted g c =
     (file_names c.args.names.now) (file_names c.take_file.new.names) (state_of c.args.loading.now) (state_of c.args.loading.now)
     (means_missed c.args.class.now (sym c.has.ensures ∙ c.if-has.true)) c.take_file.ensures.held
 
-pub returns-else-has-then-has-clause-taken : goal.returns-else-has-then-has-clause-taken
-returns-else-has-then-has-clause-taken g c =
+pub returns-then-has-2-clause-taken : goal.returns-then-has-2-clause-taken
+returns-then-has-2-clause-taken g c =
     either_known (g.L.Library.file c.args.library.now) c.args.class.now c.args.missing _ (file_names c.args.names.now) (state_of c.args.loading.now)
-    (sym c.has.ensures ∙ c.if-has.false) (sym c.has-2.ensures ∙ c.if-has-2.true)
+    (sym c.has.ensures ∙ c.if-has.false) (sym c.has-else-has.ensures ∙ c.if-has-2.true)
