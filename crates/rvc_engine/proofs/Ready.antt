@@ -10,7 +10,6 @@ use Rattle.network_files.specs.declared.kind.FileKind.{FileKind}
 use Rattle.network_files.specs.declared.kind.FileKind.TheVariants as kinds
 use Rattle.source_network.specs.Files.{class_asked}
 use Rattle.source_network.specs.Source.{Files}
-use Rattle.rvc_engine.specs.Formed.{SpelledAreFormed}
 use Rattle.rvc_engine.specs.Steps.{AreReady}
 
 -- ---- the class that is asked for
@@ -28,12 +27,11 @@ has_class class kinds.Either files h = h
 
 -- ---- the whole
 
-pub ready : (library : Library) (class : List ℕ) (kind : FileKind) (misses : Counts) (files : Files) (names : List (List ℕ)) → NetworkFilesAreSpelled → SpelledAreFormed
+pub ready : (library : Library) (class : List ℕ) (kind : FileKind) (misses : Counts) (files : Files) (names : List (List ℕ)) → NetworkFilesAreSpelled
     → HasFile (asked_of class kind) files → HoldsLoaded library (asked_of class kind) misses files names → AreReady files class
-ready library class kind misses files told spelled formed has h = record {
+ready library class kind misses files told spelled has h = record {
   has_top = has_class class kind files has;
   spelled = sources_spelled;
-  formed = λ c scope is. formed files.sources c scope sources_spelled is;
 }
   where
     sources_spelled : AreSpelled files.sources

@@ -14,7 +14,7 @@ use Rattle.fnl_tree.specs.Sound.{IsSound as IsSoundTree}
 use Rattle.fnl_tree.specs.Tree.{Tree}
 use Rattle.network_files.specs.Views.{files_in}
 use Rattle.distinct_names.specs.Names.{AreSpelled}
-use Rattle.leaf_actors.specs.Leaves.{AreActorsOf, AreFormed, IsWithin, actors_at_leaves}
+use Rattle.leaf_actors.specs.Leaves.{AreActorsOf, IsWithin, actors_at_leaves}
 use Rattle.leaf_actors.specs.declared.found.LeafActors.{LeafActors}
 use Rattle.source_network.specs.Actors.{head_of}
 use Rattle.source_network.specs.Files.{Asked, Read, class_asked, files_of}
@@ -44,7 +44,6 @@ pub record AreReady (files : Files) (class : List ℕ) : Type 0 where
   pub has_top : (is_some (network_of class files.networks) ≡ true)
       ⊎ (is_some (source_named class files.sources) ≡ true)
   pub spelled : AreSpelled files.sources
-  pub formed : AreFormed files.sources
 
 -- ---- trees with their actors
 
@@ -54,7 +53,6 @@ pub record IsBare (files : Files) (class : List ℕ) (tree : Tree) : Type 0 wher
   pub sound_tree : IsSoundTree tree
   pub leaves : AreLeavesIn files class tree.leaves
   pub spelled : AreSpelled files.sources
-  pub formed : AreFormed files.sources
 
 -- there is one leaf, with its actor
 pub record HasOne (found : LeafActors) : Type 0 where

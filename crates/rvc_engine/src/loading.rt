@@ -10,7 +10,6 @@ ghost use Rattle.rvc_engine.specs.Top.{top_asked};
 use crate::checking::check_files;
 use crate::fault::{BuildFault, of_front, of_load};
 use crate::held::Held;
-use crate::laws::spelled_actors_are_formed;
 use crate::top::kind_of;
 use actor_files::{Names, class_of};
 use distinct_names::network_files_are_spelled;
@@ -66,7 +65,6 @@ fn held_of_class<L: Library>(
 {
     network_files_are_spelled();
     leaves_have_files();
-    spelled_actors_are_formed();
     match load_network(alloc, library, class, kind, names) {
         Ok(files) => match check_files(alloc, &files, class) {
             Ok(checked) => Ok(Held { files, checked }),

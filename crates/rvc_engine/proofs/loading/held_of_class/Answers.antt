@@ -7,7 +7,7 @@ use Rattle.rvc_engine.proofs.loading.held_of_class.Goals as goal
 pub check_files-requires : goal.check_files-requires
 check_files-requires g c =
     ready (g.L.Library.file c.args.library.now) c.args.class.now c.args.kind _ (files_in c.in-Ok.files) (file_names c.load_network.new.names)
-    c.network_files_are_spelled.ensures.spelled c.spelled_actors_are_formed.ensures c.in-Ok.ensures.has_top c.in-Ok.ensures.loaded
+    c.network_files_are_spelled.ensures.spelled c.in-Ok.ensures.has_top c.in-Ok.ensures.loaded
 
 pub returns-in-Err-check_files-clause-fault : goal.returns-in-Err-check_files-clause-fault
 returns-in-Err-check_files-clause-fault g c =
