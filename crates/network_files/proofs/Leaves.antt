@@ -94,7 +94,6 @@ all_rest Q (x ∷ xs) ys h = all_rest Q xs ys h.1
 
 -- what is said of each thing that is asked for covers the instances of all networks
 module _ (P : List ℕ → Type 0) (Q : Asked → Type 0) (nets : List Entry) (covers : (i : Instance) → Q (asked_by_instance i) → IsCovered P nets i) where
-
   covers_net : (is : List Instance) → AllByRecursion Q (map asked_by_instance is) → All (IsCovered P nets) is
   covers_net [] h = All-nil (IsCovered P nets)
   covers_net (i ∷ is) h = All-cons (IsCovered P nets) i is (covers i h.0) (covers_net is h.1)

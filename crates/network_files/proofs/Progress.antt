@@ -12,7 +12,7 @@ use Rattle.source_network.proofs.Choices.{choice_fits}
 use Rattle.source_network.specs.Files.{AreLoaded, AreReadBehind, Asked, Choice, Fits, IsNextRead, Read, Wanted, asked_by_all, bytes_of, is_network, is_read, name_of, network_file, networks_from, networks_in, next_wanted, sources_from, sources_in, wanted}
 use Rattle.network_files.specs.Loading.{ComesTo, IsFaulted, IsRefused, LooksUp, Refuses, is_missing, is_there, looks_up_file, looks_up_network}
 use Rattle.network_files.specs.Requests.{AreTried, Request, names_of, requests, requests_by}
-use Rattle.network_files.specs.SoFar.{AddsRead, Agrees, Denies, Fails, HasRead, IsBegun, IsDenied, IsSoFar, Means, State, Tries, denied_file, denied_missing, has, tries_file, tries_network, trial_of}
+use Rattle.network_files.specs.SoFar.{AddsRead, Agrees, Fails, HasRead, IsBegun, IsDenied, IsSoFar, Means, State, Tries, denied_file, denied_missing, has, tries_file, tries_network, trial_of}
 use Rattle.network_files.proofs.Known.{AreLacking, AreNetworks, AreThere, Keeps, agrees_before, agrees_fewer, as_found, chosen, chosen_agrees, found_agrees, found_missed, lacking_known, means_keeps, network_there, of_kind, says_kind, wanted_chosen, wanted_read}
 use Rattle.network_files.proofs.Lists.{all_read_join, all_read_more, bytes_more, count_names, first_none, first_past, length_more, names_more, networks_more, next_is, read_there, requests_more, same_has, sources_more}
 use Rattle.network_files.proofs.Served.{all_tried}
@@ -58,7 +58,6 @@ none_missed (m ∷ missed) e class h = cc
 
 module _ (library : Library) (top : Asked) (done : List Read) (names : List (List ℕ)) (s : State) (q : Request) (rest : List Request)
     (is : IsSoFar library top done names s) (waits : s.waiting ≡ q ∷ rest) where
-
   split : requests top done ≡ is.looked_at.passed ++ q ∷ rest
   split = split_on top done is.looked_at.passed s.waiting rest q is.looked_at.splits waits
 
@@ -75,7 +74,6 @@ module _ (library : Library) (top : Asked) (done : List Read) (names : List (Lis
   }
 
   module _ (misses : Counts) (w : Wanted) (known : State) (means : Means library misses (behind s rest) q.asked w known) where
-
     kept : Keeps (behind s rest) known
     kept = means_keeps library misses (behind s rest) known q.asked w means
 
@@ -107,7 +105,6 @@ module _ (library : Library) (top : Asked) (done : List Read) (names : List (Lis
 
     -- its file is read now
     module _ (found : List (List ℕ)) (new : State) (unread : has w known.networks known.sources ≡ false) (a : AddsRead (trial_of library w names) found known new) where
-
       abbrev r : Read
       r = record { class = w.class; text = a.text; content = a.adds.content }
 
@@ -266,7 +263,6 @@ begun library top s h = record {
 }
 
 module _ (library : Library) (top : Asked) (done : List Read) (names : List (List ℕ)) (s : State) (is : IsSoFar library top done names s) (waits : s.waiting ≡ []) where
-
   none_next : (choice : Choice) → Agrees choice s.missed done → next_wanted choice top done ≡ None
   none_next choice h =
       next_is choice top done is.looked_at.passed (is.looked_at.splits ∙ ap (λ ws. is.looked_at.passed ++ ws) waits ∙ append-nil is.looked_at.passed)

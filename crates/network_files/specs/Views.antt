@@ -1,6 +1,6 @@
 -- What loading gives, without where it lies in memory.
 -- Trusted: part of what a promise means.
-use Rattle.std.specs.Prelude.{◌≡◌, ◌⊎◌, ℕ, true, List, [], ◌∷◌, is_some}
+use Rattle.std.specs.Prelude.{◌≡◌, ◌⊎◌, ℕ, true, List, ◌∷◌, is_some}
 use Rattle.rvc_io.specs.Count.{HasRisen}
 use Rattle.cal_imports.specs.Sources.{source_named}
 use Rattle.cal_imports.specs.View.{sources}

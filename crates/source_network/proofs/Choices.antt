@@ -1,5 +1,5 @@
 -- Choices of networks that fit what a library tells.
-use Rattle.std.proofs.Common.{◌≡◌, ℕ, Bool, true, false, List, refl, sym, ◌∙◌}
+use Rattle.std.proofs.Common.{◌≡◌, Bool, true, false, refl, sym, ◌∙◌}
 use Rattle.rvc_io.specs.Told.{Told, Untold, Lacking, Holding}
 use Rattle.actor_files.specs.Loading.{Library, TellsAll}
 use Rattle.source_network.specs.Files.{Choice, Fits, FitsTold, network_file}
