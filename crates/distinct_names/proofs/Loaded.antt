@@ -45,12 +45,12 @@ said_itself : (text : List ℕ) (wanted : Bool) (content : Content) → Says tex
 said_itself text _ _ (says_network h) = says_network h
 said_itself text _ _ (says_source h) = says_source h
 
-are_said : (library : Library) (top : Asked) (before rs : List network.Read) → network.AreReadBehind library top before rs → AreSaid rs
-are_said library top before [] h = tt
-are_said library top before (r ∷ rs) h = (said_itself r.text h.0.want.network r.content h.0.says, are_said library top (before ++ r ∷ []) rs h.1)
+are_said : (library : Library) (choice : network.Choice) (top : Asked) (before rs : List network.Read) → network.AreReadBehind library choice top before rs → AreSaid rs
+are_said library choice top before [] h = tt
+are_said library choice top before (r ∷ rs) h = (said_itself r.text h.0.want.network r.content h.0.says, are_said library choice top (before ++ r ∷ []) rs h.1)
 
 pub network_files_are_spelled : NetworkFilesAreSpelled
-network_files_are_spelled library top reads h = said_files_are_spelled reads (are_said library top [] reads h.are_read)
+network_files_are_spelled library top reads h = said_files_are_spelled reads (are_said library h.choice top [] reads h.are_read)
 
 pub network_names_differ : NamesDiffer → NetworkNamesDiffer
-network_names_differ differ library top reads class scope loaded h = said_names_differ differ reads class scope (are_said library top [] reads loaded.are_read) h
+network_names_differ differ library top reads class scope loaded h = said_names_differ differ reads class scope (are_said library loaded.choice top [] reads loaded.are_read) h

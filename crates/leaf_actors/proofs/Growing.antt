@@ -10,7 +10,9 @@ use Rattle.fnl_tree.specs.Tree.{Leaf}
 use Rattle.source_network.specs.Actors.{IsActorOf, given_of, owner_of, source_of}
 use Rattle.leaf_actors.specs.Alike.{AreAlike}
 use Rattle.leaf_actors.specs.Finding.{IsFound}
-use Rattle.leaf_actors.specs.Leaves.{AreActorsOf, AreFormed, HasActor, at_places, with_first}
+use Rattle.distinct_names.specs.Names.{AreSpelled}
+use Rattle.leaf_actors.specs.Formed.{SpelledAreFormed}
+use Rattle.leaf_actors.specs.Leaves.{AreActorsOf, HasActor, at_places, with_first}
 use Rattle.leaf_actors.specs.Steps.{AllStand, AreApart, IsSoFar, StandsAt}
 use Rattle.leaf_actors.proofs.LikeLeaves.{alike_are_one, alike_back, alike_itself, alike_on}
 use Rattle.leaf_actors.proofs.Lists.{contains_last, each_at, earlier_or_last, get_last, longer, some_same, split, still, within}
@@ -175,15 +177,15 @@ shared firsts done places j k leaf other apart h one two alike =
     let same : a.place ≡ b.place = apart a.place b.place a.at.0 b.at.0 a.at.1 b.at.1 firsts_alike in
     a.there ∙ ap Some same ∙ sym b.there
 
--- actors of scopes that are formed are sound
-pub all_sound : SourcesAreSound → (files : List Source) (firsts : List Leaf) (actors : List Actor) → AreFormed files → AreActorsOf files firsts actors → Each IsSound actors
-all_sound law files [] [] formed h = tt
-all_sound law files (l ∷ firsts) (a ∷ actors) formed h = (
-  law (source_of h.0.scope) (map given_of l.bindings) (owner_of l) a (formed l.class h.0.scope h.0.is_scope) h.0.is_source,
-  all_sound law files firsts actors formed h.1,
+-- actors of files that texts spell are sound
+pub all_sound : SourcesAreSound → SpelledAreFormed → (files : List Source) (firsts : List Leaf) (actors : List Actor) → AreSpelled files → AreActorsOf files firsts actors → Each IsSound actors
+all_sound law forms files [] [] spelled h = tt
+all_sound law forms files (l ∷ firsts) (a ∷ actors) spelled h = (
+  law (source_of h.0.scope) (map given_of l.bindings) (owner_of l) a (forms files l.class h.0.scope spelled h.0.is_scope) h.0.is_source,
+  all_sound law forms files firsts actors spelled h.1,
 )
-all_sound law files [] (a ∷ actors) formed h = absurd h
-all_sound law files (l ∷ firsts) [] formed h = absurd h
+all_sound law forms files [] (a ∷ actors) spelled h = absurd h
+all_sound law forms files (l ∷ firsts) [] spelled h = absurd h
 
 -- one of some leaves that are actors is one
 pub one_has : (files : List Source) (before : List Leaf) (leaf : Leaf) (behind : List Leaf) → Each (HasActor files) (before ++ leaf ∷ behind) → HasActor files leaf

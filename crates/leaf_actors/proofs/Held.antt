@@ -16,7 +16,9 @@ use Rattle.fnl_tree.specs.Tree.{Leaf}
 use Rattle.net_model.specs.Limits.{max_instances}
 use Rattle.source_network.specs.Actors.{IsActorOf}
 use Rattle.leaf_actors.specs.Finding.{IsFound, IsIndex, Linked, all_linked, leaves_of, linked_of, number_of, with_number}
-use Rattle.leaf_actors.specs.Leaves.{AreActorsOf, AreFormed, HasActor, HasSoundActors, IsFault, StandsOnce, at_places, distinct_actors}
+use Rattle.distinct_names.specs.Names.{AreSpelled}
+use Rattle.leaf_actors.specs.Formed.{SpelledAreFormed}
+use Rattle.leaf_actors.specs.Leaves.{AreActorsOf, HasActor, HasSoundActors, IsFault, StandsOnce, at_places, distinct_actors}
 use Rattle.leaf_actors.specs.Steps.{AddsLeaf, IsAdded, IsIndexed, IsKnown, IsRefusedAt, IsRepeated, IsSoFar, Keeps, Repeats, firsts_of}
 use Rattle.leaf_actors.specs.declared.found.LeafActors.{LeafActors}
 use Rattle.leaf_actors.specs.declared.known.Known.{Known}
@@ -170,12 +172,12 @@ found_once files leaves known found actors places going =
           subst (λ ps. Contains ps.items p) (sym places) (so_far.used p (subst (λ n. p < n) (sym count) below));
     }
 
-pub found_sound : SourcesAreSound → (files : List Source) (leaves : List Leaf) (known : Known) (found : LeafActors) → found.actors ≡ known.actors
-    → IsGoing files [] leaves known → AreFormed files → HasSoundActors found
-found_sound law files leaves known found actors going formed =
+pub found_sound : SourcesAreSound → SpelledAreFormed → (files : List Source) (leaves : List Leaf) (known : Known) (found : LeafActors) → found.actors ≡ known.actors
+    → IsGoing files [] leaves known → AreSpelled files → HasSoundActors found
+found_sound law forms files leaves known found actors going spelled =
     let sound : Each IsSound (distinct_actors found) =
     subst (λ bs. Each IsSound (map actor_of bs.items)) (sym actors)
-    (all_sound law files (firsts_of known) (map actor_of known.actors.items) formed going.so_far.are) in
+    (all_sound law forms files (firsts_of known) (map actor_of known.actors.items) spelled going.so_far.are) in
     record { each = sound; at_leaves = places_sound (distinct_actors found) found.of_leaf.items sound }
 
 abbrev front_or : {A : Type 0} → Front → Result A Front → Front

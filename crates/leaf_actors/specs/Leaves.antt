@@ -9,7 +9,6 @@ use Rattle.rvc_base.specs.declared.refusal.Refusal.{Refusal}
 use Rattle.cal_model.specs.Actor.{Actor}
 use Rattle.cal_model.specs.Sound.{Each, IsSound}
 use Rattle.cal_model.specs.View.{actor_of}
-use Rattle.cal_check.specs.Sources.{IsSourceFormed}
 use Rattle.cal_imports.specs.Answer.{Gives, Refuses}
 use Rattle.cal_imports.specs.Resolved.{resolved}
 use Rattle.cal_imports.specs.Sources.{Source}
@@ -60,13 +59,6 @@ pub record StandsOnce (leaves : List Leaf) (found : LeafActors) : Type 0 where
 pub record HasSoundActors (found : LeafActors) : Type 0 where
   pub each : Each IsSound (distinct_actors found)
   pub at_leaves : Each IsSound (actors_at_leaves found)
-
--- ---- what is known of the files
-
--- each scope that these files give is as the grammar and the scopes leave it
-abbrev pub AreFormed : List Source → Type 0
-AreFormed files = (class : List ℕ) (scope : Scope) → resolved files class ≡ Gives scope
-    → IsSourceFormed (source_of scope)
 
 -- ---- what refuses a leaf
 

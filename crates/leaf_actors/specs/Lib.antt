@@ -1,3 +1,4 @@
+pub mod Formed
 pub mod Alike
 pub mod Leaves
 pub mod Laws

@@ -1,8 +1,12 @@
 //! What holds of the actors at leaves.
 
+ghost use Rattle.leaf_actors.specs.Formed.{SpelledAreFormed};
 ghost use Rattle.leaf_actors.specs.Laws.{ActorsAreLeaves, AlikeAreOne};
 
 use cal_model::sound_actors_have_priorities;
+use distinct_names::names_differ;
+use formed_sources::{calls_end, parts_are_formed};
+use scoped_sources::{actions_are_scoped, funs_are_scoped, procs_are_scoped};
 
 /// Leaves of one class that give equal values to the same parameters are one actor, wherever they stand.
 pub fn alike_leaves_are_one_actor()
@@ -14,4 +18,17 @@ pub fn actors_are_leaves_of_a_network()
     ensures { ActorsAreLeaves }
 {
     sound_actors_have_priorities();
+}
+
+/// The actor of a class, with what its imports lead to, is as the grammar and the scopes leave it, if its files are what
+/// texts spell. So it is sound if it breaks no rule.
+pub fn spelled_actors_are_formed()
+    ensures { SpelledAreFormed }
+{
+    names_differ();
+    parts_are_formed();
+    calls_end();
+    funs_are_scoped();
+    procs_are_scoped();
+    actions_are_scoped();
 }

@@ -23,6 +23,8 @@ mod values;
 mod whole;
 
 pub use found::LeafActors;
-pub use laws::{actors_are_leaves_of_a_network, alike_leaves_are_one_actor};
+pub use laws::{
+    actors_are_leaves_of_a_network, alike_leaves_are_one_actor, spelled_actors_are_formed,
+};
 pub use ports::heads;
 pub use whole::check_leaves;

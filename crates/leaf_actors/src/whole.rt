@@ -5,10 +5,11 @@ ghost use Rattle.cal_imports.specs.View.{sources};
 ghost use Rattle.fnl_tree.specs.View.{leaf_of};
 ghost use Rattle.net_model.specs.Limits.{max_instances};
 ghost use Rattle.distinct_names.specs.Names.{AreSpelled};
-ghost use Rattle.leaf_actors.specs.Leaves.{AreActorsOf, AreFormed, HasSoundActors, IsComplete, IsFault, IsWithin, StandsOnce, actors_at_leaves};
+ghost use Rattle.leaf_actors.specs.Leaves.{AreActorsOf, HasSoundActors, IsComplete, IsFault, IsWithin, StandsOnce, actors_at_leaves};
 
 use crate::found::LeafActors;
 use crate::known::Known;
+use crate::laws::spelled_actors_are_formed;
 use cal_check::sources_without_violations_are_sound;
 use cal_imports::FileSet;
 use distinct_names::names_differ;
@@ -22,7 +23,7 @@ use std::alloc::Global;
 /// binding gives, so they are few.
 ///
 /// Leaves of one class that give the same parameters equal values, in one order, have one actor, which is checked once
-/// (`once`). All actors are sound if the scopes of these files are as the grammar and the scopes leave them (`sound`).
+/// (`once`). All actors are sound (`sound`).
 ///
 /// # Errors
 ///
@@ -35,14 +36,14 @@ pub fn check_leaves(alloc: Global, files: &FileSet, leaves: &[Leaf]) -> Result<L
         (λ found. AreActorsOf (sources files.now) (map leaf_of leaves.now) (actors_at_leaves found)) }
     ensures within { IfOk result IsWithin }
     ensures once { IfOk result (StandsOnce (map leaf_of leaves.now)) }
-    ensures sound { IfOk result
-        (λ found. AreFormed (sources files.now) → HasSoundActors found) }
+    ensures sound { IfOk result HasSoundActors }
 
     // Why there are none.
     ensures refused { IfErr result (IsFault (sources files.now) (map leaf_of leaves.now)) }
     ensures complete { IsComplete result (sources files.now) (map leaf_of leaves.now) }
 {
     names_differ();
+    spelled_actors_are_formed();
     sources_without_violations_are_sound();
     let mut known = Known::new(alloc);
     let mut rest = leaves;

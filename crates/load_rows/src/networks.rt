@@ -20,13 +20,15 @@ const MIXED: &str =
 
 const INNER: &str = "<XDF name='M'><Instance id='a'><Class name='A'/></Instance></XDF>";
 
+const INNER_MIXED: &str = "<XDF name='M'><Instance id='n'><Class name='q.N'/></Instance></XDF>";
+
 const LOADED: &[Row] = &[
-    // A class that is met again isn't read again.
+    // A class that is met again isn't read again, nor is its network looked up again.
     (
         "Top",
         FileKind::Network,
         &[("Top.xdf", TWICE), ("A.cal", "actor A () ==> : end")],
-        "Top.xdf A.xdf A.cal A.xdf | loaded | Top.xdf A.cal",
+        "Top.xdf A.xdf A.cal | loaded | Top.xdf A.cal",
     ),
     // File by file, in the order of their texts.
     (
@@ -52,6 +54,19 @@ const LOADED: &[Row] = &[
             ("p/M.xdf", "<XDF name='M'/>"),
         ],
         "Top.xdf p/M.xdf B.xdf B.cal p/M.cal | loaded | Top.xdf p/M.xdf B.cal p/M.cal",
+    ),
+    // Of the class of an instance that was imported before, the network is still looked up.
+    (
+        "Top",
+        FileKind::Network,
+        &[
+            ("B.cal", "import A.x; actor B () ==> : end"),
+            ("A.cal", "unit A : end"),
+            ("Top.xdf", MIXED),
+            ("p/M.xdf", INNER_MIXED),
+            ("q/N.xdf", INNER),
+        ],
+        "Top.xdf p/M.xdf B.xdf B.cal q/N.xdf A.cal A.xdf | loaded | Top.xdf p/M.xdf B.cal q/N.xdf A.cal",
     ),
     // An actor as the top, beside a network of its class.
     (

@@ -1,5 +1,6 @@
 mod Broken
 mod Lists
+mod Missed
 mod Known
 mod Served
 mod Leaves

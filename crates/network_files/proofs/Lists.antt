@@ -8,10 +8,9 @@ use Rattle.cal_imports.specs.Sources.{Source, imports_of, source_named}
 use Rattle.cal_imports.specs.View.{new_source}
 use Rattle.cal_imports.specs.Walk.{Edge}
 use Rattle.cal_imports.specs.Whole.{import_edges}
-use Rattle.actor_files.specs.Loading.{Library}
 use Rattle.fnl_read.specs.Net.{Instance}
 use Rattle.fnl_bind.specs.Library.{Entry, network_of}
-use Rattle.source_network.specs.Files.{Asked, Content, network, source, Read, Wanted, asked_by, asked_by_all, asked_by_import, asked_by_instance, bytes_of, first_unread, is_network, is_read, is_same_kind, networks_from, networks_in, next_wanted, sources_from, sources_in, wanted}
+use Rattle.source_network.specs.Files.{Asked, Choice, Content, network, source, Read, Wanted, asked_by, asked_by_all, asked_by_import, asked_by_instance, bytes_of, first_unread, is_network, is_read, is_same_kind, networks_from, networks_in, next_wanted, sources_from, sources_in, wanted}
 use Rattle.network_files.specs.Requests.{AreAllRead, Request, import_request, instance_request, names_of, read_name, requests, requests_by, requests_from, top_request}
 use Rattle.network_files.specs.SoFar.{has}
 
@@ -168,19 +167,19 @@ read_there w (x ∷ done) r c k = go (bytes_eq w.class x.class && is_same_kind w
     go true h = refl
     go false h = h
 
-pub all_read_stays : (library : Library) (done later : List Read) (qs : List Request) → AreAllRead library done qs → AreAllRead library (done ++ later) qs
-all_read_stays library done later [] h = tt
-all_read_stays library done later (q ∷ qs) h = (read_stays (wanted library q.asked) done later h.0, all_read_stays library done later qs h.1)
+pub all_read_stays : (choice : Choice) (done later : List Read) (qs : List Request) → AreAllRead choice done qs → AreAllRead choice (done ++ later) qs
+all_read_stays choice done later [] h = tt
+all_read_stays choice done later (q ∷ qs) h = (read_stays (wanted choice q.asked) done later h.0, all_read_stays choice done later qs h.1)
 
-pub all_read_join : (library : Library) (done : List Read) (qs : List Request) (q : Request) → AreAllRead library done qs
-    → is_read (wanted library q.asked) done ≡ true → AreAllRead library done (qs ++ q ∷ [])
-all_read_join library done [] q h k = (k, tt)
-all_read_join library done (p ∷ qs) q h k = (h.0, all_read_join library done qs q h.1 k)
+pub all_read_join : (choice : Choice) (done : List Read) (qs : List Request) (q : Request) → AreAllRead choice done qs
+    → is_read (wanted choice q.asked) done ≡ true → AreAllRead choice done (qs ++ q ∷ [])
+all_read_join choice done [] q h k = (k, tt)
+all_read_join choice done (p ∷ qs) q h k = (h.0, all_read_join choice done qs q h.1 k)
 
-pub all_read_more : (library : Library) (done : List Read) (qs : List Request) (q : Request) (r : Read) → AreAllRead library done qs
-    → r.class ≡ (wanted library q.asked).class → is_network r.content ≡ (wanted library q.asked).network → AreAllRead library (done ++ r ∷ []) (qs ++ q ∷ [])
-all_read_more library done qs q r h c k =
-    all_read_join library (done ++ r ∷ []) qs q (all_read_stays library done (r ∷ []) qs h) (read_there (wanted library q.asked) done r c k)
+pub all_read_more : (choice : Choice) (done : List Read) (qs : List Request) (q : Request) (r : Read) → AreAllRead choice done qs
+    → r.class ≡ (wanted choice q.asked).class → is_network r.content ≡ (wanted choice q.asked).network → AreAllRead choice (done ++ r ∷ []) (qs ++ q ∷ [])
+all_read_more choice done qs q r h c k =
+    all_read_join choice (done ++ r ∷ []) qs q (all_read_stays choice done (r ∷ []) qs h) (read_there (wanted choice q.asked) done r c k)
 
 -- ---- what is asked for
 
@@ -203,20 +202,20 @@ same_asked n (r ∷ rs) =
     ∙ ap (λ xs. xs ++ map (λ q. q.asked) (requests_from (suc n) rs)) (same_asked_by n r.content)
     ∙ ap (λ xs. asked_by r.content ++ xs) (same_asked (suc n) rs)
 
-pub next_is : (library : Library) (top : Asked) (rs : List Read) (qs : List Request) → requests top rs ≡ qs
-    → next_wanted library top rs ≡ first_unread library rs (map (λ q. q.asked) qs)
-next_is library top rs qs e =
-    ap (λ zs. first_unread library rs (top ∷ zs)) (sym (same_asked 1 rs))
-    ∙ ap (λ zs. first_unread library rs (map (λ q. q.asked) zs)) e
+pub next_is : (choice : Choice) (top : Asked) (rs : List Read) (qs : List Request) → requests top rs ≡ qs
+    → next_wanted choice top rs ≡ first_unread choice rs (map (λ q. q.asked) qs)
+next_is choice top rs qs e =
+    ap (λ zs. first_unread choice rs (top ∷ zs)) (sym (same_asked 1 rs))
+    ∙ ap (λ zs. first_unread choice rs (map (λ q. q.asked) zs)) e
 
-pub first_past : (library : Library) (rs : List Read) (before after : List Request) (q : Request) → AreAllRead library rs before
-    → is_read (wanted library q.asked) rs ≡ false → first_unread library rs (map (λ p. p.asked) (before ++ q ∷ after)) ≡ Some (wanted library q.asked)
-first_past library rs [] after q h unread = ap (λ b. if b then first_unread library rs (map (λ p. p.asked) after) else Some (wanted library q.asked)) unread
-first_past library rs (p ∷ before) after q h unread =
-    ap (λ b. if b then first_unread library rs (map (λ x. x.asked) (before ++ q ∷ after)) else Some (wanted library p.asked)) h.0
-    ∙ first_past library rs before after q h.1 unread
+pub first_past : (choice : Choice) (rs : List Read) (before after : List Request) (q : Request) → AreAllRead choice rs before
+    → is_read (wanted choice q.asked) rs ≡ false → first_unread choice rs (map (λ p. p.asked) (before ++ q ∷ after)) ≡ Some (wanted choice q.asked)
+first_past choice rs [] after q h unread = ap (λ b. if b then first_unread choice rs (map (λ p. p.asked) after) else Some (wanted choice q.asked)) unread
+first_past choice rs (p ∷ before) after q h unread =
+    ap (λ b. if b then first_unread choice rs (map (λ x. x.asked) (before ++ q ∷ after)) else Some (wanted choice p.asked)) h.0
+    ∙ first_past choice rs before after q h.1 unread
 
-pub first_none : (library : Library) (rs : List Read) (qs : List Request) → AreAllRead library rs qs → first_unread library rs (map (λ q. q.asked) qs) ≡ None
-first_none library rs [] h = refl
-first_none library rs (q ∷ qs) h =
-    ap (λ b. if b then first_unread library rs (map (λ x. x.asked) qs) else Some (wanted library q.asked)) h.0 ∙ first_none library rs qs h.1
+pub first_none : (choice : Choice) (rs : List Read) (qs : List Request) → AreAllRead choice rs qs → first_unread choice rs (map (λ q. q.asked) qs) ≡ None
+first_none choice rs [] h = refl
+first_none choice rs (q ∷ qs) h =
+    ap (λ b. if b then first_unread choice rs (map (λ x. x.asked) qs) else Some (wanted choice q.asked)) h.0 ∙ first_none choice rs qs h.1

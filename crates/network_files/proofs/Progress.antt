@@ -1,243 +1,286 @@
 -- A loading goes on, and how it ends.
-use Rattle.std.proofs.Common.{◌≡◌, ℕ, suc, ◌+◌, ◌≤◌, Bool, true, false, inl, inr, List, [], ◌∷◌, ◌++◌, length, refl, sym, ap, subst, ◌∙◌, arith}
+use Rattle.std.proofs.Common.{◌≡◌, ℕ, suc, ◌+◌, ◌≤◌, Bool, true, false, List, [], ◌∷◌, ◌++◌, length, refl, sym, ap, subst, ◌∙◌, arith}
 use Rattle.std.proofs.lemmas.List.{append_assoc, append-nil}
-use Rattle.std.specs.Prelude.{◌⊎◌, Some, is_some}
+use Rattle.std.specs.Prelude.{None, Some, is_some}
 use Rattle.rvc_base.specs.declared.refusal.Refusal.{Refusal}
-use Rattle.actor_files.specs.Loading.{Counts, Library, TellsAll, max_bytes, max_files}
-use Rattle.fnl_bind.specs.Library.{network_of}
-use Rattle.source_network.specs.Files.{AreLoaded, AreReadBehind, Asked, a_class, IsNextRead, Read, Says, Wanted, asked_by_all, bytes_of, is_network, is_read, name_of, network_file, networks_from, networks_in, sources_from, sources_in, wanted}
+use Rattle.rvc_io.specs.Count.{HasRisen}
+use Rattle.cal_scope.specs.Names.{is_among}
+use Rattle.actor_files.specs.Loading.{Counts, Library, max_bytes, max_files}
+use Rattle.cal_imports.specs.Sources.{Source}
+use Rattle.fnl_bind.specs.Library.{Entry, network_of}
+use Rattle.source_network.proofs.Choices.{choice_fits}
+use Rattle.source_network.specs.Files.{AreLoaded, AreReadBehind, Asked, Choice, Fits, IsNextRead, Read, Wanted, asked_by_all, bytes_of, is_network, is_read, name_of, network_file, networks_from, networks_in, next_wanted, sources_from, sources_in, wanted}
 use Rattle.network_files.specs.Loading.{ComesTo, IsFaulted, IsRefused, LooksUp, Refuses, is_missing, is_there, looks_up_file, looks_up_network}
-use Rattle.network_files.specs.Requests.{AreServed, Request, names_of, read_name, requests, requests_by}
-use Rattle.network_files.specs.SoFar.{AddsRead, Denies, Fails, HasRead, IsBegun, IsDenied, IsSoFar, Means, State, denied_file, denied_missing, has, trial_of}
-use Rattle.network_files.specs.Views.{AreSaid}
-use Rattle.network_files.proofs.Known.{means_wanted, network_held, says_kind}
+use Rattle.network_files.specs.Requests.{AreTried, Request, names_of, requests, requests_by}
+use Rattle.network_files.specs.SoFar.{AddsRead, Agrees, Fails, HasRead, IsBegun, IsDenied, IsSoFar, Means, State, Tries, denied_file, denied_missing, has, tries_file, tries_network, trial_of}
+use Rattle.network_files.proofs.Known.{AreLacking, AreNetworks, AreThere, Keeps, agrees_before, agrees_fewer, as_found, chosen, chosen_agrees, found_agrees, found_missed, lacking_known, means_keeps, network_there, of_kind, says_kind, wanted_chosen, wanted_read}
 use Rattle.network_files.proofs.Lists.{all_read_join, all_read_more, bytes_more, count_names, first_none, first_past, length_more, names_more, networks_more, next_is, read_there, requests_more, same_has, sources_more}
-use Rattle.network_files.proofs.Served.{all_served, all_served_join, all_served_stay, means_served}
+use Rattle.network_files.proofs.Served.{all_tried}
 
--- what is wanted for a request, where these files were read
-want_is : (library : Library) (top : Asked) (done : List Read) (s : State) (asked : Asked) (w : Wanted) → TellsAll library
-    → AreReadBehind library top [] done → s.networks ≡ networks_from 1 done → Means library s.networks asked w → w ≡ wanted library asked
-want_is library top done s asked w tells are e h =
-    means_wanted library s.networks asked w tells
-    (λ class k. network_held library top [] done class tells are
-    (sym (same_has (record { class = class; network = true }) done) ∙ subst (λ ns. is_some (network_of class ns) ≡ true) e k)) h
+-- a state without the first request that waits
+abbrev pub behind : State → List Request → State
+behind s rest = record { networks = s.networks; sources = s.sources; bytes = s.bytes; missed = s.missed; waiting = rest }
 
--- whether it was read
-has_is : (done : List Read) (s : State) (w : Wanted) (b : Bool) → s.networks ≡ networks_from 1 done → s.sources ≡ sources_from 1 done
-    → has w s.networks s.sources ≡ b → is_read w done ≡ b
-has_is done s w b e f h =
-    sym (same_has w done) ∙ subst (λ ss. has w (networks_from 1 done) ss ≡ b) f (subst (λ ns. has w ns s.sources ≡ b) e h)
+-- whether a file was read
+has_is : (done : List Read) (nets : List Entry) (files : List Source) (w : Wanted) (b : Bool) → nets ≡ networks_from 1 done → files ≡ sources_from 1 done
+    → has w nets files ≡ b → is_read w done ≡ b
+has_is done nets files w b e f h =
+    sym (same_has w done) ∙ subst (λ ss. has w (networks_from 1 done) ss ≡ b) f (subst (λ ns. has w ns files ≡ b) e h)
 
-are_read_more : (library : Library) (top : Asked) (before xs : List Read) (r : Read) → AreReadBehind library top before xs
-    → IsNextRead library top (before ++ xs) r → AreReadBehind library top before (xs ++ r ∷ [])
-are_read_more library top before [] r h is = (subst (λ b. IsNextRead library top b r) (append-nil before) is, tt)
-are_read_more library top before (x ∷ xs) r h is = (
+nets_are : (done : List Read) (s : State) → s.networks ≡ networks_from 1 done → AreNetworks s done
+nets_are done s e class b h =
+    sym (same_has (of_kind class true) done) ∙ subst (λ ns. is_some (network_of class ns) ≡ b) e h
+
+are_read_more : (library : Library) (choice : Choice) (top : Asked) (before xs : List Read) (r : Read) → AreReadBehind library choice top before xs
+    → IsNextRead library choice top (before ++ xs) r → AreReadBehind library choice top before (xs ++ r ∷ [])
+are_read_more library choice top before [] r h is = (subst (λ b. IsNextRead library choice top b r) (append-nil before) is, tt)
+are_read_more library choice top before (x ∷ xs) r h is = (
   h.0,
-  are_read_more library top (before ++ x ∷ []) xs r h.1
-      (subst (λ b. IsNextRead library top b r) (sym (append_assoc before (x ∷ []) xs)) is),
+  are_read_more library choice top (before ++ x ∷ []) xs r h.1
+      (subst (λ b. IsNextRead library choice top b r) (sym (append_assoc before (x ∷ []) xs)) is),
 )
-
-are_said_more : (reads : List Read) (r : Read) → AreSaid reads → Says r.text (is_network r.content) r.content → AreSaid (reads ++ r ∷ [])
-are_said_more [] r h is = (is, tt)
-are_said_more (x ∷ reads) r h is = (h.0, are_said_more reads r h.1 is)
 
 -- a request before those that wait
 split_on : (top : Asked) (done : List Read) (passed waiting rest : List Request) (q : Request) → requests top done ≡ passed ++ waiting → waiting ≡ q ∷ rest
     → requests top done ≡ passed ++ q ∷ rest
 split_on top done passed waiting rest q e f = e ∙ ap (λ ws. passed ++ ws) f
 
--- its file was read before
-pub so_far_passed : (library : Library) (top : Asked) (done : List Read) (names : List (List ℕ)) (s t : State) (q : Request) (rest : List Request) (w : Wanted)
-    → IsSoFar library top done names s → s.waiting ≡ q ∷ rest → t ≡ record { networks = s.networks; sources = s.sources; bytes = s.bytes; waiting = rest }
-    → Means library s.networks q.asked w → has w s.networks s.sources ≡ true → IsSoFar library top done names t
-so_far_passed library top done names s t q rest w is waits same means there =
-    subst (λ u. IsSoFar library top done names u) (sym same) (record {
-      are_read = is.are_read;
-      are_said = is.are_said;
-      networks_are = is.networks_are;
-      sources_are = is.sources_are;
+-- networks that were read are there
+nets_there : (library : Library) (top : Asked) (done : List Read) (names : List (List ℕ)) (s : State) → IsSoFar library top done names s → AreThere library done
+nets_there library top done names s is = λ class k.
+    network_there library (as_found s.missed) top [] done class (is.are_read (as_found s.missed) (found_agrees s.missed done)) k
+
+pub none_missed : (missed : List (List ℕ)) → missed ≡ [] → (class : List ℕ) → is_among class missed ≡ true → ⊥
+none_missed [] e class h = cc
+none_missed (m ∷ missed) e class h = cc
+
+-- ---- one request
+
+module _ (library : Library) (top : Asked) (done : List Read) (names : List (List ℕ)) (s : State) (q : Request) (rest : List Request)
+    (is : IsSoFar library top done names s) (waits : s.waiting ≡ q ∷ rest) where
+  split : requests top done ≡ is.looked_at.passed ++ q ∷ rest
+  split = split_on top done is.looked_at.passed s.waiting rest q is.looked_at.splits waits
+
+  nets : AreNetworks (behind s rest) done
+  nets = nets_are done (behind s rest) is.networks_are
+
+  comes_by : (choice : Choice) → Agrees choice s.missed done → ComesTo library choice top done q
+  comes_by choice h = record {
+    are_read = is.are_read choice h;
+    before = is.looked_at.passed;
+    after = rest;
+    splits = split;
+    all_read = is.looked_at.all_read choice h;
+  }
+
+  module _ (misses : Counts) (w : Wanted) (known : State) (means : Means library misses (behind s rest) q.asked w known) where
+    kept : Keeps (behind s rest) known
+    kept = means_keeps library misses (behind s rest) known q.asked w means
+
+    before : (choice : Choice) → Agrees choice known.missed done → Agrees choice s.missed done
+    before choice h = agrees_before library misses choice (behind s rest) known q.asked w done means nets h
+
+    read_is : (b : Bool) → has w known.networks known.sources ≡ b → is_read w done ≡ b
+    read_is b h = has_is done known.networks known.sources w b (kept.networks ∙ is.networks_are) (kept.sources ∙ is.sources_are) h
+
+    -- its file was read before
+    pub so_far_passed : has w known.networks known.sources ≡ true → IsSoFar library top done names known
+    so_far_passed there = record {
+      are_read = λ choice h. is.are_read choice (before choice h);
+      are_lacking = lacking_known library misses (behind s rest) known q.asked w means is.are_lacking;
+      networks_are = kept.networks ∙ is.networks_are;
+      sources_are = kept.sources ∙ is.sources_are;
       names_are = is.names_are;
-      bytes_are = is.bytes_are;
+      bytes_are = kept.bytes ∙ is.bytes_are;
       few = is.few;
-      small = is.small;
+      small = subst (λ n. n ≤ max_bytes) (sym kept.bytes) is.small;
       looked_at = record {
         passed = is.looked_at.passed ++ q ∷ [];
-        splits = split_on top done is.looked_at.passed s.waiting rest q is.looked_at.splits waits
-            ∙ sym (append_assoc is.looked_at.passed (q ∷ []) rest);
-        all_read = λ tells. all_read_join library done is.looked_at.passed q (is.looked_at.all_read tells)
-            (subst (λ v. is_read v done ≡ true) (want_is library top done s q.asked w tells (is.are_read tells) is.networks_are means)
-            (has_is done s w true is.networks_are is.sources_are there));
-        served = all_served_join done is.looked_at.passed q is.looked_at.served
-            (means_served library s.networks q.asked w done means (has_is done s w true is.networks_are is.sources_are there));
+        splits = split ∙ sym (append_assoc is.looked_at.passed (q ∷ []) rest) ∙ ap (λ ws. (is.looked_at.passed ++ q ∷ []) ++ ws) (sym kept.waiting);
+        all_read = λ choice h. all_read_join choice done is.looked_at.passed q (is.looked_at.all_read choice (before choice h))
+            (subst (λ v. is_read v done ≡ true)
+            (wanted_read library misses choice (behind s rest) known q.asked w known.missed done means refl (read_is true there) h) (read_is true there));
       };
-    })
-
--- where a request is looked at
-pub comes : (library : Library) (top : Asked) (done : List Read) (names : List (List ℕ)) (s : State) (q : Request) (rest : List Request) → TellsAll library
-    → IsSoFar library top done names s → s.waiting ≡ q ∷ rest → ComesTo library top done q
-comes library top done names s q rest tells is waits = record {
-  are_read = is.are_read tells;
-  before = is.looked_at.passed;
-  after = rest;
-  splits = split_on top done is.looked_at.passed s.waiting rest q is.looked_at.splits waits;
-  all_read = is.looked_at.all_read tells;
-}
-
--- its file is read now
-pub so_far_more : (library : Library) (top : Asked) (done : List Read) (names found : List (List ℕ)) (s t new : State) (q : Request) (rest : List Request) (w : Wanted)
-    → IsSoFar library top done names s → s.waiting ≡ q ∷ rest → t ≡ record { networks = s.networks; sources = s.sources; bytes = s.bytes; waiting = rest }
-    → Means library s.networks q.asked w → has w s.networks s.sources ≡ false → AddsRead (trial_of library w names) found t new
-    → HasRead library top found new
-so_far_more library top done names found s t new q rest w is waits same means unread a = record {
-  done = done ++ r ∷ [];
-  is_so_far = record {
-    are_read = λ tells. are_read_more library top [] done r (is.are_read tells) (next tells);
-    are_said = are_said_more done r is.are_said (subst (λ b. Says a.text b r.content) (sym kind) a.adds.says);
-    networks_are = a.adds.adds.networks_are ∙ ap (λ u. u.networks ++ networks_in w.class (suc (length names)) r.content) same
-        ∙ ap (λ ns. ns ++ networks_in w.class (suc (length names)) r.content) is.networks_are
-        ∙ ap (λ n. networks_from 1 done ++ networks_in w.class (suc n) r.content) count ∙ sym (networks_more done r);
-    sources_are = a.adds.adds.sources_are ∙ ap (λ u. u.sources ++ sources_in w.class (suc (length names)) r.content) same
-        ∙ ap (λ ss. ss ++ sources_in w.class (suc (length names)) r.content) is.sources_are
-        ∙ ap (λ n. sources_from 1 done ++ sources_in w.class (suc n) r.content) count ∙ sym (sources_more done r);
-    names_are = a.names_are ∙ ap (λ ns. ns ++ name_of w ∷ []) is.names_are ∙ ap (λ x. names_of done ++ x ∷ []) (sym name) ∙ sym (names_more done r);
-    bytes_are = summed ∙ sym (bytes_more done r);
-    few = subst (λ n. n ≤ max_files) (sym (length_more done r)) few_more;
-    small = subst (λ n. n ≤ max_bytes) (sym a.adds.adds.bytes_are) a.adds.small;
-    looked_at = record {
-      passed = is.looked_at.passed ++ q ∷ [];
-      splits = requests_more top done r
-          ∙ ap (λ qs. qs ++ asked) (split_on top done is.looked_at.passed s.waiting rest q is.looked_at.splits waits)
-          ∙ append_assoc is.looked_at.passed (q ∷ rest) asked
-          ∙ sym (append_assoc is.looked_at.passed (q ∷ []) (rest ++ asked))
-          ∙ ap (λ ws. (is.looked_at.passed ++ q ∷ []) ++ ws) (sym waiting);
-      all_read = λ tells. all_read_more library done is.looked_at.passed q r (is.looked_at.all_read tells)
-          (ap (λ v. v.class) (is_wanted tells)) (kind ∙ ap (λ v. v.network) (is_wanted tells));
-      served = all_served_join (done ++ r ∷ []) is.looked_at.passed q (all_served_stay done (r ∷ []) is.looked_at.passed is.looked_at.served)
-          (means_served library s.networks q.asked w (done ++ r ∷ []) means (read_there w done r refl kind));
-    };
-  };
-}
-  where
-    r : Read
-    r = record { class = w.class; text = a.text; content = a.adds.content }
-
-    asked : List Request
-    asked = requests_by (suc (length done)) r.content
-
-    count : length names ≡ length done
-    count = count_names done names is.names_are
-
-    is_wanted : TellsAll library → w ≡ wanted library q.asked
-    is_wanted tells = want_is library top done s q.asked w tells (is.are_read tells) is.networks_are means
-
-    few_more : suc (length done) ≤ max_files
-    few_more = subst (λ n. suc n ≤ max_files) count a.adds.few
-
-    summed : new.bytes ≡ bytes_of done + length a.text
-    summed = a.adds.adds.bytes_are ∙ ap (λ u. u.bytes + length a.text) same ∙ ap (λ n. n + length a.text) is.bytes_are
-
-    kind : is_network r.content ≡ w.network
-    kind = says_kind a.text w.network a.adds.content a.adds.says
-
-    name : read_name r ≡ name_of w
-    name = ap (λ b. name_of (record { class = w.class; network = b })) kind
-
-    waiting : new.waiting ≡ rest ++ asked
-    waiting = a.adds.adds.waiting_are ∙ ap (λ u. u.waiting ++ requests_by (suc (length names)) r.content) same
-        ∙ ap (λ n. rest ++ requests_by (suc n) r.content) count
-
-    next : TellsAll library → IsNextRead library top done r
-    next tells = record {
-      want = w;
-      is_next = next_is library top done (is.looked_at.passed ++ q ∷ rest) (split_on top done is.looked_at.passed s.waiting rest q is.looked_at.splits waits)
-          ∙ first_past library done is.looked_at.passed rest q (is.looked_at.all_read tells)
-          (subst (λ v. is_read v done ≡ false) (is_wanted tells) (has_is done s w false is.networks_are is.sources_are unread))
-          ∙ ap Some (sym (is_wanted tells));
-      same_class = refl;
-      is_text = a.is_text;
-      says = a.adds.says;
-      few = few_more;
-      small = subst (λ n. n + length a.text ≤ max_bytes) (ap (λ u. u.bytes) same ∙ is.bytes_are) a.adds.small;
     }
 
--- where a loading begins
+    -- its file is read now
+    module _ (found : List (List ℕ)) (new : State) (unread : has w known.networks known.sources ≡ false) (a : AddsRead (trial_of library w names) found known new) where
+      abbrev r : Read
+      r = record { class = w.class; text = a.text; content = a.adds.content }
+
+      abbrev asked_now : List Request
+      asked_now = requests_by (suc (length done)) r.content
+
+      count : length names ≡ length done
+      count = count_names done names is.names_are
+
+      kind : is_network r.content ≡ w.network
+      kind = says_kind a.text w.network a.adds.content a.adds.says
+
+      few_more : suc (length done) ≤ max_files
+      few_more = subst (λ n. suc n ≤ max_files) count a.adds.few
+
+      small_more : bytes_of done + length a.text ≤ max_bytes
+      small_more = subst (λ n. n + length a.text ≤ max_bytes) (kept.bytes ∙ is.bytes_are) a.adds.small
+
+      wanted_now : (choice : Choice) → Agrees choice new.missed (done ++ r ∷ []) → w ≡ wanted choice q.asked
+      wanted_now choice h =
+          wanted_read library misses choice (behind s rest) known q.asked w new.missed (done ++ r ∷ []) means a.adds.adds.missed_are (read_there w done r refl kind) h
+
+      before_more : (choice : Choice) → Agrees choice new.missed (done ++ r ∷ []) → Agrees choice s.missed done
+      before_more choice h =
+          before choice (agrees_fewer choice known.missed done (r ∷ []) (subst (λ m. Agrees choice m (done ++ r ∷ [])) a.adds.adds.missed_are h))
+
+      next : (choice : Choice) → Agrees choice new.missed (done ++ r ∷ []) → IsNextRead library choice top done r
+      next choice h = record {
+        want = w;
+        is_next = next_is choice top done (is.looked_at.passed ++ q ∷ rest) split
+            ∙ first_past choice done is.looked_at.passed rest q (is.looked_at.all_read choice (before_more choice h))
+            (subst (λ v. is_read v done ≡ false) (wanted_now choice h) (read_is false unread))
+            ∙ ap Some (sym (wanted_now choice h));
+        same_class = refl;
+        is_text = a.is_text;
+        says = a.adds.says;
+        few = few_more;
+        small = small_more;
+      }
+
+      waiting_now : new.waiting ≡ rest ++ asked_now
+      waiting_now = a.adds.adds.waiting_are ∙ ap (λ ws. ws ++ requests_by (suc (length names)) r.content) kept.waiting
+          ∙ ap (λ n. rest ++ requests_by (suc n) r.content) count
+
+      pub so_far_more : HasRead library top found new
+      so_far_more = record {
+        done = done ++ r ∷ [];
+        is_so_far = record {
+          are_read = λ choice h. are_read_more library choice top [] done r (is.are_read choice (before_more choice h)) (next choice h);
+          are_lacking = subst (AreLacking library) (sym a.adds.adds.missed_are)
+              (lacking_known library misses (behind s rest) known q.asked w means is.are_lacking);
+          networks_are = a.adds.adds.networks_are ∙ ap (λ ns. ns ++ networks_in w.class (suc (length names)) r.content) (kept.networks ∙ is.networks_are)
+              ∙ ap (λ n. networks_from 1 done ++ networks_in w.class (suc n) r.content) count ∙ sym (networks_more done r);
+          sources_are = a.adds.adds.sources_are ∙ ap (λ ss. ss ++ sources_in w.class (suc (length names)) r.content) (kept.sources ∙ is.sources_are)
+              ∙ ap (λ n. sources_from 1 done ++ sources_in w.class (suc n) r.content) count ∙ sym (sources_more done r);
+          names_are = a.names_are ∙ ap (λ ns. ns ++ name_of w ∷ []) is.names_are
+              ∙ ap (λ b. names_of done ++ name_of (of_kind w.class b) ∷ []) (sym kind) ∙ sym (names_more done r);
+          bytes_are = a.adds.adds.bytes_are ∙ ap (λ n. n + length a.text) (kept.bytes ∙ is.bytes_are) ∙ sym (bytes_more done r);
+          few = subst (λ n. n ≤ max_files) (sym (length_more done r)) few_more;
+          small = subst (λ n. n ≤ max_bytes) (sym a.adds.adds.bytes_are) a.adds.small;
+          looked_at = record {
+            passed = is.looked_at.passed ++ q ∷ [];
+            splits = requests_more top done r ∙ ap (λ qs. qs ++ asked_now) split
+                ∙ append_assoc is.looked_at.passed (q ∷ rest) asked_now
+                ∙ sym (append_assoc is.looked_at.passed (q ∷ []) (rest ++ asked_now))
+                ∙ ap (λ ws. (is.looked_at.passed ++ q ∷ []) ++ ws) (sym waiting_now);
+            all_read = λ choice h. all_read_more choice done is.looked_at.passed q r (is.looked_at.all_read choice (before_more choice h))
+                (ap (λ v. v.class) (wanted_now choice h)) (kind ∙ ap (λ v. v.network) (wanted_now choice h));
+          };
+        };
+      }
+
+    -- ---- what is wanted, by a choice that fits
+
+    agrees : Agrees (chosen library known.missed) s.missed done
+    agrees = before (chosen library known.missed)
+        (chosen_agrees library known.missed done (lacking_known library misses (behind s rest) known q.asked w means is.are_lacking)
+        (nets_there library top done names s is))
+
+    wanted_now_is : w ≡ wanted (chosen library known.missed) q.asked
+    wanted_now_is = wanted_chosen library misses (behind s rest) known q.asked w done means nets is.are_lacking (nets_there library top done names s is)
+
+    pub refused : (all : Counts) (found : List (List ℕ)) (refusal : Refusal) → has w s.networks s.sources ≡ false
+        → IsDenied (trial_of library w names) q.missing s.bytes all found refusal → IsRefused library top all refusal found
+    refused all found refusal unread denied = record {
+      choice = chosen library known.missed;
+      fits = choice_fits library (as_found known.missed);
+      reads = done;
+      request = q;
+      comes = comes_by (chosen library known.missed) agrees;
+      unread = subst (λ v. is_read v done ≡ false) wanted_now_is (has_is done s.networks s.sources w false is.networks_are is.sources_are unread);
+      refuses = subst (λ v. Refuses library v q.missing (suc (length done)) (bytes_of done) all (names_of done) refusal found) wanted_now_is
+          (placed found refusal (go found refusal denied));
+    }
+      where
+        go : (found : List (List ℕ)) (refusal : Refusal) → IsDenied (trial_of library w names) q.missing s.bytes all found refusal
+            → Refuses library w q.missing (suc (length names)) s.bytes all names refusal found
+        go _ _ (denied_missing risen lacking) = is_missing risen lacking
+        go _ _ (denied_file refusal k) = is_there refusal k
+
+        placed : (found : List (List ℕ)) (refusal : Refusal) → Refuses library w q.missing (suc (length names)) s.bytes all names refusal found
+            → Refuses library w q.missing (suc (length done)) (bytes_of done) all (names_of done) refusal found
+        placed found refusal k =
+            subst (λ ns. Refuses library w q.missing (suc (length done)) (bytes_of done) all ns refusal found) is.names_are
+            (subst (λ n. Refuses library w q.missing (suc (length done)) n all names refusal found) is.bytes_are
+            (subst (λ n. Refuses library w q.missing (suc n) s.bytes all names refusal found) (count_names done names is.names_are) k))
+
+  -- the reading of a name failed
+  pub faulted : (misses faults : Counts) (found : List (List ℕ)) (file : ℕ) → Fails library q misses faults names found (behind s rest) file
+      → IsFaulted library top file found
+  faulted misses faults found file h = go q.asked h.want refl refl h.tries
+    where
+      by : (choice : Choice) → Fits library choice → Agrees choice s.missed done → LooksUp choice q.asked (name_of h.want) → IsFaulted library top file found
+      by choice fits agrees looks = record {
+        choice = choice;
+        fits = fits;
+        reads = done;
+        request = q;
+        comes = comes_by choice agrees;
+        name = name_of h.want;
+        looks_up = looks;
+        file_is = h.failed.file_is ∙ ap suc (count_names done names is.names_are);
+        names_are = h.failed.names_are ∙ ap (λ ns. ns ++ name_of h.want ∷ []) is.names_are;
+      }
+
+      go : (asked : Asked) (w : Wanted) → asked ≡ q.asked → w ≡ h.want → Tries library misses (behind s rest) asked w → IsFaulted library top file found
+      go asked w e f (tries_file known means) =
+          by (chosen library known.missed) (choice_fits library (as_found known.missed))
+          (agrees misses h.want known moved)
+          (subst (λ v. LooksUp (chosen library known.missed) q.asked (name_of v)) (sym (wanted_now_is misses h.want known moved)) (looks_up_file q.asked))
+        where
+          moved : Means library misses (behind s rest) q.asked h.want known
+          moved = subst (λ v. Means library misses (behind s rest) q.asked v known) f (subst (λ x. Means library misses (behind s rest) x w known) e means)
+      go _ _ e f (tries_network class) =
+          by (chosen library s.missed) (choice_fits library (as_found s.missed))
+          (chosen_agrees library s.missed done is.are_lacking (nets_there library top done names s is))
+          (subst (λ v. LooksUp (chosen library s.missed) q.asked (name_of v)) f
+          (subst (λ x. LooksUp (chosen library s.missed) x (network_file class)) e (looks_up_network class)))
+
+-- ---- where a loading begins and ends
+
 pub begun : (library : Library) (top : Asked) (s : State) → IsBegun top s → HasRead library top [] s
 begun library top s h = record {
   done = [];
   is_so_far = record {
-    are_read = λ tells. tt;
-    are_said = tt;
+    are_read = λ choice agrees. tt;
+    are_lacking = λ class k. absurd (none_missed s.missed h.missed_are class k);
     networks_are = h.networks_are;
     sources_are = h.sources_are;
     names_are = refl;
     bytes_are = h.bytes_are;
     few = omega arith;
     small = subst (λ n. n ≤ max_bytes) (sym h.bytes_are) (omega arith);
-    looked_at = record { passed = []; splits = sym h.waiting_are; all_read = λ tells. tt; served = tt };
+    looked_at = record { passed = []; splits = sym h.waiting_are; all_read = λ choice agrees. tt };
   };
 }
 
--- where it ends
-pub ends : (library : Library) (top : Asked) (done : List Read) (names : List (List ℕ)) (s : State) → IsSoFar library top done names s → s.waiting ≡ [] → TellsAll library
-    → AreLoaded library top done
-ends library top done names s is waits tells = record {
-  are_read = is.are_read tells;
-  whole = next_is library top done is.looked_at.passed (is.looked_at.splits ∙ ap (λ ws. is.looked_at.passed ++ ws) waits ∙ append-nil is.looked_at.passed)
-      ∙ first_none library done is.looked_at.passed (is.looked_at.all_read tells);
-}
+module _ (library : Library) (top : Asked) (done : List Read) (names : List (List ℕ)) (s : State) (is : IsSoFar library top done names s) (waits : s.waiting ≡ []) where
+  none_next : (choice : Choice) → Agrees choice s.missed done → next_wanted choice top done ≡ None
+  none_next choice h =
+      next_is choice top done is.looked_at.passed (is.looked_at.splits ∙ ap (λ ws. is.looked_at.passed ++ ws) waits ∙ append-nil is.looked_at.passed)
+      ∙ first_none choice done is.looked_at.passed (is.looked_at.all_read choice h)
 
-pub ends_served : (library : Library) (top : Asked) (done : List Read) (names : List (List ℕ)) (s : State) → IsSoFar library top done names s → s.waiting ≡ []
-    → AreServed done (top ∷ asked_by_all done)
-ends_served library top done names s is waits =
-    all_served top done is.looked_at.passed (is.looked_at.splits ∙ ap (λ ws. is.looked_at.passed ++ ws) waits ∙ append-nil is.looked_at.passed) is.looked_at.served
+  ends_agrees : Agrees (chosen library s.missed) s.missed done
+  ends_agrees = chosen_agrees library s.missed done is.are_lacking (nets_there library top done names s is)
 
--- ---- what is refused
+  pub ends : AreLoaded library top done
+  ends = record {
+    choice = chosen library s.missed;
+    fits = choice_fits library (as_found s.missed);
+    are_read = is.are_read (chosen library s.missed) ends_agrees;
+    whole = none_next (chosen library s.missed) ends_agrees;
+  }
 
--- a request is refused
-pub refused : (library : Library) (top : Asked) (done : List Read) (names found : List (List ℕ)) (s : State) (q : Request) (rest : List Request) (misses : Counts) (refusal : Refusal)
-    → TellsAll library → IsSoFar library top done names s → s.waiting ≡ q ∷ rest → Denies library q misses names found s refusal
-    → IsRefused library top misses refusal found
-refused library top done names found s q rest misses refusal tells is waits h = record {
-  reads = done;
-  request = q;
-  comes = comes library top done names s q rest tells is waits;
-  unread = subst (λ v. is_read v done ≡ false) same (has_is done s h.want false is.networks_are is.sources_are h.unread);
-  refuses = go found refusal (subst (λ v. IsDenied (trial_of library v names) q.missing s.bytes misses found refusal) same h.denied);
-}
-  where
-    same : h.want ≡ wanted library q.asked
-    same = want_is library top done s q.asked h.want tells (is.are_read tells) is.networks_are h.means
-
-    count : length names ≡ length done
-    count = count_names done names is.names_are
-
-    placed : (found : List (List ℕ)) (refusal : Refusal) → Refuses library q (suc (length names)) s.bytes misses names refusal found
-        → Refuses library q (suc (length done)) (bytes_of done) misses (names_of done) refusal found
-    placed found refusal k =
-        subst (λ ns. Refuses library q (suc (length done)) (bytes_of done) misses ns refusal found) is.names_are
-        (subst (λ n. Refuses library q (suc (length done)) n misses names refusal found) is.bytes_are
-        (subst (λ n. Refuses library q (suc n) s.bytes misses names refusal found) count k))
-
-    go : (found : List (List ℕ)) (refusal : Refusal) → IsDenied (trial_of library (wanted library q.asked) names) q.missing s.bytes misses found refusal
-        → Refuses library q (suc (length done)) (bytes_of done) misses (names_of done) refusal found
-    go _ _ (denied_missing risen lacking) = placed names q.missing (is_missing risen lacking)
-    go _ _ (denied_file refusal k) = placed (names ++ name_of (wanted library q.asked) ∷ []) refusal (is_there refusal k)
-
--- the reading of a name failed
-pub faulted : (library : Library) (top : Asked) (done : List Read) (names found : List (List ℕ)) (s : State) (q : Request) (rest : List Request) (faults : Counts) (file : ℕ)
-    → TellsAll library → IsSoFar library top done names s → s.waiting ≡ q ∷ rest → Fails library q faults names found s file
-    → IsFaulted library top file found
-faulted library top done names found s q rest faults file tells is waits h = record {
-  reads = done;
-  request = q;
-  comes = comes library top done names s q rest tells is waits;
-  name = name_of h.want;
-  looks_up = go h.means;
-  file_is = h.failed.file_is ∙ ap suc (count_names done names is.names_are);
-  names_are = h.failed.names_are ∙ ap (λ ns. ns ++ name_of h.want ∷ []) is.names_are;
-}
-  where
-    go : (Means library s.networks q.asked h.want ⊎ ((class : List ℕ) × (q.asked ≡ a_class class) × (h.want ≡ record { class = class; network = true })))
-        → LooksUp library q.asked (name_of h.want)
-    go (inl means) = subst (λ v. LooksUp library q.asked (name_of v)) (sym (want_is library top done s q.asked h.want tells (is.are_read tells) is.networks_are means)) (looks_up_file q.asked)
-    go (inr (class, e, f)) = subst (λ v. LooksUp library q.asked (name_of v)) (sym f) (subst (λ a. LooksUp library a (network_file class)) (sym e) (looks_up_network class))
+  -- what was missed was counted
+  pub ends_tried : (misses : Counts) → ((class : List ℕ) → is_among class s.missed ≡ true → HasRisen misses.old misses.new)
+      → AreTried done misses (top ∷ asked_by_all done)
+  ends_tried misses tried = all_tried (as_found s.missed) done misses (top ∷ asked_by_all done) (none_next (as_found s.missed) (found_agrees s.missed done))
+      (λ class h. tried class (found_missed s.missed class h))

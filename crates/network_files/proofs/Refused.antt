@@ -17,22 +17,15 @@ use Rattle.actor_files.specs.Loading.{Counts, Library, TellsAll, max_bytes, max_
 use Rattle.fnl_read.specs.Net.{Net}
 use Rattle.fnl_read.specs.Network as net
 use Rattle.fnl_grammar.specs.Laws.{IsOneNetworkFile, NetworkFileIsRead}
-use Rattle.source_network.specs.Files.{AreReadBehind, Asked, Content, network, source, IsNextRead, Read, Says, says_network, says_source, Wanted, bytes_of, name_of, next_wanted, wanted}
+use Rattle.source_network.specs.Files.{AreReadBehind, Asked, Choice, Content, IsNextRead, Read, Says, says_network, says_source, Wanted, bytes_of, name_of, next_wanted, wanted}
 use Rattle.network_files.specs.Laws.{LoadedIsNotRefused}
-use Rattle.network_files.specs.Loading.{BreaksRule, Refuses, RefusesFile, RefusesText, breaks_rule, in_network, in_source, is_missing, is_refused, is_there, is_too_long, is_too_much}
-use Rattle.network_files.specs.Requests.{Request}
+use Rattle.network_files.specs.Loading.{BreaksRule, IsRefused, Refuses, RefusesFile, RefusesText, breaks_rule, in_network, in_source, is_missing, is_refused, is_there, is_too_long, is_too_much}
+use Rattle.network_files.specs.Requests.{names_of}
+use Rattle.source_network.proofs.Choices.{choices_are_one}
+use Rattle.source_network.proofs.OneLibrary.{OneTree, none_or_some, one_next, one_text, some_is_one}
 use Rattle.network_files.proofs.Lists.{first_past, next_is}
 
--- tokens spell one tree
-abbrev pub OneTree : Type 0
-OneTree = (ts : List Placed) (x y : Tree) → spells ts x → spells ts y → x ≡ y
-
 -- ---- one text
-
-one_text : (told : Told) (a b : List ℕ) → (told ≡ Untold → ⊥) → IsTold told a → IsTold told b → a ≡ b
-one_text Untold a b known x y = absurd (known refl)
-one_text Lacking a b known x y = absurd x
-one_text (Holding t) a b known x y = x ∙ sym y
 
 not_missing : (told : Told) (a : List ℕ) → (told ≡ Untold → ⊥) → IsTold told a → IsLacking told → ⊥
 not_missing Untold a known x y = known refl
@@ -68,14 +61,6 @@ no_rule_broken read text _ _ rule at (says_source {tree = x} h) (in_source r p k
 
 -- ---- one file at a time
 
-some_is_one : {A : Type 0} (o : Option A) (a b : A) → o ≡ Some a → o ≡ Some b → a ≡ b
-some_is_one None a b x y = cc
-some_is_one (Some c) a b x y = cc
-
-none_or_some : {A : Type 0} (o : Option A) (a : A) → o ≡ None → o ≡ Some a → ⊥
-none_or_some None a x y = cc
-none_or_some (Some c) a x y = cc
-
 not_refused_text : NetworkFileIsRead → (text : List ℕ) (kind : Bool) (number bytes : ℕ) (content : Content) (refusal : Refusal) → Says text kind content
     → number ≤ max_files → bytes + length text ≤ max_bytes → RefusesText text kind number bytes refusal → ⊥
 not_refused_text read text kind number bytes content _ says few small (breaks_rule rule at h) = no_rule_broken read text kind content rule at says h
@@ -90,16 +75,13 @@ not_refused_file read told text kind number bytes content refusal known is says 
     (subst (λ t. RefusesText t kind number bytes refusal) (one_text told other text known is_other.is_told is.is_told) h)
 
 -- what can be read isn't refused
-readable : NetworkFileIsRead → (library : Library) (top : Asked) (before : List Read) (a : Read) (q : Request) (misses : Counts) (names : List (List ℕ))
-    (refusal : Refusal) (found : List (List ℕ)) → TellsAll library → IsNextRead library top before a → next_wanted library top before ≡ Some (wanted library q.asked)
-    → Refuses library q (suc (length before)) (bytes_of before) misses names refusal found → ⊥
-readable read library top before a q misses names refusal found tells x next h = go refusal found h
+readable : NetworkFileIsRead → (library : Library) (choice : Choice) (top : Asked) (before : List Read) (a : Read) (w : Wanted) (missing : Refusal) (misses : Counts)
+    (names : List (List ℕ)) (refusal : Refusal) (found : List (List ℕ)) → TellsAll library → IsNextRead library choice top before a → next_wanted choice top before ≡ Some w
+    → Refuses library w missing (suc (length before)) (bytes_of before) misses names refusal found → ⊥
+readable read library choice top before a w missing misses names refusal found tells x next h = go refusal found h
   where
-    w : Wanted
-    w = wanted library q.asked
-
     same : x.want ≡ w
-    same = some_is_one (next_wanted library top before) x.want w x.is_next next
+    same = some_is_one (next_wanted choice top before) x.want w x.is_next next
 
     is : IsText (library (name_of w)) a.text
     is = subst (λ v. IsText (library (name_of v)) a.text) same x.is_text
@@ -107,56 +89,48 @@ readable read library top before a q misses names refusal found tells x next h =
     says : Says a.text w.network a.content
     says = subst (λ v. Says a.text v.network a.content) same x.says
 
-    go : (refusal : Refusal) (found : List (List ℕ)) → Refuses library q (suc (length before)) (bytes_of before) misses names refusal found → ⊥
+    go : (refusal : Refusal) (found : List (List ℕ)) → Refuses library w missing (suc (length before)) (bytes_of before) misses names refusal found → ⊥
     go _ _ (is_missing risen lacking) = not_missing (library (name_of w)) a.text (tells (name_of w)) is.is_told lacking
     go _ _ (is_there refusal h) =
         not_refused_file read (library (name_of w)) a.text w.network (suc (length before)) (bytes_of before) a.content refusal (tells (name_of w)) is says x.few x.small h
 
 -- ---- all files
 
-at_end : (library : Library) (top : Asked) (before : List Read) (o : Option Wanted) → next_wanted library top (before ++ []) ≡ o → next_wanted library top before ≡ o
-at_end library top before o h = ap (λ b. next_wanted library top b) (sym (append-nil before)) ∙ h
+at_end : (choice : Choice) (top : Asked) (before : List Read) (o : Option Wanted) → next_wanted choice top (before ++ []) ≡ o → next_wanted choice top before ≡ o
+at_end choice top before o h = ap (λ b. next_wanted choice top b) (sym (append-nil before)) ∙ h
 
-one_content : OneTree → IsOneNetworkFile → (text : List ℕ) (kind : Bool) (x y : Content) → Says text kind x → Says text kind y → x ≡ y
-one_content tree nets text _ _ _ (says_network {net = a} h) (says_network {net = b} k) = ap network (nets text a b h k)
-one_content tree nets text _ _ _ (says_source {tree = a} h) (says_source {tree = b} k) =
-    ap source (tree k.tokens a b (subst (λ ts. spells ts a) (one_list h.lexed k.lexed) h.spelled) k.spelled)
+not_behind : OneTree → IsOneNetworkFile → NetworkFileIsRead → (library : Library) (choice : Choice) (top : Asked) (before xs ys : List Read) (w : Wanted) (missing : Refusal)
+    (misses : Counts) (names : List (List ℕ)) (refusal : Refusal) (found : List (List ℕ)) → TellsAll library
+    → AreReadBehind library choice top before xs → next_wanted choice top (before ++ xs) ≡ None
+    → AreReadBehind library choice top before ys → next_wanted choice top (before ++ ys) ≡ Some w
+    → Refuses library w missing (suc (length (before ++ ys))) (bytes_of (before ++ ys)) misses names refusal found → ⊥
+not_behind one nets read library choice top before [] [] w missing misses names refusal found tells x xn y yn h =
+    none_or_some (next_wanted choice top before) w (at_end choice top before None xn) (at_end choice top before (Some w) yn)
+not_behind one nets read library choice top before [] (b ∷ ys) w missing misses names refusal found tells x xn y yn h =
+    none_or_some (next_wanted choice top before) y.0.want (at_end choice top before None xn) y.0.is_next
+not_behind one nets read library choice top before (a ∷ xs) [] w missing misses names refusal found tells x xn y yn h =
+    readable read library choice top before a w missing misses names refusal found tells x.0 (at_end choice top before (Some w) yn)
+    (subst (λ b. Refuses library w missing (suc (length b)) (bytes_of b) misses names refusal found) (append-nil before) h)
+not_behind one nets read library choice top before (a ∷ xs) (b ∷ ys) w missing misses names refusal found tells x xn y yn h =
+    let same : b ≡ a = one_next one nets library choice top before b a tells y.0 x.0 in
+    not_behind one nets read library choice top (before ++ a ∷ []) xs ys w missing misses names refusal found tells x.1
+    (ap (λ l. next_wanted choice top l) (append_assoc before (a ∷ []) xs) ∙ xn)
+    (subst (λ r. AreReadBehind library choice top (before ++ r ∷ []) ys) same y.1)
+    (ap (λ l. next_wanted choice top l) (append_assoc before (a ∷ []) ys) ∙ subst (λ r. next_wanted choice top (before ++ r ∷ ys) ≡ Some w) same yn)
+    (subst (λ l. Refuses library w missing (suc (length l)) (bytes_of l) misses names refusal found) (sym (append_assoc before (a ∷ []) ys))
+    (subst (λ r. Refuses library w missing (suc (length (before ++ r ∷ ys))) (bytes_of (before ++ r ∷ ys)) misses names refusal found) same h))
 
-one_next : OneTree → IsOneNetworkFile → (library : Library) (top : Asked) (before : List Read) (a b : Read) → TellsAll library
-    → IsNextRead library top before a → IsNextRead library top before b → a ≡ b
-one_next tree nets library top before a b tells x y =
-    let w : x.want ≡ y.want = some_is_one (next_wanted library top before) x.want y.want x.is_next y.is_next in
-    let c : a.class ≡ b.class = x.same_class ∙ ap (λ q. q.class) w ∙ sym y.same_class in
-    let held : IsTold (library (name_of y.want)) a.text = subst (λ q. IsTold (library (name_of q)) a.text) w x.is_text.is_told in
-    let t : a.text ≡ b.text = one_text (library (name_of y.want)) a.text b.text (tells (name_of y.want)) held y.is_text.is_told in
-    let says : Says b.text y.want.network a.content = subst (λ s. Says s y.want.network a.content) t (subst (λ q. Says a.text q.network a.content) w x.says) in
-    let same : a.content ≡ b.content = one_content tree nets b.text y.want.network a.content b.content says y.says in
-    λ i. record { class = c i; text = t i; content = same i }
-
-not_behind : OneTree → IsOneNetworkFile → NetworkFileIsRead → (library : Library) (top : Asked) (before xs ys : List Read) (q : Request) (misses : Counts) (names : List (List ℕ))
-    (refusal : Refusal) (found : List (List ℕ)) → TellsAll library
-    → AreReadBehind library top before xs → next_wanted library top (before ++ xs) ≡ None
-    → AreReadBehind library top before ys → next_wanted library top (before ++ ys) ≡ Some (wanted library q.asked)
-    → Refuses library q (suc (length (before ++ ys))) (bytes_of (before ++ ys)) misses names refusal found → ⊥
-not_behind one nets read library top before [] [] q misses names refusal found tells x xn y yn h =
-    none_or_some (next_wanted library top before) (wanted library q.asked) (at_end library top before None xn) (at_end library top before (Some (wanted library q.asked)) yn)
-not_behind one nets read library top before [] (b ∷ ys) q misses names refusal found tells x xn y yn h =
-    none_or_some (next_wanted library top before) y.0.want (at_end library top before None xn) y.0.is_next
-not_behind one nets read library top before (a ∷ xs) [] q misses names refusal found tells x xn y yn h =
-    readable read library top before a q misses names refusal found tells x.0 (at_end library top before (Some (wanted library q.asked)) yn)
-    (subst (λ b. Refuses library q (suc (length b)) (bytes_of b) misses names refusal found) (append-nil before) h)
-not_behind one nets read library top before (a ∷ xs) (b ∷ ys) q misses names refusal found tells x xn y yn h =
-    let same : b ≡ a = one_next one nets library top before b a tells y.0 x.0 in
-    not_behind one nets read library top (before ++ a ∷ []) xs ys q misses names refusal found tells x.1
-    (ap (λ l. next_wanted library top l) (append_assoc before (a ∷ []) xs) ∙ xn)
-    (subst (λ r. AreReadBehind library top (before ++ r ∷ []) ys) same y.1)
-    (ap (λ l. next_wanted library top l) (append_assoc before (a ∷ []) ys) ∙ subst (λ r. next_wanted library top (before ++ r ∷ ys) ≡ Some (wanted library q.asked)) same yn)
-    (subst (λ l. Refuses library q (suc (length l)) (bytes_of l) misses names refusal found) (sym (append_assoc before (a ∷ []) ys))
-    (subst (λ r. Refuses library q (suc (length (before ++ r ∷ ys))) (bytes_of (before ++ r ∷ ys)) misses names refusal found) same h))
+-- what is loaded by a choice isn't refused by it
+not_refused_by : OneTree → IsOneNetworkFile → NetworkFileIsRead → (library : Library) (top : Asked) (reads : List Read) (misses : Counts) (refusal : Refusal)
+    (names : List (List ℕ)) → TellsAll library → (choice : Choice) → AreReadBehind library choice top [] reads → next_wanted choice top reads ≡ None
+    → (h : IsRefused library top misses refusal names) → choice ≡ h.choice → ⊥
+not_refused_by tree nets read library top reads misses refusal names tells choice are whole h same =
+    not_behind tree nets read library h.choice top [] reads h.reads (wanted h.choice h.request.asked) h.request.missing misses (names_of h.reads) refusal names tells
+    (subst (λ c. AreReadBehind library c top [] reads) same are) (subst (λ c. next_wanted c top reads ≡ None) same whole) h.comes.are_read
+    (next_is h.choice top h.reads (h.comes.before ++ h.request ∷ h.comes.after) h.comes.splits
+    ∙ first_past h.choice h.reads h.comes.before h.comes.after h.request h.comes.all_read h.unread)
+    h.refuses
 
 pub not_refused : OneTree → IsOneNetworkFile → NetworkFileIsRead → LoadedIsNotRefused
 not_refused tree nets read library top reads misses refusal names tells x h =
-    not_behind tree nets read library top [] reads h.reads h.request misses _ refusal names tells x.are_read x.whole h.comes.are_read
-    (next_is library top h.reads (h.comes.before ++ h.request ∷ h.comes.after) h.comes.splits
-    ∙ first_past library h.reads h.comes.before h.comes.after h.request h.comes.all_read h.unread)
-    h.refuses
+    not_refused_by tree nets read library top reads misses refusal names tells x.choice x.are_read x.whole h (choices_are_one library x.choice h.choice tells x.fits h.fits)

@@ -1,46 +1,43 @@
--- What is asked for has a file, whatever a library tells.
-use Rattle.std.proofs.Common.{◌≡◌, ℕ, true, false, inl, inr, List, [], ◌∷◌, ◌++◌, map, sym, subst, ◌∙◌}
-use Rattle.std.specs.Prelude.{Result, Ok, Err, IfOk}
-use Rattle.actor_files.specs.Loading.{Library}
+-- What is asked for has a file, if nothing more is wanted.
+use Rattle.std.proofs.Common.{◌≡◌, ℕ, Bool, true, false, inl, inr, List, [], ◌∷◌, refl, sym, subst, ◌∙◌}
+use Rattle.std.specs.List.{AllByRecursion}
+use Rattle.std.specs.Prelude.{None, Some, Result, Ok, Err, IfOk, if◌then◌else◌}
+use Rattle.rvc_io.specs.Count.{HasRisen}
+use Rattle.actor_files.specs.Loading.{Counts, Library}
 use Rattle.actor_files.specs.declared.fault.LoadFault.{LoadFault}
-use Rattle.fnl_bind.specs.Library.{Entry}
-use Rattle.source_network.specs.Files.{Asked, a_class, a_network, an_actor, Read, Wanted, asked_by_all, files_of, is_read}
+use Rattle.source_network.specs.Files.{Asked, a_class, a_network, an_actor, Choice, Read, asked_by_all, files_of, first_unread, is_read, wanted}
 use Rattle.source_network.specs.Source.{Files}
-use Rattle.network_files.specs.Requests.{AreServed, IsServed, Request, requests}
-use Rattle.network_files.specs.SoFar.{Means, means_actor, means_known, means_network, means_other, means_there}
+use Rattle.network_files.specs.Laws.{LoadedAreServed}
+use Rattle.network_files.specs.Requests.{AreTried, IsServed, IsTried}
 use Rattle.network_files.specs.Views.{HasFile, HoldsLoaded}
 use Rattle.network_files.proofs.Known.{of_kind}
-use Rattle.network_files.proofs.Lists.{read_stays, same_asked, same_has}
+use Rattle.network_files.proofs.Lists.{same_has}
 
-served_stays : (done later : List Read) (asked : Asked) → IsServed done asked → IsServed (done ++ later) asked
-served_stays done later (a_network class) h = read_stays (of_kind class true) done later h
-served_stays done later (an_actor class) h = read_stays (of_kind class false) done later h
-served_stays done later (a_class class) (inl h) = inl (read_stays (of_kind class true) done later h)
-served_stays done later (a_class class) (inr h) = inr (read_stays (of_kind class false) done later h)
+-- what is wanted of a list of which nothing is unread is read
+all_wanted : (choice : Choice) (reads : List Read) (P : Asked → Type 0) → ((asked : Asked) → is_read (wanted choice asked) reads ≡ true → P asked)
+    → (list : List Asked) → first_unread choice reads list ≡ None → AllByRecursion P list
+all_wanted choice reads P so [] h = tt
+all_wanted choice reads P so (asked ∷ others) h = go (is_read (wanted choice asked) reads) refl h (all_wanted choice reads P so others)
+  where
+    go : (b : Bool) → is_read (wanted choice asked) reads ≡ b → (if b then first_unread choice reads others else Some (wanted choice asked)) ≡ None
+        → (first_unread choice reads others ≡ None → AllByRecursion P others) → AllByRecursion P (asked ∷ others)
+    go true e k rest = (so asked e, rest k)
+    go false e k rest = cc
 
-pub all_served_stay : (done later : List Read) (qs : List Request) → AreServed done (map (λ q. q.asked) qs) → AreServed (done ++ later) (map (λ q. q.asked) qs)
-all_served_stay done later [] h = tt
-all_served_stay done later (q ∷ qs) h = (served_stays done later q.asked h.0, all_served_stay done later qs h.1)
+-- ---- its file
 
-pub all_served_join : (done : List Read) (qs : List Request) (q : Request) → AreServed done (map (λ p. p.asked) qs) → IsServed done q.asked
-    → AreServed done (map (λ p. p.asked) (qs ++ q ∷ []))
-all_served_join done [] q h k = (k, tt)
-all_served_join done (p ∷ qs) q h k = (h.0, all_served_join done qs q h.1 k)
+served_by : (reads : List Read) (class : List ℕ) (b : Bool) → is_read (of_kind class b) reads ≡ true → IsServed reads (a_class class)
+served_by reads class true h = inl h
+served_by reads class false h = inr h
 
--- what is wanted for it is read
-pub means_served : (library : Library) (nets : List Entry) (asked : Asked) (w : Wanted) (done : List Read) → Means library nets asked w
-    → is_read w done ≡ true → IsServed done asked
-means_served library nets _ _ done (means_network class) h = h
-means_served library nets _ _ done (means_actor class) h = h
-means_served library nets _ _ done (means_known class k) h = inl h
-means_served library nets _ _ done (means_there class k) h = inl h
-means_served library nets _ _ done (means_other class k) h = inr h
+served : (choice : Choice) (reads : List Read) (asked : Asked) → is_read (wanted choice asked) reads ≡ true → IsServed reads asked
+served choice reads (a_network class) h = h
+served choice reads (an_actor class) h = h
+served choice reads (a_class class) h = served_by reads class (choice class) h
 
--- all that is asked for was looked at
-pub all_served : (top : Asked) (done : List Read) (passed : List Request) → requests top done ≡ passed → AreServed done (map (λ q. q.asked) passed)
-    → AreServed done (top ∷ asked_by_all done)
-all_served top done passed e h =
-    subst (λ asked. AreServed done (top ∷ asked)) (same_asked 1 done) (subst (λ qs. AreServed done (map (λ q. q.asked) qs)) (sym e) h)
+pub loaded_are_served : LoadedAreServed
+loaded_are_served library top reads h =
+    all_wanted h.choice reads (IsServed reads) (served h.choice reads) (top ∷ asked_by_all reads) h.whole
 
 -- what is read is there
 there : (reads : List Read) (asked : Asked) → IsServed reads asked → HasFile asked (files_of reads)
@@ -50,7 +47,30 @@ there reads (a_class class) (inl h) = inl (same_has (of_kind class true) reads �
 there reads (a_class class) (inr h) = inr (same_has (of_kind class false) reads ∙ h)
 
 -- the top's own file
-pub top_there : {S : Type 0} (view : S → Files) (r : Result S LoadFault) (library : Library) (top : Asked) (names : List (List ℕ))
-    → IfOk r (λ set. HoldsLoaded library top (view set) names) → IfOk r (λ set. HasFile top (view set))
-top_there view (Err f) library top names h = tt
-top_there view (Ok set) library top names h = subst (λ files. HasFile top files) (sym h.holds.files_are) (there h.reads top h.are_served.0)
+pub top_there : {S : Type 0} (view : S → Files) (r : Result S LoadFault) (library : Library) (top : Asked) (misses : Counts) (names : List (List ℕ))
+    → IfOk r (λ set. HoldsLoaded library top misses (view set) names) → IfOk r (λ set. HasFile top (view set))
+top_there view (Err f) library top misses names h = tt
+top_there view (Ok set) library top misses names h =
+    subst (λ files. HasFile top files) (sym h.holds.files_are) (there h.reads top (loaded_are_served library top h.reads h.are_loaded).0)
+
+-- ---- what was looked up
+
+tried_by : (reads : List Read) (misses : Counts) (class : List ℕ) (b : Bool) → is_read (of_kind class b) reads ≡ true
+    → (b ≡ false → HasRisen misses.old misses.new) → IsTried reads misses (a_class class)
+tried_by reads misses class true h risen = λ none. never (is_read (of_kind class true) reads) h none
+  where
+    never : (b : Bool) → b ≡ true → b ≡ false → HasRisen misses.old misses.new
+    never true k l = cc
+    never false k l = cc
+tried_by reads misses class false h risen = λ none. risen refl
+
+tried : (choice : Choice) (reads : List Read) (misses : Counts) (asked : Asked) → is_read (wanted choice asked) reads ≡ true
+    → ((class : List ℕ) → choice class ≡ false → HasRisen misses.old misses.new) → IsTried reads misses asked
+tried choice reads misses (a_network class) h risen = tt
+tried choice reads misses (an_actor class) h risen = tt
+tried choice reads misses (a_class class) h risen = tried_by reads misses class (choice class) h (risen class)
+
+pub all_tried : (choice : Choice) (reads : List Read) (misses : Counts) (list : List Asked) → first_unread choice reads list ≡ None
+    → ((class : List ℕ) → choice class ≡ false → HasRisen misses.old misses.new) → AreTried reads misses list
+all_tried choice reads misses list h risen =
+    all_wanted choice reads (IsTried reads misses) (λ asked read. tried choice reads misses asked read risen) list h

@@ -4,6 +4,7 @@ use Rattle.std.specs.Prelude.{Result, Ok, Err, IfOk, IfErr}
 use Rattle.rvc_base.specs.declared.refusal.Refusal.{Refusal}
 use Rattle.rvc_io.specs.Count.{HasRisen}
 use Rattle.rvc_io.specs.Told.{Told}
+use Rattle.cal_scope.specs.Names.{is_among}
 use Rattle.actor_files.specs.FileText.{IsText}
 use Rattle.actor_files.specs.Loading.{Counts, Library}
 use Rattle.actor_files.specs.declared.fault.LoadFault.{LoadFault}
@@ -11,12 +12,16 @@ use Rattle.actor_files.specs.declared.fault.LoadFault.TheVariants.{Refused, Read
 use Rattle.source_network.specs.Files.{a_class, Wanted, name_of, network_file}
 use Rattle.network_files.specs.Loading.{RefusesFile, is_refused, is_too_long}
 use Rattle.network_files.specs.Requests.{Request}
-use Rattle.network_files.specs.SoFar.{AddsRead, Halts, IsBroken, IsDenied, IsFailed, IsHeld, IsMissed, IsStopped, IsTaken, IsThere, Means, State, Takes, Trial, denied_file, denied_missing, has, means_known, means_other, means_there, number_of, trial_of, with_name}
+use Rattle.network_files.specs.SoFar.{AddsRead, Halts, IsBroken, IsDenied, IsFailed, IsHeld, IsMissed, IsStopped, IsTaken, Means, State, Takes, Trial, denied_file, denied_missing, has, means_known, means_other, means_there, number_of, tries_file, tries_network, trial_of, with_missed, with_name, IsThere}
 use Rattle.network_files.proofs.Known.{long_there, of_kind, told_there}
 
 pub rose_since : (first old new : ℕ) → first ≤ old → HasRisen old new → HasRisen first new
 rose_since first old new before (inl rose) = inl (omega arith)
 rose_since first old new before (inr last) = inr last
+
+pub rose_until : (old new later : ℕ) → new ≤ later → HasRisen old new → HasRisen old later
+rose_until old new later after (inl rose) = inl (omega arith)
+rose_until old new later after (inr last) = inr (omega arith)
 
 -- a text that isn't added stops the reading of its file
 pub broken_stops : (t : Trial) (text : List ℕ) (bytes number : ℕ) (faults : Counts) (names : List (List ℕ)) (fault : LoadFault) → IsText t.told text
@@ -42,25 +47,25 @@ missed_held t missing s new misses faults names unread h =
 
 -- ---- a request of one kind
 
-pub takes_one : (r : Result Bool LoadFault) (library : Library) (q : Request) (w : Wanted) (names found : List (List ℕ)) (old new : State)
-    → Means library old.networks q.asked w → IfOk r (IsTaken (trial_of library w names) found old new) → IfOk r (Takes library q names found old new)
-takes_one (Ok b) library q w names found old new means h = record { want = w; means = means; taken = h }
-takes_one (Err f) library q w names found old new means h = tt
+pub takes_one : (r : Result Bool LoadFault) (library : Library) (q : Request) (misses : Counts) (w : Wanted) (known : State) (names found : List (List ℕ)) (old new : State)
+    → Means library misses old q.asked w known → IfOk r (IsTaken (trial_of library w names) found known new) → IfOk r (Takes library q misses names found old new)
+takes_one (Ok b) library q misses w known names found old new means h = record { want = w; known = known; means = means; taken = h }
+takes_one (Err f) library q misses w known names found old new means h = tt
 
-held_halts : (library : Library) (q : Request) (w : Wanted) (misses faults : Counts) (names found : List (List ℕ)) (s : State) (fault : LoadFault)
-    → Means library s.networks q.asked w → IsHeld (trial_of library w names) q.missing s misses faults found fault → Halts library q misses faults names found s fault
-held_halts library q w misses faults names found s (Refused refusal) means h = record { want = w; means = means; unread = h.0; denied = h.1 }
-held_halts library q w misses faults names found s (ReadFault file) means h = record { want = w; means = inl means; failed = h }
-held_halts library q w misses faults names found s Memory means h = tt
+held_halts : (library : Library) (q : Request) (w : Wanted) (misses faults : Counts) (names found : List (List ℕ)) (s known : State) (fault : LoadFault)
+    → Means library misses s q.asked w known → IsHeld (trial_of library w names) q.missing s misses faults found fault → Halts library q misses faults names found s fault
+held_halts library q w misses faults names found s known (Refused refusal) means h = record { want = w; known = known; means = means; unread = h.0; denied = h.1 }
+held_halts library q w misses faults names found s known (ReadFault file) means h = record { want = w; tries = tries_file known means; failed = h }
+held_halts library q w misses faults names found s known Memory means h = tt
 
-pub halts_one : (r : Result Bool LoadFault) (library : Library) (q : Request) (w : Wanted) (misses faults : Counts) (names found : List (List ℕ)) (s : State)
-    → Means library s.networks q.asked w → IfErr r (IsHeld (trial_of library w names) q.missing s misses faults found) → IfErr r (Halts library q misses faults names found s)
-halts_one (Ok b) library q w misses faults names found s means h = tt
-halts_one (Err f) library q w misses faults names found s means h = held_halts library q w misses faults names found s f means h
+pub halts_one : (r : Result Bool LoadFault) (library : Library) (q : Request) (w : Wanted) (misses faults : Counts) (names found : List (List ℕ)) (s known : State)
+    → Means library misses s q.asked w known → IfErr r (IsHeld (trial_of library w names) q.missing s misses faults found) → IfErr r (Halts library q misses faults names found s)
+halts_one (Ok b) library q w misses faults names found s known means h = tt
+halts_one (Err f) library q w misses faults names found s known means h = held_halts library q w misses faults names found s known f means h
 
 -- ---- a class that may be either
 
-abbrev either_of : (class : List ℕ) → Refusal → Request
+abbrev pub either_of : (class : List ℕ) → Refusal → Request
 either_of class missing = record { asked = a_class class; missing = missing }
 
 file_there : (told : Told) (network : Bool) (number bytes : ℕ) (refusal : Refusal) → RefusesFile told network number bytes refusal → IsThere told
@@ -68,46 +73,55 @@ file_there told network number bytes _ (is_too_long h) = long_there told h
 file_there told network number bytes refusal (is_refused text _ h k) = told_there told text h.is_told
 
 -- the network's file is there, but is refused, or its reading failed
-pub either_stops : (library : Library) (class : List ℕ) (missing : Refusal) (misses faults : Counts) (names found : List (List ℕ)) (s : State) (fault : LoadFault)
-    → has (of_kind class true) s.networks s.sources ≡ false → IsStopped (trial_of library (of_kind class true) names) s.bytes faults found fault
+pub new_stops : (library : Library) (class : List ℕ) (missing : Refusal) (misses faults : Counts) (names found : List (List ℕ)) (s : State) (fault : LoadFault)
+    → has (of_kind class true) s.networks s.sources ≡ false → is_among class s.missed ≡ false → IsStopped (trial_of library (of_kind class true) names) s.bytes faults found fault
     → Halts library (either_of class missing) misses faults names found s fault
-either_stops library class missing misses faults names found s (Refused refusal) unread h = record {
+new_stops library class missing misses faults names found s (Refused refusal) unread untried h = record {
   want = of_kind class true;
-  means = means_there class (file_there (library (network_file class)) true (suc (length names)) s.bytes refusal h.0);
+  known = s;
+  means = means_there class untried (file_there (library (network_file class)) true (suc (length names)) s.bytes refusal h.0);
   unread = unread;
   denied = subst (λ ns. IsDenied (trial_of library (of_kind class true) names) missing s.bytes misses ns refusal) (sym h.1) (denied_file refusal h.0);
 }
-either_stops library class missing misses faults names found s (ReadFault file) unread h =
-    record { want = of_kind class true; means = inr (class, refl, refl); failed = h }
-either_stops library class missing misses faults names found s Memory unread h = tt
+new_stops library class missing misses faults names found s (ReadFault file) unread untried h =
+    record { want = of_kind class true; tries = tries_network class; failed = h }
+new_stops library class missing misses faults names found s Memory unread untried h = tt
 
 -- .. was read before
-pub either_known : (library : Library) (class : List ℕ) (missing : Refusal) (names : List (List ℕ)) (s : State)
-    → has (of_kind class true) s.networks s.sources ≡ true → Takes library (either_of class missing) names names s s false
-either_known library class missing names s there =
-    record { want = of_kind class true; means = means_known class there; taken = record { there = there; names_are = refl; same = refl } }
+pub either_known : (library : Library) (class : List ℕ) (missing : Refusal) (misses : Counts) (names : List (List ℕ)) (s : State)
+    → is_among class s.missed ≡ false → has (of_kind class true) s.networks s.sources ≡ true → Takes library (either_of class missing) misses names names s s false
+either_known library class missing misses names s untried there = record {
+  want = of_kind class true;
+  known = s;
+  means = means_known class untried there;
+  taken = record { there = there; names_are = refl; same = refl };
+}
 
 -- .. was read now
-pub either_added : (library : Library) (class : List ℕ) (missing : Refusal) (names found : List (List ℕ)) (s new : State)
-    → has (of_kind class true) s.networks s.sources ≡ false → AddsRead (trial_of library (of_kind class true) names) found s new
-    → Takes library (either_of class missing) names found s new true
-either_added library class missing names found s new unread a = record {
+pub new_added : (library : Library) (class : List ℕ) (missing : Refusal) (misses : Counts) (names found : List (List ℕ)) (s new : State)
+    → has (of_kind class true) s.networks s.sources ≡ false → is_among class s.missed ≡ false → AddsRead (trial_of library (of_kind class true) names) found s new
+    → Takes library (either_of class missing) misses names found s new true
+new_added library class missing misses names found s new unread untried a = record {
   want = of_kind class true;
-  means = means_there class (told_there (library (network_file class)) a.text a.is_text.is_told);
+  known = s;
+  means = means_there class untried (told_there (library (network_file class)) a.text a.is_text.is_told);
   taken = record { unread = unread; adds = a };
 }
 
 -- .. is missing, and that of the actor is looked for
-pub either_other : (r : Result Bool LoadFault) (library mid : Library) (class : List ℕ) (missing : Refusal) (misses : Counts) (names between found : List (List ℕ)) (s t new : State)
-    → IsMissed (trial_of library (of_kind class true) names) misses between s t → ((other : List ℕ) → mid other ≡ library other)
-    → IfOk r (IsTaken (trial_of mid (of_kind class false) between) found t new) → IfOk r (Takes library (either_of class missing) names found s new)
-either_other (Err f) library mid class missing misses names between found s t new m same h = tt
-either_other (Ok b) library mid class missing misses names between found s t new m same h = record {
+pub new_other : (r : Result Bool LoadFault) (library mid : Library) (class : List ℕ) (missing : Refusal) (mo m n : ℕ) (names between found : List (List ℕ)) (s t new : State)
+    → has (of_kind class true) s.networks s.sources ≡ false → m ≤ n
+    → IsMissed (trial_of library (of_kind class true) names) (record { old = mo; new = m }) between s t → ((other : List ℕ) → mid other ≡ library other)
+    → IfOk r (IsTaken (trial_of mid (of_kind class false) between) found (with_missed class t) new)
+    → IfOk r (Takes library (either_of class missing) (record { old = mo; new = n }) names found s new)
+new_other (Err f) library mid class missing mo m n names between found s t new unread after is same h = tt
+new_other (Ok b) library mid class missing mo m n names between found s t new unread after is same h = record {
   want = of_kind class false;
-  means = means_other class m.lacking;
-  taken = subst (λ ns. IsTaken (trial_of library (of_kind class false) ns) found s new b) m.names_are
-      (subst (λ u. IsTaken (trial_of library (of_kind class false) between) found u new b) m.same
-      (subst (λ told. IsTaken (record { told = told; want = of_kind class false; names = between }) found t new b) (same (name_of (of_kind class false))) h));
+  known = with_missed class s;
+  means = means_other class unread (rose_until mo m n after is.risen) is.lacking;
+  taken = subst (λ ns. IsTaken (trial_of library (of_kind class false) ns) found (with_missed class s) new b) is.names_are
+      (subst (λ u. IsTaken (trial_of library (of_kind class false) between) found (with_missed class u) new b) is.same
+      (subst (λ told. IsTaken (record { told = told; want = of_kind class false; names = between }) found (with_missed class t) new b) (same (name_of (of_kind class false))) h));
 }
 
 pub denied_since : (t : Trial) (missing : Refusal) (bytes first old new : ℕ) (names : List (List ℕ)) (refusal : Refusal) → first ≤ old
@@ -127,16 +141,26 @@ held_since t missing s mo m n fo f g names (Refused refusal) b c h = (h.0, denie
 held_since t missing s mo m n fo f g names (ReadFault file) b c h = failed_since t fo f g names file c h
 held_since t missing s mo m n fo f g names Memory b c h = tt
 
-pub either_halts : (r : Result Bool LoadFault) (library mid : Library) (class : List ℕ) (missing : Refusal) (mo m n fo f g : ℕ) (names between found : List (List ℕ)) (s t : State)
+pub new_halts : (r : Result Bool LoadFault) (library mid : Library) (class : List ℕ) (missing : Refusal) (mo m n fo f g : ℕ) (names between found : List (List ℕ)) (s t : State)
+    → has (of_kind class true) s.networks s.sources ≡ false → m ≤ n
     → IsMissed (trial_of library (of_kind class true) names) (record { old = mo; new = m }) between s t → ((other : List ℕ) → mid other ≡ library other)
     → mo ≤ m → fo ≤ f
-    → IfErr r (IsHeld (trial_of mid (of_kind class false) between) missing t (record { old = m; new = n }) (record { old = f; new = g }) found)
+    → IfErr r (IsHeld (trial_of mid (of_kind class false) between) missing (with_missed class t) (record { old = m; new = n }) (record { old = f; new = g }) found)
     → IfErr r (Halts library (either_of class missing) (record { old = mo; new = n }) (record { old = fo; new = g }) names found s)
-either_halts (Ok b) library mid class missing mo m n fo f g names between found s t is same b1 b2 h = tt
-either_halts (Err fault) library mid class missing mo m n fo f g names between found s t is same b1 b2 h =
-    held_halts library (either_of class missing) (of_kind class false) (record { old = mo; new = n }) (record { old = fo; new = g }) names found s fault (means_other class is.lacking)
-    (held_since (trial_of library (of_kind class false) names) missing s mo m n fo f g found fault b1 b2
-    (subst (λ ns. IsHeld (trial_of library (of_kind class false) ns) missing s (record { old = m; new = n }) (record { old = f; new = g }) found fault) is.names_are
-    (subst (λ u. IsHeld (trial_of library (of_kind class false) between) missing u (record { old = m; new = n }) (record { old = f; new = g }) found fault) is.same
-    (subst (λ told. IsHeld (record { told = told; want = of_kind class false; names = between }) missing t (record { old = m; new = n }) (record { old = f; new = g }) found fault)
-    (same (name_of (of_kind class false))) h))))
+new_halts (Ok b) library mid class missing mo m n fo f g names between found s t unread after is same b1 b2 h = tt
+new_halts (Err fault) library mid class missing mo m n fo f g names between found s t unread after is same b1 b2 h =
+    held_halts library (either_of class missing) (of_kind class false) (record { old = mo; new = n }) (record { old = fo; new = g }) names found s (with_missed class s) fault
+    (means_other class unread (rose_until mo m n after is.risen) is.lacking)
+    (held_as_before fault
+    (held_since (trial_of library (of_kind class false) names) missing (with_missed class s) mo m n fo f g found fault b1 b2
+    (subst (λ ns. IsHeld (trial_of library (of_kind class false) ns) missing (with_missed class s) (record { old = m; new = n }) (record { old = f; new = g }) found fault) is.names_are
+    (subst (λ u. IsHeld (trial_of library (of_kind class false) between) missing (with_missed class u) (record { old = m; new = n }) (record { old = f; new = g }) found fault) is.same
+    (subst (λ told. IsHeld (record { told = told; want = of_kind class false; names = between }) missing (with_missed class t) (record { old = m; new = n }) (record { old = f; new = g }) found fault)
+    (same (name_of (of_kind class false))) h)))))
+  where
+    held_as_before : (fault : LoadFault)
+        → IsHeld (trial_of library (of_kind class false) names) missing (with_missed class s) (record { old = mo; new = n }) (record { old = fo; new = g }) found fault
+        → IsHeld (trial_of library (of_kind class false) names) missing s (record { old = mo; new = n }) (record { old = fo; new = g }) found fault
+    held_as_before (Refused refusal) k = k
+    held_as_before (ReadFault file) k = k
+    held_as_before Memory k = k

@@ -12,7 +12,7 @@ use Rattle.actor_files.specs.FileText.{IsText}
 use Rattle.actor_files.specs.Loading.{Counts, Library, max_bytes, max_files}
 use Rattle.actor_files.specs.Reads.{refusal_at}
 use Rattle.fnl_read.specs.Network as net
-use Rattle.source_network.specs.Files.{AreReadBehind, Asked, a_class, Content, Read, Says, bytes_of, is_read, name_of, network_file, wanted}
+use Rattle.source_network.specs.Files.{AreReadBehind, Asked, a_class, Choice, Content, Fits, Read, Says, Wanted, bytes_of, is_read, name_of, network_file, wanted}
 use Rattle.network_files.specs.Requests.{AreAllRead, Request, names_of, requests}
 
 -- the rule that a text breaks first, as a network or as a file of the language, and where
@@ -38,47 +38,50 @@ pub data RefusesFile (told : Told) (network : Bool) (number bytes : ℕ) : Refus
       → RefusesText text network number bytes refusal
       → RefusesFile told network number bytes refusal
 
--- The file of a request, which would have this number behind so many bytes, is refused, and these names stand then: a
--- file that is there has its name there, one that is missing hasn't.
-pub data Refuses (library : Library) (q : Request) (number bytes : ℕ) (misses : Counts) (names : List (List ℕ)) : Refusal
-    → List (List ℕ) → Type 0 where
-  is_missing : HasRisen misses.old misses.new → IsLacking (library (name_of (wanted library q.asked)))
-      → Refuses library q number bytes misses names q.missing names
+-- The file that is wanted, which would have this number behind so many bytes, is refused, and these names stand then: a
+-- file that is there has its name there, one that is missing hasn't, and what is refused is what its request says.
+pub data Refuses (library : Library) (w : Wanted) (missing : Refusal) (number bytes : ℕ) (misses : Counts)
+    (names : List (List ℕ)) : Refusal → List (List ℕ) → Type 0 where
+  is_missing : HasRisen misses.old misses.new → IsLacking (library (name_of w))
+      → Refuses library w missing number bytes misses names missing names
   is_there : (refusal : Refusal)
-      → RefusesFile (library (name_of (wanted library q.asked))) ((wanted library q.asked).network)
-      number bytes refusal
-      → Refuses library q number bytes misses names
-      refusal (names ++ name_of (wanted library q.asked) ∷ [])
+      → RefusesFile (library (name_of w)) w.network number bytes refusal
+      → Refuses library w missing number bytes misses names refusal (names ++ name_of w ∷ [])
 
 -- files were read, and a request is looked at: the files of all those before it are among them
-pub record ComesTo (library : Library) (top : Asked) (reads : List Read) (q : Request) : Type 0 where
-  pub are_read : AreReadBehind library top [] reads
+pub record ComesTo (library : Library) (choice : Choice) (top : Asked) (reads : List Read) (q : Request)
+    : Type 0 where
+  pub are_read : AreReadBehind library choice top [] reads
   pub before : List Request
   pub after : List Request
   pub splits : requests top reads ≡ before ++ q ∷ after
-  pub all_read : AreAllRead library reads before
+  pub all_read : AreAllRead choice reads before
 
--- files are read up to one that is refused
+-- by a choice of networks that fits what the library tells, files are read up to one that is refused
 pub record IsRefused (library : Library) (top : Asked) (misses : Counts) (refusal : Refusal) (names : List (List ℕ))
     : Type 0 where
+  pub choice : Choice
+  pub fits : Fits library choice
   pub reads : List Read
   pub request : Request
-  pub comes : ComesTo library top reads request
-  pub unread : is_read (wanted library request.asked) reads ≡ false
-  pub refuses : Refuses library request (suc (length reads)) (bytes_of reads) misses
-      (names_of reads) refusal names
+  pub comes : ComesTo library choice top reads request
+  pub unread : is_read (wanted choice request.asked) reads ≡ false
+  pub refuses : Refuses library (wanted choice request.asked) request.missing (suc (length reads))
+      (bytes_of reads) misses (names_of reads) refusal names
 
 -- a name that is looked up for what is asked for: of a class that may be either, that of its network comes first
-pub data LooksUp (library : Library) : Asked → List ℕ → Type 0 where
-  looks_up_file : (asked : Asked) → LooksUp library asked (name_of (wanted library asked))
-  looks_up_network : (class : List ℕ) → LooksUp library (a_class class) (network_file class)
+pub data LooksUp (choice : Choice) : Asked → List ℕ → Type 0 where
+  looks_up_file : (asked : Asked) → LooksUp choice asked (name_of (wanted choice asked))
+  looks_up_network : (class : List ℕ) → LooksUp choice (a_class class) (network_file class)
 
--- files are read up to a name whose reading fails: the last name is this one
+-- by such a choice, files are read up to a name whose reading fails: the last name is this one
 pub record IsFaulted (library : Library) (top : Asked) (file : ℕ) (names : List (List ℕ)) : Type 0 where
+  pub choice : Choice
+  pub fits : Fits library choice
   pub reads : List Read
   pub request : Request
-  pub comes : ComesTo library top reads request
+  pub comes : ComesTo library choice top reads request
   pub name : List ℕ
-  pub looks_up : LooksUp library request.asked name
+  pub looks_up : LooksUp choice request.asked name
   pub file_is : file ≡ suc (length reads)
   pub names_are : names ≡ names_of reads ++ name ∷ []

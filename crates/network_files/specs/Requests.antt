@@ -1,16 +1,18 @@
 -- What a top and its files ask for, and what is refused if it isn't there.
 -- Trusted: part of what a promise means.
 use Rattle.std.specs.Prelude.{◌≡◌, ◌⊎◌, ℕ, suc, true, false, List, [], ◌∷◌, ◌++◌, map}
+use Rattle.std.specs.List.{AllByRecursion}
 use Rattle.rvc_base.specs.Rules.{no_file, import_not_found}
 use Rattle.rvc_base.specs.declared.refusal.Refusal.{Refusal}
+use Rattle.rvc_io.specs.Count.{HasRisen}
 use Rattle.cal_imports.specs.Sources.{imports_of}
 use Rattle.cal_imports.specs.Walk.{Edge}
 use Rattle.cal_imports.specs.Whole.{import_edges}
-use Rattle.actor_files.specs.Loading.{Library}
+use Rattle.actor_files.specs.Loading.{Counts}
 use Rattle.actor_files.specs.Reads.{refusal_at}
 use Rattle.fnl_read.specs.Net.{Instance}
 use Rattle.fnl_bind.specs.Library.{instance_class_at}
-use Rattle.source_network.specs.Files.{Asked, a_class, a_network, an_actor, Content, Read, network, source, asked_by_import, asked_by_instance, is_network, is_read, name_of, wanted}
+use Rattle.source_network.specs.Files.{Asked, a_class, a_network, an_actor, Choice, Content, Read, network, source, asked_by_import, asked_by_instance, is_network, is_read, name_of, wanted}
 
 -- what is asked for, and what is refused if it has no file
 pub record Request : Type 0 where
@@ -45,10 +47,10 @@ abbrev pub requests : (top : Asked) → List Read → List Request
 requests top reads = top_request top ∷ requests_from 1 reads
 
 -- the files of all of these are read
-abbrev pub AreAllRead : Library → List Read → List Request → Type 0
-AreAllRead library reads [] = Unit {0}
-AreAllRead library reads (q ∷ qs) =
-    (is_read (wanted library q.asked) reads ≡ true) × AreAllRead library reads qs
+abbrev pub AreAllRead : Choice → List Read → List Request → Type 0
+AreAllRead choice reads [] = Unit {0}
+AreAllRead choice reads (q ∷ qs) =
+    (is_read (wanted choice q.asked) reads ≡ true) × AreAllRead choice reads qs
 
 -- a file of what is asked for is read: of a class that may be either, one of its files
 abbrev pub IsServed : List Read → Asked → Type 0
@@ -61,8 +63,18 @@ IsServed reads (a_class class) =
     ⊎ (is_read (record { class = class; network = false }) reads ≡ true)
 
 abbrev pub AreServed : List Read → List Asked → Type 0
-AreServed reads [] = Unit {0}
-AreServed reads (asked ∷ others) = IsServed reads asked × AreServed reads others
+AreServed reads list = AllByRecursion (IsServed reads) list
+
+-- of a class that may be either, and whose network isn't read, the file of the network was looked up and missed
+abbrev pub IsTried : List Read → (misses : Counts) → Asked → Type 0
+IsTried reads misses (a_network class) = Unit {0}
+IsTried reads misses (an_actor class) = Unit {0}
+IsTried reads misses (a_class class) =
+    is_read (record { class = class; network = true }) reads ≡ false
+    → HasRisen misses.old misses.new
+
+abbrev pub AreTried : List Read → (misses : Counts) → List Asked → Type 0
+AreTried reads misses list = AllByRecursion (IsTried reads misses) list
 
 -- the names of files: that of file k stands at place k - 1
 abbrev pub read_name : Read → List ℕ

@@ -1,6 +1,6 @@
 -- A loading so far.
 -- Not trusted: no promise is read with it.
-use Rattle.std.specs.Prelude.{◌≡◌, ◌≤◌, ◌+◌, ◌⊎◌, ℕ, suc, Bool, true, false, List, [], ◌∷◌, ◌++◌, length, map, string_bytes, Option, None, Some, is_some, if◌then◌else◌}
+use Rattle.std.specs.Prelude.{◌≡◌, ◌≤◌, ◌+◌, ℕ, suc, Bool, true, false, List, [], ◌∷◌, ◌++◌, length, map, string_bytes, Option, None, Some, is_some, if◌then◌else◌}
 use Rattle.std.specs.declared.alloc.Global.{Global as Heap}
 use Rattle.std.specs.declared.collections.VecDeque.{VecDeque}
 use Rattle.std.specs.declared.result.Result.{Result}
@@ -10,17 +10,18 @@ use Rattle.rvc_io.specs.Count.{HasRisen}
 use Rattle.rvc_io.specs.Told.{Told, Untold, Lacking, Holding, IsLacking}
 use Rattle.cal_imports.specs.Sources.{Source, source_named}
 use Rattle.cal_imports.specs.View.{sources}
+use Rattle.cal_scope.specs.Names.{is_among, with_name as with_class}
 use Rattle.actor_files.specs.FileText.{IsText}
-use Rattle.actor_files.specs.Loading.{Counts, Library, TellsAll, max_bytes, max_files}
+use Rattle.actor_files.specs.Loading.{Counts, Library, max_bytes, max_files}
 use Rattle.actor_files.specs.declared.fault.LoadFault.{LoadFault}
 use Rattle.actor_files.specs.declared.fault.LoadFault.TheVariants.{Refused, ReadFault, Memory}
 use Rattle.fnl_bind.specs.Library.{Entry, network_of}
 use Rattle.net_set.specs.View.{networks}
-use Rattle.source_network.specs.Files.{AreReadBehind, Asked, Content, Read, Says, Wanted, a_class, a_network, an_actor, bytes_of, name_of, network_file, networks_from, networks_in, sources_from, sources_in}
+use Rattle.source_network.specs.Files.{AreReadBehind, Asked, Choice, Content, Read, Says, Wanted, a_class, a_network, an_actor, bytes_of, is_read, name_of, network_file, networks_from, networks_in, sources_from, sources_in}
 use Rattle.network_files.specs.Loading.{RefusesFile, RefusesText}
 use Rattle.network_files.specs.Requests as plain
-use Rattle.network_files.specs.Requests.{AreAllRead, AreServed, names_of, requests, requests_by}
-use Rattle.network_files.specs.Views.{AreSaid, IsFault, asked_of}
+use Rattle.network_files.specs.Requests.{AreAllRead, names_of, requests, requests_by}
+use Rattle.network_files.specs.Views.{IsFault, asked_of}
 use Rattle.network_files.specs.declared.loading.Loading.{Loading}
 use Rattle.network_files.specs.declared.requests.Request.{Request}
 
@@ -30,11 +31,12 @@ request_of q = record { asked = asked_of (string_bytes q.class) q.kind; missing 
 abbrev pub waiting_of : VecDeque Request Heap → List plain.Request
 waiting_of waiting = map request_of waiting.items
 
--- the files, how many bytes they have, and the requests that weren't looked at
+-- the files, how many bytes they have, the classes of which no network was found, and the requests that weren't looked at
 pub record State : Type 0 where
   pub networks : List Entry
   pub sources : List Source
   pub bytes : ℕ
+  pub missed : List (List ℕ)
   pub waiting : List plain.Request
 
 abbrev pub state_of : Loading → State
@@ -42,7 +44,18 @@ state_of l = record {
   networks = networks l.files.networks;
   sources = sources l.files.sources;
   bytes = l.bytes;
+  missed = l.missed;
   waiting = waiting_of l.waiting;
+}
+
+-- no network of the class was found
+abbrev pub with_missed : (class : List ℕ) → State → State
+with_missed class s = record {
+  networks = s.networks;
+  sources = s.sources;
+  bytes = s.bytes;
+  missed = with_class class s.missed;
+  waiting = s.waiting;
 }
 
 -- the file that is wanted is there
@@ -57,6 +70,7 @@ pub record AddsFile (w : Wanted) (number : ℕ) (text : List ℕ) (content : Con
   pub networks_are : new.networks ≡ old.networks ++ networks_in w.class number content
   pub sources_are : new.sources ≡ old.sources ++ sources_in w.class number content
   pub bytes_are : new.bytes ≡ old.bytes + length text
+  pub missed_are : new.missed ≡ old.missed
   pub waiting_are : new.waiting ≡ old.waiting ++ requests_by number content
 
 -- .. which is within the limits
@@ -163,80 +177,104 @@ IsThere Untold = Unit {0}
 IsThere Lacking = ⊥
 IsThere (Holding bytes) = Unit {0}
 
--- which file is wanted, as far as that is told
-pub data Means (library : Library) (nets : List Entry) : Asked → Wanted → Type 0 where
+-- Which file is wanted, and how the loading stands once that is known. Of a class that may be either, the file of the
+-- network is looked up, unless it was before; what was found once holds from then on.
+pub data Means (library : Library) (misses : Counts) (s : State) : Asked → Wanted → State → Type 0 where
   means_network : (class : List ℕ)
-      → Means library nets (a_network class) (record { class = class; network = true })
+      → Means library misses s (a_network class) (record { class = class; network = true }) s
   means_actor : (class : List ℕ)
-      → Means library nets (an_actor class) (record { class = class; network = false })
-  means_known : (class : List ℕ) → is_some (network_of class nets) ≡ true
-      → Means library nets (a_class class) (record { class = class; network = true })
-  means_there : (class : List ℕ) → IsThere (library (network_file class))
-      → Means library nets (a_class class) (record { class = class; network = true })
-  means_other : (class : List ℕ) → IsLacking (library (network_file class))
-      → Means library nets (a_class class) (record { class = class; network = false })
+      → Means library misses s (an_actor class) (record { class = class; network = false }) s
+  means_missed : (class : List ℕ) → is_among class s.missed ≡ true
+      → Means library misses s (a_class class) (record { class = class; network = false }) s
+  means_known : (class : List ℕ) → is_among class s.missed ≡ false
+      → is_some (network_of class s.networks) ≡ true
+      → Means library misses s (a_class class) (record { class = class; network = true }) s
+  means_there : (class : List ℕ) → is_among class s.missed ≡ false
+      → IsThere (library (network_file class))
+      → Means library misses s (a_class class) (record { class = class; network = true }) s
+  means_other : (class : List ℕ) → is_some (network_of class s.networks) ≡ false
+      → HasRisen misses.old misses.new → IsLacking (library (network_file class))
+      → Means library misses s (a_class class) (record { class = class; network = false })
+      (with_missed class s)
 
 abbrev pub trial_of : Library → Wanted → (names : List (List ℕ)) → Trial
 trial_of library w names =
     record { told = library (name_of w); want = w; names = names }
 
 -- the file of a request was added, or it was there
-pub record Takes (library : Library) (q : plain.Request) (names found : List (List ℕ)) (old new : State) (added : Bool)
-    : Type 0 where
+pub record Takes (library : Library) (q : plain.Request) (misses : Counts) (names found : List (List ℕ))
+    (old new : State) (added : Bool) : Type 0 where
   pub want : Wanted
-  pub means : Means library old.networks q.asked want
-  pub taken : IsTaken (trial_of library want names) found old new added
+  pub known : State
+  pub means : Means library misses old q.asked want known
+  pub taken : IsTaken (trial_of library want names) found known new added
 
 -- a request is refused
 pub record Denies (library : Library) (q : plain.Request) (misses : Counts) (names found : List (List ℕ)) (s : State)
     (refusal : Refusal) : Type 0 where
   pub want : Wanted
-  pub means : Means library s.networks q.asked want
+  pub known : State
+  pub means : Means library misses s q.asked want known
   pub unread : has want s.networks s.sources ≡ false
   pub denied : IsDenied (trial_of library want names) q.missing s.bytes misses found refusal
 
+-- the name that is looked up is that of the file that is wanted, or of the network of a class that may be either
+pub data Tries (library : Library) (misses : Counts) (s : State) : Asked → Wanted → Type 0 where
+  tries_file : {asked : Asked} {w : Wanted} (known : State) → Means library misses s asked w known
+      → Tries library misses s asked w
+  tries_network : (class : List ℕ)
+      → Tries library misses s (a_class class) (record { class = class; network = true })
+
 -- the reading of a name failed
-pub record Fails (library : Library) (q : plain.Request) (faults : Counts) (names found : List (List ℕ)) (s : State)
-    (file : ℕ) : Type 0 where
+pub record Fails (library : Library) (q : plain.Request) (misses faults : Counts) (names found : List (List ℕ))
+    (s : State) (file : ℕ) : Type 0 where
   pub want : Wanted
-  pub means : Means library s.networks q.asked want
-      ⊎ ((class : List ℕ) × (q.asked ≡ a_class class) × (want ≡ record { class = class; network = true }))
+  pub tries : Tries library misses s q.asked want
   pub failed : IsFailed (trial_of library want names) faults found file
 
 abbrev pub Halts : Library → plain.Request → (misses faults : Counts) → (names found : List (List ℕ)) → State → LoadFault → Type 0
 Halts library q misses faults names found s (Refused refusal) =
     Denies library q misses names found s refusal
 Halts library q misses faults names found s (ReadFault file) =
-    Fails library q faults names found s file
+    Fails library q misses faults names found s file
 Halts library q misses faults names found s Memory = Unit {0}
 
 -- ---- how a loading stands
 
+-- a choice is as what was found: a class is no network if it was missed, and one if its network was read before
+pub record Agrees (choice : Choice) (missed : List (List ℕ)) (reads : List Read) : Type 0 where
+  pub lacks : (class : List ℕ) → is_among class missed ≡ true → choice class ≡ false
+  pub known : (class : List ℕ) → is_among class missed ≡ false
+      → is_read (record { class = class; network = true }) reads ≡ true → choice class ≡ true
+
 -- requests were looked at, and their files are among those that were read
-pub record IsLookedAt (library : Library) (top : Asked) (done : List Read) (waiting : List plain.Request) : Type 0 where
+pub record IsLookedAt (top : Asked) (done : List Read) (missed : List (List ℕ)) (waiting : List plain.Request)
+    : Type 0 where
   pub passed : List plain.Request
   pub splits : requests top done ≡ passed ++ waiting
-  pub all_read : TellsAll library → AreAllRead library done passed
-  pub served : AreServed done (map (λ q. q.asked) passed)
+  pub all_read : (choice : Choice) → Agrees choice missed done → AreAllRead choice done passed
 
 -- these files were read
 pub record IsSoFar (library : Library) (top : Asked) (done : List Read) (names : List (List ℕ)) (s : State)
     : Type 0 where
-  pub are_read : TellsAll library → AreReadBehind library top [] done
-  pub are_said : AreSaid done
+  pub are_read : (choice : Choice) → Agrees choice s.missed done
+      → AreReadBehind library choice top [] done
+  pub are_lacking : (class : List ℕ) → is_among class s.missed ≡ true
+      → IsLacking (library (network_file class))
   pub networks_are : s.networks ≡ networks_from 1 done
   pub sources_are : s.sources ≡ sources_from 1 done
   pub names_are : names ≡ names_of done
   pub bytes_are : s.bytes ≡ bytes_of done
   pub few : length done ≤ max_files
   pub small : s.bytes ≤ max_bytes
-  pub looked_at : IsLookedAt library top done s.waiting
+  pub looked_at : IsLookedAt top done s.missed s.waiting
 
 -- nothing was read, and the top is asked for
 pub record IsBegun (top : Asked) (s : State) : Type 0 where
   pub networks_are : s.networks ≡ []
   pub sources_are : s.sources ≡ []
   pub bytes_are : s.bytes ≡ 0
+  pub missed_are : s.missed ≡ []
   pub waiting_are : s.waiting ≡ plain.top_request top ∷ []
 
 -- some were
@@ -264,6 +302,7 @@ seen files faults misses names state = record {
 -- files of the library were read, and of it everything else is as it was when so much was counted
 pub record IsLoading (library : Library) (faults misses : ℕ) (top : Asked) (now : Seen) : Type 0 where
   pub has_read : HasRead library top now.names now.state
+  pub tried : (class : List ℕ) → is_among class now.state.missed ≡ true → HasRisen misses now.misses
   pub same_files : (other : List ℕ) → now.files other ≡ library other
   pub faults_stay : faults ≤ now.faults
   pub misses_stay : misses ≤ now.misses

@@ -1,18 +1,18 @@
 -- What loading gives, without where it lies in memory.
 -- Trusted: part of what a promise means.
-use Rattle.std.specs.Prelude.{◌≡◌, ◌⊎◌, ℕ, true, List, [], ◌∷◌, is_some}
+use Rattle.std.specs.Prelude.{◌≡◌, ◌⊎◌, ℕ, true, List, ◌∷◌, is_some}
 use Rattle.rvc_io.specs.Count.{HasRisen}
 use Rattle.cal_imports.specs.Sources.{source_named}
 use Rattle.cal_imports.specs.View.{sources}
-use Rattle.actor_files.specs.Loading.{Counts, Library, TellsAll}
+use Rattle.actor_files.specs.Loading.{Counts, Library}
 use Rattle.actor_files.specs.declared.fault.LoadFault.{LoadFault}
 use Rattle.actor_files.specs.declared.fault.LoadFault.TheVariants.{Refused, ReadFault, Memory}
 use Rattle.fnl_bind.specs.Library.{network_of}
 use Rattle.net_set.specs.View.{networks}
-use Rattle.source_network.specs.Files.{AreLoaded, Asked, Read, Says, a_class, a_network, an_actor, asked_by_all, files_of, is_network}
+use Rattle.source_network.specs.Files.{AreLoaded, Asked, Read, a_class, a_network, an_actor, asked_by_all, files_of}
 use Rattle.source_network.specs.Source.{Files}
 use Rattle.network_files.specs.Loading.{IsFaulted, IsRefused}
-use Rattle.network_files.specs.Requests.{AreServed, names_of}
+use Rattle.network_files.specs.Requests.{AreTried, names_of}
 use Rattle.network_files.specs.declared.kind.FileKind.{FileKind}
 use Rattle.network_files.specs.declared.kind.FileKind.TheVariants as kinds
 use Rattle.network_files.specs.declared.files.NetworkFiles.{NetworkFiles}
@@ -39,25 +39,19 @@ HasFile (an_actor class) files = is_some (source_named class files.sources) ≡ 
 HasFile (a_class class) files = (is_some (network_of class files.networks) ≡ true)
     ⊎ (is_some (source_named class files.sources) ≡ true)
 
--- each of these files says what its bytes spell
-abbrev pub AreSaid : List Read → Type 0
-AreSaid [] = Unit {0}
-AreSaid (r ∷ rs) = Says r.text (is_network r.content) r.content × AreSaid rs
-
--- .. which are all that the top needs, if the library tells of each name; in any case they serve all that is asked for, and
--- say what their bytes spell
-pub record HoldsLoaded (library : Library) (top : Asked) (files : Files) (names : List (List ℕ)) : Type 0 where
+-- these files are all that the top needs, and a class is an actor only if the file of its network was looked up and missed
+pub record HoldsLoaded (library : Library) (top : Asked) (misses : Counts) (files : Files) (names : List (List ℕ))
+    : Type 0 where
   pub reads : List Read
-  pub are_loaded : TellsAll library → AreLoaded library top reads
-  pub are_served : AreServed reads (top ∷ asked_by_all reads)
-  pub are_said : AreSaid reads
+  pub are_loaded : AreLoaded library top reads
+  pub are_tried : AreTried reads misses (top ∷ asked_by_all reads)
   pub holds : HoldsFiles reads files names
 
 -- Why nothing is given: a file is refused, or the reading of one failed and was counted. Out of memory says nothing.
 abbrev pub IsFault : Library → (top : Asked) → (misses faults : Counts) → (names : List (List ℕ)) → LoadFault
     → Type 0
 IsFault library top misses faults names (Refused refusal) =
-    TellsAll library → IsRefused library top misses refusal names
+    IsRefused library top misses refusal names
 IsFault library top misses faults names (ReadFault file) =
-    HasRisen faults.old faults.new × (TellsAll library → IsFaulted library top file names)
+    HasRisen faults.old faults.new × IsFaulted library top file names
 IsFault library top misses faults names Memory = Unit {0}

@@ -1,6 +1,6 @@
 //! What holds of files as a library tells them.
 
-ghost use Rattle.network_files.specs.Laws.{LeavesHaveFiles, LoadedIsNotRefused};
+ghost use Rattle.network_files.specs.Laws.{LeavesAreTried, LeavesHaveFiles, LoadedAreServed, LoadedIsNotRefused};
 
 use cal_grammar::one_tree;
 use fnl_grammar::files_are_read_as_they_are_spelled;
@@ -13,8 +13,10 @@ pub fn one_outcome()
     files_are_read_as_they_are_spelled();
 }
 
-/// Files that serve all that is asked for, as those of [`load_network`](crate::load_network) do, have one for each actor of
-/// the tree that their networks make.
+/// All files that a top needs serve all that is asked for (`served`). Such files have one for each actor of the tree that
+/// their networks make (`leaves`). The class of each was looked up as a network before, and missed (`tried`).
 pub fn leaves_have_files()
-    ensures { LeavesHaveFiles }
+    ensures served { LoadedAreServed }
+    ensures leaves { LeavesHaveFiles }
+    ensures tried { LeavesAreTried }
 {}

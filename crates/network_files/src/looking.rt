@@ -17,6 +17,7 @@ use crate::requests::first_requests;
 use crate::taking::take;
 use actor_files::{LoadFault, Names};
 use cal_imports::FileSet;
+use cal_scope::NameSet;
 use net_set::NetSet;
 use rvc_io::Library;
 use source_network::one_library_network;
@@ -25,6 +26,9 @@ use std::alloc::Global;
 /// Reads the file of the top, and each file that is asked for from there on, once. The top is a class, and which of its
 /// files is meant. The files have numbers from 1 in this order, and `names` gets the name of file k at place k - 1, also
 /// that of a file that is found and refused, or of a name whose reading fails.
+///
+/// Of the class of an instance the file of its network is looked up first. Whether it is there is asked once: if it was
+/// missed, the class is an actor from then on (`loaded`).
 ///
 /// If the library tells of each name, files that can all be read are read (`complete`), and files of which one is refused
 /// aren't (`incomplete`), unless a reading fails or memory runs out.
@@ -43,6 +47,7 @@ pub fn load_network<L: Library>(
 ) -> Result<NetworkFiles, LoadFault>
     requires { file_names names.old ≡ [] }
     ensures loaded { IfOk result (λ files. HoldsLoaded (L.file library.old) (asked_of top.now kind)
+        (record { old = L.misses library.old; new = L.misses library.new })
         (files_in files) (file_names names.new)) }
     ensures has_top { IfOk result (λ files. HasFile (asked_of top.now kind) (files_in files)) }
     ensures fault { IfErr result (IsFault (L.file library.old) (asked_of top.now kind)
@@ -79,6 +84,7 @@ fn load_all<L: Library>(
 ) -> Result<NetworkFiles, LoadFault>
     requires { file_names names.old ≡ [] }
     ensures loaded { IfOk result (λ files. HoldsLoaded (L.file library.old) (asked_of top.now kind)
+        (record { old = L.misses library.old; new = L.misses library.new })
         (files_in files) (file_names names.new)) }
     ensures fault { IfErr result (IsFault (L.file library.old) (asked_of top.now kind)
         (record { old = L.misses library.old; new = L.misses library.new })
@@ -109,6 +115,7 @@ fn first_loading(alloc: Global, top: &str, kind: FileKind) -> Result<Loading, Lo
             sources: FileSet::new(alloc)?,
         },
         bytes: 0,
+        missed: NameSet::new(alloc),
         waiting: first_requests(alloc, top, kind)?,
     })
 }

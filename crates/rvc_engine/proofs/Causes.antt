@@ -74,7 +74,6 @@ bare_net files class tree trees ready is bound_is sound =
       sound_tree = sound;
       leaves = subst (λ t. AreLeavesIn files class t.leaves) (sym bound_is.is) (AreLeavesIn.of_network {top = top.value} top.is bound_is.conforms);
       spelled = ready.spelled;
-      formed = ready.formed;
     }
 
 -- it has few leaves

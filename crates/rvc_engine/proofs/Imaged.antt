@@ -1,5 +1,5 @@
 -- What is answered of an image.
-use Rattle.std.proofs.Common.{◌⊎◌, inl, inr, ℕ, List, refl, subst}
+use Rattle.std.proofs.Common.{◌≡◌, ◌⊎◌, inl, inr, ℕ, List, refl, sym, subst}
 use Rattle.std.specs.Prelude.{Result, Ok, Err, IfErr, IfOk, IsErr, MatchResult}
 use Rattle.rvc_base.specs.declared.refusal.Refusal.{Refusal}
 use Rattle.actor_files.specs.Loading.{Counts, Library, TellsAll}
@@ -9,6 +9,7 @@ use Rattle.network_files.specs.Views.{files_in}
 use Rattle.source_network.specs.Files.{Asked, class_asked}
 use Rattle.source_network.specs.Library.{IsLibraryNetwork, LibraryNetworksAreOne}
 use Rattle.rvc_engine.specs.Built.{IsBuilt, IsImageOf}
+use Rattle.rvc_engine.specs.Checked.{CountsMisses}
 use Rattle.rvc_engine.specs.Images.{IsLeftOver, MeansNet}
 use Rattle.rvc_engine.specs.Laws.{NetworksAreNotRefused}
 use Rattle.rvc_engine.specs.NotBuilt.{IsNoImage, IsNotBuilt, IsUnbuilt, LacksForm}
@@ -21,39 +22,43 @@ use Rattle.rvc_engine.specs.declared.fault.BuildFault.TheVariants.{Refused, Read
 
 -- ---- of files that were checked
 
-pub built_of : (r : Result Image BuildFault) (library : Library) (top : Asked) (names : List (List ℕ)) (held : Held) → IsHeld library top names held
+pub built_of : (r : Result Image BuildFault) (library : Library) (top : Asked) (misses : Counts) (names : List (List ℕ)) (held : Held) → IsHeld library top misses names held
     → IfOk r (IsImageOf (files_in held.files) (class_asked top)) → IfOk r (IsBuilt library top names)
-built_of (Ok image) library top names held h is =
+built_of (Ok image) library top misses names held h is =
     record { reads = h.reads; are_read = h.are_read; is_image = subst (λ fs. IsImageOf fs (class_asked top) image) h.files_are is }
-built_of (Err f) library top names held h is = tt
+built_of (Err f) library top misses names held h is = tt
 
-pub no_image : (r : Result Image BuildFault) (library : Library) (top : Asked) (misses faults : Counts) (names : List (List ℕ)) (held : Held) → IsHeld library top names held
+pub built_missed : (r : Result Image BuildFault) (library : Library) (top : Asked) (misses : Counts) (names : List (List ℕ)) (held : Held) → IsHeld library top misses names held
+    → IfOk r (λ image. image.flat ≡ held.checked.flat) → IfOk r (λ image. CountsMisses top misses image.flat)
+built_missed (Ok image) library top misses names held h same = subst (CountsMisses top misses) (sym same) h.missed
+built_missed (Err f) library top misses names held h same = tt
+
+pub no_image : (r : Result Image BuildFault) (library : Library) (top : Asked) (misses faults : Counts) (names : List (List ℕ)) (held : Held) → IsHeld library top misses names held
     → IfErr r (IsLeftOver (files_in held.files) (class_asked top)) → IfErr r (IsNoImage library top misses faults names)
 no_image (Ok image) library top misses faults names held h why = tt
-no_image (Err (Refused r)) library top misses faults names held h why = λ tells. inr (record {
+no_image (Err (Refused r)) library top misses faults names held h why = inr (record {
   reads = h.reads;
-  are_loaded = h.are_read.are_loaded tells;
+  are_loaded = h.are_read.are_loaded;
   names_are = h.are_read.names_are;
   not_built = subst (λ fs. IsNotBuilt fs (class_asked top) r) h.files_are why;
 })
 no_image (Err (ReadFault file)) library top misses faults names held h why = absurd why
 no_image (Err Memory) library top misses faults names held h why = tt
 
--- ---- what a library that tells of each name decides
-
 -- what was compiled is the library's network
-library_image : (library : Library) (top : Asked) (names : List (List ℕ)) (image : Image) (h : IsBuilt library top names image) → TellsAll library
+library_image : (library : Library) (top : Asked) (names : List (List ℕ)) (image : Image) (h : IsBuilt library top names image)
     → IsLibraryNetwork library top h.is_image.net
-library_image library top names image h tells =
-    record { reads = h.reads; are_loaded = h.are_read.are_loaded tells; means = h.is_image.means }
+library_image library top names image h = record { reads = h.reads; are_loaded = h.are_read.are_loaded; means = h.is_image.means }
+
+-- ---- what a library that tells of each name decides
 
 pub completes_image : (r : Result Image BuildFault) (library : Library) (top : Asked) (misses faults : Counts) (names : List (List ℕ)) (net : Network State)
     → LibraryNetworksAreOne → NetworksAreNotRefused → TellsAll library → IsLibraryNetwork library top net
     → IfOk r (IsBuilt library top names) → IfErr r (IsNoImage library top misses faults names) → MatchResult r (λ image. MeansNet image net) (IsUnbuilt library top names)
 completes_image (Ok image) library top misses faults names net one kept tells is h k =
-    subst (MeansNet image) (one library top h.is_image.net net tells (library_image library top names image h tells) is)
+    subst (MeansNet image) (one library top h.is_image.net net tells (library_image library top names image h) is)
     (record { actors = h.is_image.means.actors; has = h.is_image.has })
-completes_image (Err (Refused r)) library top misses faults names net one kept tells is h k = go (k tells)
+completes_image (Err (Refused r)) library top misses faults names net one kept tells is h k = go k
   where
     go : RefusesTop library top misses names r ⊎ LacksForm library top names r → LacksForm library top names r
     go (inl refused) = absurd (kept library top net misses names r tells is refused)
@@ -65,5 +70,5 @@ pub refuses_image : (r : Result Image BuildFault) (library : Library) (top : Ask
     → NetworksAreNotRefused → TellsAll library → RefusesTop library top misses found refusal
     → IfOk r (IsBuilt library top names) → IsErr r
 refuses_image (Ok image) library top misses names found refusal kept tells is h =
-    absurd (kept library top h.is_image.net misses found refusal tells (library_image library top names image h tells) is)
+    absurd (kept library top h.is_image.net misses found refusal tells (library_image library top names image h) is)
 refuses_image (Err f) library top misses names found refusal kept tells is h = refl

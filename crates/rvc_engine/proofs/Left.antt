@@ -27,7 +27,7 @@ use Rattle.rvc_engine.specs.Compiling.{AreCompiled}
 use Rattle.rvc_engine.specs.declared.compiling.Compiled.{Compiled}
 use Rattle.rvc_engine.proofs.Compiled.{as_many_compiled}
 use Rattle.rvc_engine.specs.Images.{HasScope, IsLeftOver, IsPlaced, start_of}
-use Rattle.rvc_engine.specs.NotBuilt.{LacksCode, of_part, of_whole}
+use Rattle.rvc_engine.specs.NotBuilt.{LacksCode, of_part, of_facts}
 use Rattle.rvc_engine.specs.declared.checked.Checked.{Checked}
 use Rattle.rvc_engine.specs.declared.fault.BuildFault.{BuildFault}
 use Rattle.rvc_engine.specs.declared.fault.BuildFault.TheVariants.{Refused}
@@ -176,7 +176,7 @@ left_whole files class checked number place b said h is fault same =
     let bound : b ≡ h.bound = some_same _ b h.bound is h.is_bound in
     subst (IsLeftOver files class) (sym same)
     (not_built_of files class checked number place place.offset h
-    (subst (LacksCode (actor_of h.bound) h.scope) (sym (ap (λ p. p.offset) h.begins)) (of_whole h.bound refl (subst (λ x. IsActorFault x lowering.NotSeen) bound fault))))
+    (subst (LacksCode (actor_of h.bound) h.scope) (sym (ap (λ p. p.offset) h.begins)) (of_facts h.bound refl (subst (λ x. IsActorFault x lowering.NotSeen) bound fault))))
 
 -- ---- the image of those that are compiled
 

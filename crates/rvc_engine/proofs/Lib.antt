@@ -6,6 +6,7 @@ mod Causes
 mod OneOrder
 mod Kept
 mod Ready
+mod Counted
 mod Ended
 mod LoneTrees
 mod Compiled

@@ -1,24 +1,16 @@
 -- Files that were loaded can be checked.
-use Rattle.std.proofs.Common.{◌≡◌, ◌⊎◌, inl, inr, ℕ, true, List, [], ◌∷◌, refl, sym, subst}
+use Rattle.std.proofs.Common.{◌≡◌, ◌⊎◌, inl, inr, ℕ, true, List, refl, sym, subst}
 use Rattle.std.specs.Prelude.{is_some}
 use Rattle.cal_imports.specs.Sources.{source_named}
-use Rattle.actor_files.specs.Loading.{Library}
-use Rattle.distinct_names.specs.Names as names
-use Rattle.distinct_names.specs.Names.{AreSpelled, SaidFilesAreSpelled}
+use Rattle.actor_files.specs.Loading.{Counts, Library}
+use Rattle.distinct_names.specs.Names.{AreSpelled, NetworkFilesAreSpelled}
 use Rattle.fnl_bind.specs.Library.{network_of}
-use Rattle.network_files.specs.Views.{AreSaid, HasFile, HoldsLoaded, asked_of}
+use Rattle.network_files.specs.Views.{HasFile, HoldsLoaded, asked_of}
 use Rattle.network_files.specs.declared.kind.FileKind.{FileKind}
 use Rattle.network_files.specs.declared.kind.FileKind.TheVariants as kinds
-use Rattle.source_network.specs.Files.{Read, class_asked}
+use Rattle.source_network.specs.Files.{class_asked}
 use Rattle.source_network.specs.Source.{Files}
-use Rattle.rvc_engine.specs.Formed.{SpelledAreFormed}
 use Rattle.rvc_engine.specs.Steps.{AreReady}
-
--- ---- what was read is spelled
-
-said : (reads : List Read) → AreSaid reads → names.AreSaid reads
-said [] h = tt
-said (r ∷ reads) h = (h.0, said reads h.1)
 
 -- ---- the class that is asked for
 
@@ -35,13 +27,12 @@ has_class class kinds.Either files h = h
 
 -- ---- the whole
 
-pub ready : (library : Library) (class : List ℕ) (kind : FileKind) (files : Files) (names : List (List ℕ)) → SaidFilesAreSpelled → SpelledAreFormed
-    → HasFile (asked_of class kind) files → HoldsLoaded library (asked_of class kind) files names → AreReady files class
-ready library class kind files told spelled formed has h = record {
+pub ready : (library : Library) (class : List ℕ) (kind : FileKind) (misses : Counts) (files : Files) (names : List (List ℕ)) → NetworkFilesAreSpelled
+    → HasFile (asked_of class kind) files → HoldsLoaded library (asked_of class kind) misses files names → AreReady files class
+ready library class kind misses files told spelled has h = record {
   has_top = has_class class kind files has;
   spelled = sources_spelled;
-  formed = λ c scope is. formed files.sources c scope sources_spelled is;
 }
   where
     sources_spelled : AreSpelled files.sources
-    sources_spelled = subst (λ fs. AreSpelled fs.sources) (sym h.holds.files_are) (spelled h.reads (said h.reads h.are_said))
+    sources_spelled = subst (λ fs. AreSpelled fs.sources) (sym h.holds.files_are) (spelled library (asked_of class kind) h.reads h.are_loaded)

@@ -6,8 +6,7 @@ use Rattle.std.specs.Str.{bytes_eq}
 use Rattle.std.proofs.lemmas.List.{append_cancel_left, drop-drop, take-append-drop}
 use Rattle.cal_imports.specs.Sources.{dot}
 use Rattle.actor_files.specs.FileNames.{class_of, path_of, replaced, slash}
-use Rattle.actor_files.specs.Loading.{Library}
-use Rattle.source_network.specs.Files.{a_network, an_actor, name_of, wanted}
+use Rattle.source_network.specs.Files.{a_network, an_actor, Choice, name_of, wanted}
 use Rattle.rvc_engine.specs.Top.{TopsAreRead, ending_of}
 
 one_more : (n : ℕ) → 1 + n ≡ suc n
@@ -45,13 +44,13 @@ ending_is top rest x h =
     n = position_or_len (λ b. b == dot) top
 
 -- the class and the file of a top, by whether it ends as a network
-abbrev asked_name : Library → List ℕ → Bool → List ℕ
-asked_name library top b = name_of (wanted library (if b then a_network (class_of top) else an_actor (class_of top)))
+abbrev asked_name : Choice → List ℕ → Bool → List ℕ
+asked_name choice top b = name_of (wanted choice (if b then a_network (class_of top) else an_actor (class_of top)))
 
 pub tops_are_read : TopsAreRead
-tops_are_read library top (inl h) =
+tops_are_read choice top (inl h) =
     let actor : bytes_eq (ending_of top) (codes "xdf") ≡ false = ap (λ e. bytes_eq e (codes "xdf")) (ending_is top (codes "cal") dot h) in
-    ap (asked_name library top) actor ∙ ap (λ p. p ++ codes ".cal") (there_and_back top) ∙ sym h
-tops_are_read library top (inr h) =
+    ap (asked_name choice top) actor ∙ ap (λ p. p ++ codes ".cal") (there_and_back top) ∙ sym h
+tops_are_read choice top (inr h) =
     let net : bytes_eq (ending_of top) (codes "xdf") ≡ true = ap (λ e. bytes_eq e (codes "xdf")) (ending_is top (codes "xdf") dot h) in
-    ap (asked_name library top) net ∙ ap (λ p. p ++ codes ".xdf") (there_and_back top) ∙ sym h
+    ap (asked_name choice top) net ∙ ap (λ p. p ++ codes ".xdf") (there_and_back top) ∙ sym h

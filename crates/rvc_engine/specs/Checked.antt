@@ -6,13 +6,14 @@ use Rattle.cal_model.specs.Firing.{behaviour}
 use Rattle.cal_model.specs.Selection.{Priorities, State}
 use Rattle.cal_model.specs.Sound.{Each, IsSound}
 use Rattle.net_model.specs.Network.{Leaf as NetLeaf, Network}
-use Rattle.actor_files.specs.Loading.{Library, TellsAll}
+use Rattle.rvc_io.specs.Count.{HasRisen}
+use Rattle.actor_files.specs.Loading.{Counts, Library}
 use Rattle.fnl_flatten.specs.declared.flat.Flat.{Flat}
 use Rattle.leaf_actors.specs.Leaves.{HasSoundActors, IsWithin, actors_at_leaves}
 use Rattle.leaf_actors.specs.declared.found.LeafActors.{LeafActors}
 use Rattle.network_files.specs.Requests.{names_of}
 use Rattle.source_network.specs.Answers.{HasWiring}
-use Rattle.source_network.specs.Files.{AreLoaded, Asked, Read, class_asked, files_of}
+use Rattle.source_network.specs.Files.{AreLoaded, Asked, Read, a_class, a_network, an_actor, class_asked, files_of}
 use Rattle.source_network.specs.Source.{Files, IsSourceNetwork}
 use Rattle.rvc_engine.specs.declared.checked.Checked.{Checked}
 
@@ -59,9 +60,9 @@ pub record HasSource (files : Files) (class : List ℕ) (c : Checked) : Type 0 w
   pub same_actors : means.actors ≡ actors_at_leaves c.actors
   pub stand : StandAtLeaves c.actors
 
--- These files were read, and these are their names. They are all that the top needs, if the library tells of each name.
+-- these files were read, which are all that the top needs, and these are their names
 pub record AreRead (library : Library) (top : Asked) (names : List (List ℕ)) (reads : List Read) : Type 0 where
-  pub are_loaded : TellsAll library → AreLoaded library top reads
+  pub are_loaded : AreLoaded library top reads
   pub names_are : names ≡ names_of reads
 
 -- .. and what was checked is the network that they mean
@@ -69,6 +70,13 @@ pub record IsChecked (library : Library) (top : Asked) (names : List (List ℕ))
   pub reads : List Read
   pub are_read : AreRead library top names reads
   pub source : HasSource (files_of reads) (class_asked top) c
+
+-- An actor within a network was looked up as a network first, and missed: if there is one, a miss was counted.
+abbrev pub CountsMisses : (top : Asked) → (misses : Counts) → Flat → Type 0
+CountsMisses (a_network class) misses flat =
+    0 < length flat.paths.items → HasRisen misses.old misses.new
+CountsMisses (an_actor class) misses flat = Unit {0}
+CountsMisses (a_class class) misses flat = Unit {0}
 
 -- what was checked is at most one network
 abbrev pub CheckedAreOne : Type 0

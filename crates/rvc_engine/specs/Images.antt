@@ -1,5 +1,5 @@
 -- The steps from a network that was checked to an image.
--- Trusted but for the last three: part of what a promise means.
+-- Trusted but for `IsAnySource`, `HasScope`, `start_of`, `IsPlaced` and `IsLeftOver`: part of what a promise means.
 use Rattle.std.specs.Prelude.{◌≡◌, ℕ, List, Some, slice_get}
 use Rattle.rvc_base.specs.declared.refusal.Place.{Place}
 use Rattle.cal_check.specs.Actors.{place_of}

@@ -1,4 +1,3 @@
-pub mod Formed
 pub mod Top
 pub mod Checked
 pub mod Refused

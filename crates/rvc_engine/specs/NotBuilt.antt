@@ -13,7 +13,7 @@ use Rattle.cal_model.specs.Selection.{State}
 use Rattle.cal_model.specs.View.{actor_of}
 use Rattle.cal_model.specs.declared.bound.Bound.{Bound}
 use Rattle.net_model.specs.Network.{Network}
-use Rattle.actor_files.specs.Loading.{Counts, Library, TellsAll}
+use Rattle.actor_files.specs.Loading.{Counts, Library}
 use Rattle.actor_lower.specs.Faults.{IsActorFault}
 use Rattle.actor_lower.specs.declared.fault.ActorFault.TheVariants as lowering
 use Rattle.fnl_tree.specs.Tree.{Leaf}
@@ -27,12 +27,12 @@ use Rattle.rvc_engine.specs.declared.fault.BuildFault.TheVariants.{Refused, Read
 
 -- ---- forms without code
 
--- An actor has a part for which no code is made yet, at this offset of its file; or no code is made of the whole, and the
--- offset is that of the actor.
+-- An actor lacks code, at this offset of its file: a part that stands there has a form for which none is made yet; or no part
+-- is left out, but the code of its actions isn't seen to keep the facts that they rely on, and the offset is the actor's own.
 pub data LacksCode (actor : Actor) (scope : Scope) : (at : ℕ) → Type 0 where
   of_part : (b : Bound) (at : ℕ) → actor_of b ≡ actor → IsActorFault b (lowering.NotLowered at)
       → LacksCode actor scope at
-  of_whole : (b : Bound) → actor_of b ≡ actor → IsActorFault b lowering.NotSeen
+  of_facts : (b : Bound) → actor_of b ≡ actor → IsActorFault b lowering.NotSeen
       → LacksCode actor scope (place_of scope.actor)
 
 -- files mean a network, and an actor of it lacks code: its form isn't built yet
@@ -63,10 +63,10 @@ pub record LacksForm (library : Library) (top : Asked) (names : List (List ℕ))
 -- says nothing.
 abbrev pub IsNoImage : Library → (top : Asked) → (misses faults : Counts) → (names : List (List ℕ)) → BuildFault
     → Type 0
-IsNoImage library top misses faults names (Refused r) = TellsAll library
-    → RefusesTop library top misses names r ⊎ LacksForm library top names r
+IsNoImage library top misses faults names (Refused r) =
+    RefusesTop library top misses names r ⊎ LacksForm library top names r
 IsNoImage library top misses faults names (ReadFault file) =
-    HasRisen faults.old faults.new × (TellsAll library → IsFaulted library top file names)
+    HasRisen faults.old faults.new × IsFaulted library top file names
 IsNoImage library top misses faults names Memory = Unit {0}
 
 -- a form isn't built, a reading failed, or memory ran out

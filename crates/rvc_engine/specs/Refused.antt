@@ -4,7 +4,7 @@ use Rattle.std.specs.Prelude.{◌≡◌, ℕ, List, [], ◌∷◌, map, None, So
 use Rattle.rvc_base.specs.declared.refusal.Front.TheVariants as front
 use Rattle.rvc_base.specs.declared.refusal.Refusal.{Refusal}
 use Rattle.rvc_io.specs.Count.{HasRisen}
-use Rattle.actor_files.specs.Loading.{Counts, Library, TellsAll}
+use Rattle.actor_files.specs.Loading.{Counts, Library}
 use Rattle.cal_imports.specs.Answer.{Refuses}
 use Rattle.cal_imports.specs.Resolved.{resolved}
 use Rattle.cal_model.specs.Actor.{Actor}
@@ -66,10 +66,9 @@ pub data RefusesTop (library : Library) (top : Asked) (misses : Counts) (names :
 -- Why nothing is given: the top is refused, or the reading of a file failed and was counted. Out of memory says nothing.
 abbrev pub IsFault : Library → (top : Asked) → (misses faults : Counts) → (names : List (List ℕ)) → BuildFault
     → Type 0
-IsFault library top misses faults names (Refused r) =
-    TellsAll library → RefusesTop library top misses names r
+IsFault library top misses faults names (Refused r) = RefusesTop library top misses names r
 IsFault library top misses faults names (ReadFault file) =
-    HasRisen faults.old faults.new × (TellsAll library → IsFaulted library top file names)
+    HasRisen faults.old faults.new × IsFaulted library top file names
 IsFault library top misses faults names Memory = Unit {0}
 
 -- a reading failed, or memory ran out

@@ -3,7 +3,7 @@
 use Rattle.std.specs.Prelude.{◌≡◌, ◌⊎◌, ℕ, true, List, [], ◌∷◌, is_some, map}
 use Rattle.rvc_base.specs.declared.refusal.Front.{Front}
 use Rattle.rvc_base.specs.declared.refusal.Front.TheVariants as front
-use Rattle.actor_files.specs.Loading.{Library}
+use Rattle.actor_files.specs.Loading.{Counts, Library}
 use Rattle.actor_files.specs.declared.fault.LoadFault.{LoadFault}
 use Rattle.actor_files.specs.declared.fault.LoadFault.TheVariants as load
 use Rattle.cal_imports.specs.Sources.{source_named}
@@ -14,12 +14,12 @@ use Rattle.fnl_tree.specs.Sound.{IsSound as IsSoundTree}
 use Rattle.fnl_tree.specs.Tree.{Tree}
 use Rattle.network_files.specs.Views.{files_in}
 use Rattle.distinct_names.specs.Names.{AreSpelled}
-use Rattle.leaf_actors.specs.Leaves.{AreActorsOf, AreFormed, IsWithin, actors_at_leaves}
+use Rattle.leaf_actors.specs.Leaves.{AreActorsOf, IsWithin, actors_at_leaves}
 use Rattle.leaf_actors.specs.declared.found.LeafActors.{LeafActors}
 use Rattle.source_network.specs.Actors.{head_of}
 use Rattle.source_network.specs.Files.{Asked, Read, class_asked, files_of}
 use Rattle.source_network.specs.Source.{Files, IsTree}
-use Rattle.rvc_engine.specs.Checked.{AreRead, HasSource, StandAtLeaves}
+use Rattle.rvc_engine.specs.Checked.{AreRead, CountsMisses, HasSource, StandAtLeaves}
 use Rattle.rvc_engine.specs.Refused.{AreLeavesIn, Breaks}
 use Rattle.rvc_engine.specs.declared.checked.Checked.{Checked}
 use Rattle.rvc_engine.specs.declared.held.Held.{Held}
@@ -44,7 +44,6 @@ pub record AreReady (files : Files) (class : List ℕ) : Type 0 where
   pub has_top : (is_some (network_of class files.networks) ≡ true)
       ⊎ (is_some (source_named class files.sources) ≡ true)
   pub spelled : AreSpelled files.sources
-  pub formed : AreFormed files.sources
 
 -- ---- trees with their actors
 
@@ -54,7 +53,6 @@ pub record IsBare (files : Files) (class : List ℕ) (tree : Tree) : Type 0 wher
   pub sound_tree : IsSoundTree tree
   pub leaves : AreLeavesIn files class tree.leaves
   pub spelled : AreSpelled files.sources
-  pub formed : AreFormed files.sources
 
 -- there is one leaf, with its actor
 pub record HasOne (found : LeafActors) : Type 0 where
@@ -86,8 +84,10 @@ IsWhy files class (front.Refused r) = Breaks files class r
 IsWhy files class front.Memory = Unit {0}
 
 -- files were read, with what was checked of them
-pub record IsHeld (library : Library) (top : Asked) (names : List (List ℕ)) (held : Held) : Type 0 where
+pub record IsHeld (library : Library) (top : Asked) (misses : Counts) (names : List (List ℕ)) (held : Held)
+    : Type 0 where
   pub reads : List Read
   pub are_read : AreRead library top names reads
   pub files_are : files_in held.files ≡ files_of reads
   pub source : HasSource (files_in held.files) (class_asked top) held.checked
+  pub missed : CountsMisses top misses held.checked.flat

@@ -7,8 +7,7 @@ use Rattle.std.specs.List.{after_first}
 use Rattle.std.specs.Str.{bytes_eq}
 use Rattle.cal_imports.specs.Sources.{dot}
 use Rattle.actor_files.specs.FileNames.{class_of, path_of}
-use Rattle.actor_files.specs.Loading.{Library}
-use Rattle.source_network.specs.Files.{Asked, a_network, an_actor, name_of, wanted}
+use Rattle.source_network.specs.Files.{Asked, Choice, a_network, an_actor, name_of, wanted}
 
 -- what stands behind the first dot
 abbrev pub ending_of : (file : List ℕ) → List ℕ
@@ -25,7 +24,7 @@ top_asked top =
 abbrev pub IsTopFile : (top : List ℕ) → Type 0
 IsTopFile top = (top ≡ path_of top ++ codes ".cal") ⊎ (top ≡ path_of top ++ codes ".xdf")
 
--- the file that is read for a top is that of exactly this name
+-- the file that is read for a top is that of exactly this name, whichever classes are networks
 abbrev pub TopsAreRead : Type 0
-TopsAreRead = (library : Library) (top : List ℕ) → IsTopFile top
-    → name_of (wanted library (top_asked top)) ≡ top
+TopsAreRead = (choice : Choice) (top : List ℕ) → IsTopFile top
+    → name_of (wanted choice (top_asked top)) ≡ top

@@ -9,7 +9,7 @@ ghost use Rattle.net_model.specs.Network.{Network};
 ghost use Rattle.network_files.specs.Views.{files_in};
 ghost use Rattle.source_network.specs.Library.{IsLibraryNetwork};
 ghost use Rattle.rvc_engine.specs.Built.{IsBuilt, IsImageOf};
-ghost use Rattle.rvc_engine.specs.Checked.{HasSource};
+ghost use Rattle.rvc_engine.specs.Checked.{CountsMisses, HasSource};
 ghost use Rattle.rvc_base.specs.Rules.{not_built};
 ghost use Rattle.cal_imports.specs.Answer.{Gives};
 ghost use Rattle.cal_imports.specs.Resolved.{resolved};
@@ -40,7 +40,7 @@ use std::alloc::Global;
 
 /// The compiled network of a top: its files are read and checked as [`check_network`](crate::check_network) does, each
 /// distinct actor is lowered once and certified once, and its code stands for it at each of its leaves. An image means the
-/// source network of the files that were read (`built`).
+/// source network of the files that were read (`built`), and misses are counted as there (`missed`).
 ///
 /// If the library tells of each name and has a network of the top, that one is given (`complete`), and a top that is refused
 /// isn't (`incomplete`), unless an actor has a form that isn't built yet, a reading fails or memory runs out.
@@ -48,7 +48,7 @@ use std::alloc::Global;
 /// # Errors
 ///
 /// `Refused`: as [`check_network`](crate::check_network) says; or Y1, a part of an actor has a form for which no code is made
-/// yet, in the actor's file, or at the actor itself if no code is made of the whole. `ReadFault`: the reading of this file
+/// yet, in the actor's file, or at the actor itself if its code isn't seen to keep the facts that it relies on. `ReadFault`: the reading of this file
 /// failed, and the failure was counted. `Memory`: an allocation was refused, or the code of an actor is too large for any
 /// memory (`fault`).
 pub fn build<L: Library>(
@@ -60,6 +60,8 @@ pub fn build<L: Library>(
     requires fresh { file_names names.old ≡ [] }
     ensures built { IfOk result (IsBuilt (L.file library.old) (top_asked top.now)
         (file_names names.new)) }
+    ensures missed { IfOk result (λ image. CountsMisses (top_asked top.now)
+        (record { old = L.misses library.old; new = L.misses library.new }) image.flat) }
     ensures fault { IfErr result (IsNoImage (L.file library.old) (top_asked top.now)
         (record { old = L.misses library.old; new = L.misses library.new })
         (record { old = L.faults library.old; new = L.faults library.new })
@@ -93,6 +95,8 @@ fn build_top<L: Library>(
     requires fresh { file_names names.old ≡ [] }
     ensures built { IfOk result (IsBuilt (L.file library.old) (top_asked top.now)
         (file_names names.new)) }
+    ensures missed { IfOk result (λ image. CountsMisses (top_asked top.now)
+        (record { old = L.misses library.old; new = L.misses library.new }) image.flat) }
     ensures fault { IfErr result (IsNoImage (L.file library.old) (top_asked top.now)
         (record { old = L.misses library.old; new = L.misses library.new })
         (record { old = L.faults library.old; new = L.faults library.new })
@@ -112,6 +116,7 @@ fn image_of(alloc: Global, files: &NetworkFiles, checked: Checked) -> Result<Ima
     requires { IsAnySource (files_in files.now) checked }
     ensures image { (class : List ℕ) → HasSource (files_in files.now) class checked
         → IfOk result (IsImageOf (files_in files.now) class) }
+    ensures flat { IfOk result (λ image. image.flat ≡ checked.flat) }
     ensures left_over { (class : List ℕ) → HasSource (files_in files.now) class checked
         → IfErr result (IsLeftOver (files_in files.now) class) }
 {

@@ -27,8 +27,5 @@ pub use building::build;
 pub use checked::Checked;
 pub use fault::BuildFault;
 pub use image::Image;
-pub use laws::{
-    checked_are_one_network, networks_are_not_refused, spelled_actors_are_formed,
-    tops_are_read_by_name,
-};
+pub use laws::{checked_are_one_network, networks_are_not_refused, tops_are_read_by_name};
 pub use network::check_network;

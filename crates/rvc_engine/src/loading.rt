@@ -10,11 +10,10 @@ ghost use Rattle.rvc_engine.specs.Top.{top_asked};
 use crate::checking::check_files;
 use crate::fault::{BuildFault, of_front, of_load};
 use crate::held::Held;
-use crate::laws::spelled_actors_are_formed;
 use crate::top::kind_of;
 use actor_files::{Names, class_of};
-use distinct_names::said_files_are_spelled;
-use network_files::{FileKind, load_network};
+use distinct_names::network_files_are_spelled;
+use network_files::{FileKind, leaves_have_files, load_network};
 use rvc_base::Memory;
 use rvc_io::Library;
 use std::alloc::Global;
@@ -27,7 +26,9 @@ pub(crate) fn held_of_top<L: Library>(
     names: &mut Names,
 ) -> Result<Held, BuildFault>
     requires fresh { file_names names.old ≡ [] }
-    ensures held { IfOk result (IsHeld (L.file library.old) (top_asked top.now) (file_names names.new)) }
+    ensures held { IfOk result (IsHeld (L.file library.old) (top_asked top.now)
+        (record { old = L.misses library.old; new = L.misses library.new })
+        (file_names names.new)) }
     ensures fault { IfErr result (IsFault (L.file library.old) (top_asked top.now)
         (record { old = L.misses library.old; new = L.misses library.new })
         (record { old = L.faults library.old; new = L.faults library.new })
@@ -52,6 +53,7 @@ fn held_of_class<L: Library>(
 ) -> Result<Held, BuildFault>
     requires fresh { file_names names.old ≡ [] }
     ensures held { IfOk result (IsHeld (L.file library.old) (asked_of class.now kind)
+        (record { old = L.misses library.old; new = L.misses library.new })
         (file_names names.new)) }
     ensures fault { IfErr result (IsFault (L.file library.old) (asked_of class.now kind)
         (record { old = L.misses library.old; new = L.misses library.new })
@@ -61,8 +63,8 @@ fn held_of_class<L: Library>(
     ensures faults_stay { L.faults library.old ≤ L.faults library.new }
     ensures misses_stay { L.misses library.old ≤ L.misses library.new }
 {
-    said_files_are_spelled();
-    spelled_actors_are_formed();
+    network_files_are_spelled();
+    leaves_have_files();
     match load_network(alloc, library, class, kind, names) {
         Ok(files) => match check_files(alloc, &files, class) {
             Ok(checked) => Ok(Held { files, checked }),

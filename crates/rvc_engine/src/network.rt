@@ -7,7 +7,7 @@ ghost use Rattle.actor_files.specs.Views.{file_names};
 ghost use Rattle.cal_model.specs.Selection.{State};
 ghost use Rattle.net_model.specs.Network.{Network};
 ghost use Rattle.source_network.specs.Library.{IsLibraryNetwork};
-ghost use Rattle.rvc_engine.specs.Checked.{HasNetwork, IsChecked};
+ghost use Rattle.rvc_engine.specs.Checked.{CountsMisses, HasNetwork, IsChecked};
 ghost use Rattle.rvc_engine.specs.Refused.{IsFault, IsOutside, RefusesTop};
 ghost use Rattle.rvc_engine.specs.Top.{top_asked};
 
@@ -26,9 +26,9 @@ use std::alloc::Global;
 /// as [`load_network`](network_files::load_network) says, the networks are bound, each actor is checked over the values that
 /// it is given, and all are joined. `names` gets the names of the files.
 ///
-/// What is given is the source network of the files (`checked`). If the library tells of each name and has a network of the
-/// top, that one is given (`complete`), and a top that is refused isn't given (`incomplete`), unless a reading fails or
-/// memory runs out.
+/// What is given is the source network of the files (`checked`). An actor within a network was looked up as a network first,
+/// so a miss was counted (`missed`). If the library tells of each name and has a network of the top, that one is given
+/// (`complete`), and a top that is refused isn't given (`incomplete`), unless a reading fails or memory runs out.
 ///
 /// # Errors
 ///
@@ -44,6 +44,8 @@ pub fn check_network<L: Library>(
     requires fresh { file_names names.old ≡ [] }
     ensures checked { IfOk result (IsChecked (L.file library.old) (top_asked top.now)
         (file_names names.new)) }
+    ensures missed { IfOk result (λ c. CountsMisses (top_asked top.now)
+        (record { old = L.misses library.old; new = L.misses library.new }) c.flat) }
     ensures fault { IfErr result (IsFault (L.file library.old) (top_asked top.now)
         (record { old = L.misses library.old; new = L.misses library.new })
         (record { old = L.faults library.old; new = L.faults library.new })
@@ -76,6 +78,8 @@ fn check_top<L: Library>(
     requires fresh { file_names names.old ≡ [] }
     ensures checked { IfOk result (IsChecked (L.file library.old) (top_asked top.now)
         (file_names names.new)) }
+    ensures missed { IfOk result (λ c. CountsMisses (top_asked top.now)
+        (record { old = L.misses library.old; new = L.misses library.new }) c.flat) }
     ensures fault { IfErr result (IsFault (L.file library.old) (top_asked top.now)
         (record { old = L.misses library.old; new = L.misses library.new })
         (record { old = L.faults library.old; new = L.faults library.new })

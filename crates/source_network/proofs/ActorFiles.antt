@@ -15,8 +15,9 @@ use Rattle.actor_files.specs.Reads as reading
 use Rattle.actor_files.specs.Reads.{Request, import_request, import_requests, next_request, requests_from, sources_of}
 use Rattle.fnl_bind.specs.Library.{Entry}
 use Rattle.source_network.specs.Source.{Files}
-use Rattle.source_network.specs.Files.{Asked, an_actor, Wanted, says_source, is_read, asked_by_import, asked_by_all, first_unread, next_wanted, bytes_of, IsNextRead, AreReadBehind, networks_from, sources_from}
+use Rattle.source_network.specs.Files.{Asked, an_actor, Choice, Wanted, says_source, is_read, asked_by_import, asked_by_all, first_unread, next_wanted, bytes_of, IsNextRead, AreReadBehind, networks_from, sources_from}
 use Rattle.source_network.specs.Library.{as_read, ActorFilesAreLoaded, ActorFilesAreSources}
+use Rattle.source_network.proofs.Choices.{choice_by, choice_fits}
 
 abbrev as_asked : Request → Asked
 as_asked q = an_actor q.class
@@ -43,11 +44,11 @@ first_or_not false false w q o p same e h = ap Some e
 first_or_not true false w q o p same e h = absurd cc
 first_or_not false true w q o p same e h = absurd cc
 
-same_first : (library : Library) (rs : List reading.Read) (qs : List Request) → first_unread library (map as_read rs) (map as_asked qs) ≡ option_map as_wanted (reading.first_unread rs qs)
-same_first library rs [] = refl
-same_first library rs (q ∷ qs) =
-    first_or_not (is_read (as_wanted q) (map as_read rs)) (reading.is_read q.class rs) (as_wanted q) q (first_unread library (map as_read rs) (map as_asked qs)) (reading.first_unread rs qs)
-    (same_read q.class 1 rs) refl (same_first library rs qs)
+same_first : (choice : Choice) (rs : List reading.Read) (qs : List Request) → first_unread choice (map as_read rs) (map as_asked qs) ≡ option_map as_wanted (reading.first_unread rs qs)
+same_first choice rs [] = refl
+same_first choice rs (q ∷ qs) =
+    first_or_not (is_read (as_wanted q) (map as_read rs)) (reading.is_read q.class rs) (as_wanted q) q (first_unread choice (map as_read rs) (map as_asked qs)) (reading.first_unread rs qs)
+    (same_read q.class 1 rs) refl (same_first choice rs qs)
 
 same_imports : (n : ℕ) (es : List Edge) → map asked_by_import es ≡ map as_asked (map (import_request n) es)
 same_imports n [] = refl
@@ -60,10 +61,10 @@ same_asked n (r ∷ rs) =
     ∙ ap (λ zs. map as_asked (import_requests n (imports_of r.tree)) ++ zs) (same_asked (suc n) rs)
     ∙ sym (map-append as_asked (import_requests n (imports_of r.tree)) (requests_from (suc n) rs))
 
-same_next : (library : Library) (top : List ℕ) (rs : List reading.Read) → next_wanted library (an_actor top) (map as_read rs) ≡ option_map as_wanted (next_request top rs)
-same_next library top rs =
-    ap (λ zs. first_unread library (map as_read rs) (an_actor top ∷ zs)) (same_asked 1 rs)
-    ∙ same_first library rs (reading.requests top rs)
+same_next : (choice : Choice) (top : List ℕ) (rs : List reading.Read) → next_wanted choice (an_actor top) (map as_read rs) ≡ option_map as_wanted (next_request top rs)
+same_next choice top rs =
+    ap (λ zs. first_unread choice (map as_read rs) (an_actor top ∷ zs)) (same_asked 1 rs)
+    ∙ same_first choice rs (reading.requests top rs)
 
 same_bytes : (rs : List reading.Read) → bytes_of (map as_read rs) ≡ reading.bytes_of rs
 same_bytes [] = refl
@@ -71,11 +72,11 @@ same_bytes (r ∷ rs) = ap (λ n. length r.text + n) (same_bytes rs)
 
 -- ---- what is read
 
-next_is_read : (library : Library) (top : List ℕ) (before : List reading.Read) (r : reading.Read) → loading.IsNextRead library top before r
-    → IsNextRead library (an_actor top) (map as_read before) (as_read r)
-next_is_read library top before r x = record {
+next_is_read : (library : Library) (choice : Choice) (top : List ℕ) (before : List reading.Read) (r : reading.Read) → loading.IsNextRead library top before r
+    → IsNextRead library choice (an_actor top) (map as_read before) (as_read r)
+next_is_read library choice top before r x = record {
   want = as_wanted x.request;
-  is_next = same_next library top before ∙ ap (option_map as_wanted) x.is_next;
+  is_next = same_next choice top before ∙ ap (option_map as_wanted) x.is_next;
   same_class = x.same_class;
   is_text = subst (λ c. IsText (library (file_of c)) r.text) x.same_class x.is_text;
   says = says_source x.is_file;
@@ -83,18 +84,21 @@ next_is_read library top before r x = record {
   small = subst (λ n. n + length r.text ≤ max_bytes) (sym (same_bytes before)) x.small;
 }
 
-behind_are_read : (library : Library) (top : List ℕ) (before rs : List reading.Read) → loading.AreReadBehind library top before rs
-    → AreReadBehind library (an_actor top) (map as_read before) (map as_read rs)
-behind_are_read library top before [] x = tt
-behind_are_read library top before (r ∷ rs) x = (
-  next_is_read library top before r x.0,
-  subst (λ b. AreReadBehind library (an_actor top) b (map as_read rs)) (map-append as_read before (r ∷ [])) (behind_are_read library top (before ++ r ∷ []) rs x.1),
+behind_are_read : (library : Library) (choice : Choice) (top : List ℕ) (before rs : List reading.Read) → loading.AreReadBehind library top before rs
+    → AreReadBehind library choice (an_actor top) (map as_read before) (map as_read rs)
+behind_are_read library choice top before [] x = tt
+behind_are_read library choice top before (r ∷ rs) x = (
+  next_is_read library choice top before r x.0,
+  subst (λ b. AreReadBehind library choice (an_actor top) b (map as_read rs)) (map-append as_read before (r ∷ [])) (behind_are_read library choice top (before ++ r ∷ []) rs x.1),
 )
 
+-- an actor asks for no class that may be either, so any choice will do that fits
 pub files_are_loaded : ActorFilesAreLoaded
 files_are_loaded library top rs x = record {
-  are_read = behind_are_read library top [] rs x.are_read;
-  whole = same_next library top rs ∙ ap (option_map as_wanted) x.whole;
+  choice = choice_by library (λ class. false);
+  fits = choice_fits library (λ class. false);
+  are_read = behind_are_read library (choice_by library (λ class. false)) top [] rs x.are_read;
+  whole = same_next (choice_by library (λ class. false)) top rs ∙ ap (option_map as_wanted) x.whole;
 }
 
 -- ---- the files by their classes

@@ -1,4 +1,5 @@
 mod One
+pub mod Choices
 pub mod OneLibrary
 pub mod Rows
 pub mod ActorFiles

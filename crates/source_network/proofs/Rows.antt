@@ -1,5 +1,5 @@
 -- A library with one file, and the network that it means: a worked example.
-use Rattle.std.proofs.Common.{◌≡◌, ℕ, zero, suc, true, List, [], ◌∷◌, Some, refl, sym, ap, ◌∙◌, arith}
+use Rattle.std.proofs.Common.{◌≡◌, ℕ, zero, suc, true, false, List, [], ◌∷◌, Some, refl, sym, ap, ◌∙◌, arith}
 use Rattle.std.specs.Prelude.{codes, if◌then◌else◌, slice_get}
 use Rattle.std.specs.Str.{bytes_eq}
 use Rattle.rvc_io.specs.Told.{Lacking, Holding}
@@ -15,6 +15,7 @@ use Rattle.fnl_grammar.proofs.MarkupRows.{bare, bare_file}
 use Rattle.source_network.specs.Files.{a_network, network, Read, says_network, AreLoaded, files_of}
 use Rattle.source_network.specs.Library.{IsLibraryNetwork}
 use Rattle.source_network.specs.Source.{IsSourceNetwork, of_network}
+use Rattle.source_network.proofs.Choices.{choice_by, choice_fits}
 
 -- the library has `T.xdf` alone
 abbrev one_file : Library
@@ -25,6 +26,8 @@ reads = record { class = codes "T"; text = codes "<XDF name='T'/>"; content = ne
 
 loaded : AreLoaded one_file (a_network (codes "T")) reads
 loaded = record {
+  choice = choice_by one_file (λ class. false);
+  fits = choice_fits one_file (λ class. false);
   are_read = (
     record {
       want = record { class = codes "T"; network = true };

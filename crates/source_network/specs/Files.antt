@@ -2,8 +2,9 @@
 --
 -- The top is asked for first, and then what each file asks for, in the order of the files and of their texts: a network
 -- asks for the class of each of its instances, an actor or a unit for the unit of each import. A class is a network if
--- the library has one of its name, and else an actor. A file is read where it is first asked for, and never again; its
--- number is the next one, from 1. What a text says is what its bytes spell, by the productions of its language.
+-- the library has one of its name, and else an actor. Where a library doesn't tell whether it has one, either may be: what
+-- is said of files is said of a choice that fits all that is told. A file is read where it is first asked for, and never
+-- again; its number is the next one, from 1. What a text says is what its bytes spell, by the productions of its language.
 -- Trusted: part of what a promise means.
 use Rattle.std.specs.Prelude.{◌≡◌, ◌≤◌, ◌+◌, ℕ, suc, Bool, true, false, not, ◌&&◌, ◌||◌, List, [], ◌∷◌, ◌++◌, length, map, codes, Option, None, Some, if◌then◌else◌}
 use Rattle.std.specs.Str.{bytes_eq}
@@ -38,21 +39,32 @@ class_asked (a_class class) = class
 abbrev pub network_file : (class : List ℕ) → List ℕ
 network_file class = replaced dot slash class ++ codes ".xdf"
 
-abbrev pub is_held : Told → Bool
-is_held (Holding bytes) = true
-is_held Lacking = false
-is_held Untold = false
+-- ---- which classes are networks
 
--- what a library has for what is asked: the class, and whether it is a network
+-- whether a class that may be either is taken as a network
+abbrev pub Choice : Type 0
+Choice = (class : List ℕ) → Bool
+
+-- it is taken as one exactly if the file of its network is there, as far as that is told
+abbrev pub FitsTold : Told → (network : Bool) → Type 0
+FitsTold Untold network = Unit {0}
+FitsTold Lacking network = network ≡ false
+FitsTold (Holding bytes) network = network ≡ true
+
+-- .. and so is each class
+abbrev pub Fits : Library → Choice → Type 0
+Fits library choice = (class : List ℕ)
+    → FitsTold (library (network_file class)) (choice class)
+
+-- the file that is wanted for what is asked: of which class, and whether that of its network
 pub record Wanted : Type 0 where
   pub class : List ℕ
   pub network : Bool
 
-abbrev pub wanted : Library → Asked → Wanted
-wanted library (a_network class) = record { class = class; network = true }
-wanted library (an_actor class) = record { class = class; network = false }
-wanted library (a_class class) =
-    record { class = class; network = is_held (library (network_file class)) }
+abbrev pub wanted : Choice → Asked → Wanted
+wanted choice (a_network class) = record { class = class; network = true }
+wanted choice (an_actor class) = record { class = class; network = false }
+wanted choice (a_class class) = record { class = class; network = choice class }
 
 -- the name of its file
 abbrev pub name_of : Wanted → List ℕ
@@ -112,20 +124,20 @@ asked_by_all [] = []
 asked_by_all (r ∷ rs) = asked_by r.content ++ asked_by_all rs
 
 -- the first of these whose file isn't read
-abbrev pub first_unread : Library → List Read → List Asked → Option Wanted
-first_unread library reads [] = None
-first_unread library reads (a ∷ others) =
-    if is_read (wanted library a) reads then first_unread library reads others
-    else Some (wanted library a)
+abbrev pub first_unread : Choice → List Read → List Asked → Option Wanted
+first_unread choice reads [] = None
+first_unread choice reads (a ∷ others) =
+    if is_read (wanted choice a) reads then first_unread choice reads others
+    else Some (wanted choice a)
 
-abbrev pub next_wanted : Library → (top : Asked) → List Read → Option Wanted
-next_wanted library top reads = first_unread library reads (top ∷ asked_by_all reads)
+abbrev pub next_wanted : Choice → (top : Asked) → List Read → Option Wanted
+next_wanted choice top reads = first_unread choice reads (top ∷ asked_by_all reads)
 
 -- this file is read behind those before it
-pub record IsNextRead (library : Library) (top : Asked) (before : List Read) (r : Read)
-    : Type 0 where
+pub record IsNextRead (library : Library) (choice : Choice) (top : Asked) (before : List Read)
+    (r : Read) : Type 0 where
   pub want : Wanted
-  pub is_next : next_wanted library top before ≡ Some want
+  pub is_next : next_wanted choice top before ≡ Some want
   pub same_class : r.class ≡ want.class
   pub is_text : IsText (library (name_of want)) r.text
   pub says : Says r.text want.network r.content
@@ -133,15 +145,19 @@ pub record IsNextRead (library : Library) (top : Asked) (before : List Read) (r 
   pub small : bytes_of before + length r.text ≤ max_bytes
 
 -- these files are read, one behind the other, behind those before them
-abbrev pub AreReadBehind : Library → (top : Asked) → (before reads : List Read) → Type 0
-AreReadBehind library top before [] = Unit {0}
-AreReadBehind library top before (r ∷ rs) =
-    IsNextRead library top before r × AreReadBehind library top (before ++ r ∷ []) rs
+abbrev pub AreReadBehind : Library → Choice → (top : Asked) → (before reads : List Read) → Type 0
+AreReadBehind library choice top before [] = Unit {0}
+AreReadBehind library choice top before (r ∷ rs) =
+    IsNextRead library choice top before r
+    × AreReadBehind library choice top (before ++ r ∷ []) rs
 
--- these files are read, one behind the other, and they are all that are asked for
+-- These files are read, one behind the other, and they are all that are asked for, by a choice that fits what the library
+-- tells. If it tells of each name, there is one such choice.
 pub record AreLoaded (library : Library) (top : Asked) (reads : List Read) : Type 0 where
-  pub are_read : AreReadBehind library top [] reads
-  pub whole : next_wanted library top reads ≡ None
+  pub choice : Choice
+  pub fits : Fits library choice
+  pub are_read : AreReadBehind library choice top [] reads
+  pub whole : next_wanted choice top reads ≡ None
 
 -- ---- the files by their classes, with their numbers
 

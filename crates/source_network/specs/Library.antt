@@ -5,7 +5,7 @@ use Rattle.cal_model.specs.Selection.{State}
 use Rattle.net_model.specs.Network.{Network}
 use Rattle.actor_files.specs.Loading.{IsLoaded, Library, TellsAll}
 use Rattle.actor_files.specs.Reads.{Read as ActorRead, sources_of}
-use Rattle.source_network.specs.Files.{AreLoaded, Asked, Read, an_actor, class_asked, files_of, source}
+use Rattle.source_network.specs.Files.{AreLoaded, Asked, Choice, Fits, Read, an_actor, class_asked, files_of, source}
 use Rattle.source_network.specs.Source.{IsSourceNetwork}
 
 -- all files that the top needs are read, and mean this network
@@ -14,7 +14,12 @@ pub record IsLibraryNetwork (library : Library) (top : Asked) (net : Network Sta
   pub are_loaded : AreLoaded library top reads
   pub means : IsSourceNetwork (files_of reads) (class_asked top) net
 
--- if a library tells of each name, a top needs at most one list of files
+-- if a library tells of each name, one choice fits
+abbrev pub ChoicesAreOne : Type 0
+ChoicesAreOne = (library : Library) (one other : Choice) → TellsAll library
+    → Fits library one → Fits library other → one ≡ other
+
+-- .. so a top needs at most one list of files
 abbrev pub FilesAreOne : Type 0
 FilesAreOne = (library : Library) (top : Asked) (reads others : List Read) → TellsAll library
     → AreLoaded library top reads → AreLoaded library top others → reads ≡ others

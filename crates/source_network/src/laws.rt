@@ -2,7 +2,7 @@
 
 ghost use Rattle.source_network.specs.Answers.{ActorsHaveHeads, ActorsMakeWhole, AnswersAreSource, BoundAreTrees, LoneTreesAreSound};
 ghost use Rattle.source_network.specs.Laws.{ActorsAreOne, NetworksAreOne};
-ghost use Rattle.source_network.specs.Library.{ActorFilesAreLoaded, ActorFilesAreSources, FilesAreOne, LibraryNetworksAreOne};
+ghost use Rattle.source_network.specs.Library.{ActorFilesAreLoaded, ActorFilesAreSources, ChoicesAreOne, FilesAreOne, LibraryNetworksAreOne};
 
 use cal_grammar::one_tree;
 use cal_model::one_line;
@@ -17,9 +17,11 @@ pub fn one_network()
     one_line();
 }
 
-/// If a library tells of each name, the bytes of its files mean at most one network from a top down: which files the top
-/// needs is determined by their bytes, and what each of them says is what its bytes spell.
+/// If a library tells of each name, the bytes of its files mean at most one network from a top down: which classes are
+/// networks is told, which files the top needs is determined by their bytes, and what each of them says is what its bytes
+/// spell.
 pub fn one_library_network()
+    ensures choice { ChoicesAreOne }
     ensures files { FilesAreOne }
     ensures network { LibraryNetworksAreOne }
 {

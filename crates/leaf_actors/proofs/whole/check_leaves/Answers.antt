@@ -66,12 +66,12 @@ returns-clause-once c =
     (subst (λ ls. IsGoing files (map leaf_of ls) leaves c.leaves.known) none c.leaves.invariant)
 
 pub returns-clause-sound : goal.returns-clause-sound
-returns-clause-sound c = λ formed.
+returns-clause-sound c =
     let files = sources c.args.files.now in
     let leaves = map leaf_of c.args.leaves.now in
     let none : c.leaves.rest.now ≡ [] = no_items c.leaves.rest.now c.in_default.ensures.cases in
-    found_sound c.sources_without_violations_are_sound.ensures files leaves c.leaves.known (record { actors = c.leaves.known.actors; of_leaf = c.leaves.known.of_leaf }) refl
-    (subst (λ ls. IsGoing files (map leaf_of ls) leaves c.leaves.known) none c.leaves.invariant) formed
+    found_sound c.sources_without_violations_are_sound.ensures c.spelled_actors_are_formed.ensures files leaves c.leaves.known (record { actors = c.leaves.known.actors; of_leaf = c.leaves.known.of_leaf }) refl
+    (subst (λ ls. IsGoing files (map leaf_of ls) leaves c.leaves.known) none c.leaves.invariant) c.requires.spelled
 
 pub add-requires-clause-differ : goal.add-requires-clause-differ
 add-requires-clause-differ c = λ class scope h. c.names_differ.ensures (sources c.args.files.now) class scope c.requires.spelled h

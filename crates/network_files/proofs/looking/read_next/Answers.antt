@@ -4,7 +4,9 @@ use Rattle.std.specs.Prelude.{string_bytes}
 use Rattle.actor_files.specs.Loading.{max_bytes, max_files}
 use Rattle.actor_files.specs.Views.{file_names}
 use Rattle.network_files.specs.SoFar.{GoesOn, Seen, Takes, request_of, seen, state_of, waiting_of}
-use Rattle.network_files.proofs.Steps.{at_least, behind, halts, passes, reads, reads_one}
+use Rattle.network_files.proofs.Known.{means_keeps}
+use Rattle.network_files.proofs.Progress.{behind}
+use Rattle.network_files.proofs.Steps.{at_least, halts, passes, reads, reads_one}
 use Rattle.network_files.proofs.looking.read_next.Goals as goal
 
 pub returns-in-Ok-true-clause-next : goal.returns-in-Ok-true-clause-next
@@ -12,7 +14,8 @@ returns-in-Ok-true-clause-next g c =
     let a : Seen = (seen (g.L.Library.file c.args.library.now) (g.L.Library.faults c.args.library.now) (g.L.Library.misses c.args.library.now) (file_names c.args.names.now) (state_of c.args.loading.now)) in
     let b : Seen = (seen (g.L.Library.file c.requests.library) (g.L.Library.faults c.requests.library) (g.L.Library.misses c.requests.library) (file_names c.requests.names) (state_of c.requests.loading)) in
     let d : Seen = (seen (g.L.Library.file c.take.new.library) (g.L.Library.faults c.take.new.library) (g.L.Library.misses c.take.new.library) (file_names c.take.new.names) (state_of c.take.new.loading)) in
-    let takes = subst (λ b. Takes (g.L.Library.file c.requests.library) (request_of c.in-Some.request) (file_names c.requests.names) (file_names c.take.new.names)
+    let takes = subst (λ b. Takes (g.L.Library.file c.requests.library) (request_of c.in-Some.request)
+    (record { old = g.L.Library.misses c.requests.library; new = g.L.Library.misses c.take.new.library }) (file_names c.requests.names) (file_names c.take.new.names)
     (behind (state_of c.requests.loading) (waiting_of c.pop_front.new.self)) (state_of c.take.new.loading) b) c.in-Ok-true.field-0-test c.in-Ok-true.ensures.taken in (
       reads a b d (request_of c.in-Some.request) (waiting_of c.pop_front.new.self) c.requests.invariant.3 (ap (map request_of) c.in-Some.ensures.items) takes c.take.ensures.same_files c.take.ensures.faults_stay c.take.ensures.misses_stay,
       reads_one a b d (request_of c.in-Some.request) (waiting_of c.pop_front.new.self) c.requests.invariant.2 takes,
@@ -27,12 +30,16 @@ requests-preserved g c =
     let a : Seen = (seen (g.L.Library.file c.args.library.now) (g.L.Library.faults c.args.library.now) (g.L.Library.misses c.args.library.now) (file_names c.args.names.now) (state_of c.args.loading.now)) in
     let b : Seen = (seen (g.L.Library.file c.requests.library) (g.L.Library.faults c.requests.library) (g.L.Library.misses c.requests.library) (file_names c.requests.names) (state_of c.requests.loading)) in
     let d : Seen = (seen (g.L.Library.file c.take.new.library) (g.L.Library.faults c.take.new.library) (g.L.Library.misses c.take.new.library) (file_names c.take.new.names) (state_of c.take.new.loading)) in
-    let takes = subst (λ b. Takes (g.L.Library.file c.requests.library) (request_of c.in-Some.request) (file_names c.requests.names) (file_names c.take.new.names)
+    let takes = subst (λ b. Takes (g.L.Library.file c.requests.library) (request_of c.in-Some.request)
+    (record { old = g.L.Library.misses c.requests.library; new = g.L.Library.misses c.take.new.library }) (file_names c.requests.names) (file_names c.take.new.names)
     (behind (state_of c.requests.loading) (waiting_of c.pop_front.new.self)) (state_of c.take.new.loading) b) c.in-Ok-false.field-0-test c.in-Ok-false.ensures.taken in
+    let bytes : (state_of c.take.new.loading).bytes ≡ c.requests.loading.bytes =
+    ap (λ s. s.bytes) takes.taken.same
+    ∙ (means_keeps (g.L.Library.file c.requests.library) _ (behind (state_of c.requests.loading) (waiting_of c.pop_front.new.self)) takes.known (request_of c.in-Some.request).asked takes.want takes.means).bytes in
     let count : length c.take.new.names.files.items ≡ length c.requests.names.files.items =
     sym (length-map c.take.new.names.files.items string_bytes) ∙ ap length takes.taken.names_are ∙ length-map c.requests.names.files.items string_bytes in (
       subst (λ n. n ≤ max_files) (sym count) c.requests.invariant.0,
-      subst (λ n. n ≤ max_bytes) (sym (ap (λ s. s.bytes) takes.taken.same)) c.requests.invariant.1,
+      subst (λ n. n ≤ max_bytes) (sym bytes) c.requests.invariant.1,
       takes.taken.names_are ∙ c.requests.invariant.2,
       passes a b d (request_of c.in-Some.request) (waiting_of c.pop_front.new.self) c.requests.invariant.3 (ap (map request_of) c.in-Some.ensures.items) takes c.take.ensures.same_files c.take.ensures.faults_stay c.take.ensures.misses_stay,
       (λ other. c.take.ensures.same_files other ∙ c.requests.invariant.4 other),

@@ -31,7 +31,7 @@ join_tree-requires c =
     peopled_lone (files_in c.args.files.now) c.args.class.now c.args.name.now c.in-Ok-check_leaves.found (actor_of c.one_actor.result.now)
     (tree_of c.in-Ok-lone_tree.tree) c.answers_are_the_source_network.ensures.lone c.requires.no_net c.requires.named c.in-Ok-lone_tree.ensures c.one_actor.ensures
     (subst (λ ls. AreActorsOf (files_in c.args.files.now).sources ls (actors_at_leaves c.in-Ok-check_leaves.found)) all c.in-Ok-check_leaves.ensures.checked)
-    (record { sound = c.in-Ok-check_leaves.ensures.sound c.requires.ready.formed; within = c.in-Ok-check_leaves.ensures.within; used = c.in-Ok-check_leaves.ensures.once.used })
+    (record { sound = c.in-Ok-check_leaves.ensures.sound; within = c.in-Ok-check_leaves.ensures.within; used = c.in-Ok-check_leaves.ensures.once.used })
 
 pub check_leaves-requires-clause-few : goal.check_leaves-requires-clause-few
 check_leaves-requires-clause-few c =

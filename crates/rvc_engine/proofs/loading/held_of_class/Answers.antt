@@ -6,8 +6,8 @@ use Rattle.rvc_engine.proofs.loading.held_of_class.Goals as goal
 
 pub check_files-requires : goal.check_files-requires
 check_files-requires g c =
-    ready (g.L.Library.file c.args.library.now) c.args.class.now c.args.kind (files_in c.in-Ok.files) (file_names c.load_network.new.names)
-    c.said_files_are_spelled.ensures.spelled c.spelled_actors_are_formed.ensures c.in-Ok.ensures.has_top c.in-Ok.ensures.loaded
+    ready (g.L.Library.file c.args.library.now) c.args.class.now c.args.kind _ (files_in c.in-Ok.files) (file_names c.load_network.new.names)
+    c.network_files_are_spelled.ensures.spelled c.in-Ok.ensures.has_top c.in-Ok.ensures.loaded
 
 pub returns-in-Err-check_files-clause-fault : goal.returns-in-Err-check_files-clause-fault
 returns-in-Err-check_files-clause-fault g c =
@@ -16,5 +16,5 @@ returns-in-Err-check_files-clause-fault g c =
 
 pub returns-in-Ok-check_files-clause-held : goal.returns-in-Ok-check_files-clause-held
 returns-in-Ok-check_files-clause-held g c =
-    held_of (g.L.Library.file c.args.library.now) (asked_of c.args.class.now c.args.kind) c.args.class.now (file_names c.load_network.new.names)
-    (record { files = c.in-Ok.files; checked = c.in-Ok-check_files.checked }) (class_is c.args.class.now c.args.kind) c.in-Ok.ensures.loaded c.in-Ok-check_files.ensures.checked
+    held_of c.leaves_have_files.ensures.tried (g.L.Library.file c.args.library.now) (asked_of c.args.class.now c.args.kind) c.args.class.now _ (file_names c.load_network.new.names)
+    (record { files = c.in-Ok.files; checked = c.in-Ok-check_files.checked }) (class_is c.args.class.now c.args.kind) c.in-Ok.ensures.has_top c.in-Ok.ensures.loaded c.in-Ok-check_files.ensures.checked

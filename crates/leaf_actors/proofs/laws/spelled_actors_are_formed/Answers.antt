@@ -1,4 +1,4 @@
-use Rattle.rvc_engine.proofs.laws.spelled_actors_are_formed.Goals as goal
+use Rattle.leaf_actors.proofs.laws.spelled_actors_are_formed.Goals as goal
 
 pub returns : goal.returns
 returns c files class scope spelled gives =
