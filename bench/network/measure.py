@@ -66,7 +66,7 @@ def rows(program, plain, gnuradio, folder, rounds):
         short, _ = rvc_time(program, 'Row.xdf', tokens, folder, rounds)
         long, kilobytes = rvc_time(program, 'Row.xdf', 3 * tokens, folder, rounds)
         others = []
-        for name, words in (('plain', [plain]), ('GNU Radio', ['python3', gnuradio])):
+        for name, words in (('plain', [plain]), ('GNU Radio', ['/usr/bin/python3', gnuradio])):
             # GNU Radio moves whole buffers, so its runs are longer.
             many = tokens if name == 'plain' else 20 * tokens
             times = [[printed(words + [str(count), str(n)]) for n in (many, 3 * many)] for _ in range(rounds)]
