@@ -1,7 +1,10 @@
 -- How far one worker made the bursts of a part.
 use Rattle.std.proofs.Common.{◌≡◌, ◌≢◌, ℕ, zero, suc, ◌+◌, ◌*◌, ◌<◌, ◌≤◌, Bool, true, false, List, [], ◌∷◌, ◌++◌, length, length-append, map, take, refl, sym, ap, subst, ◌∙◌, ⊎_elim, arith, append_assoc, append-nil}
-use Rattle.std.specs.Prelude.{None, Some, slice_get, slice_set}
-use Rattle.std.proofs.lemmas.List.{length-set, take-set}
+use Rattle.std.specs.Prelude.{None, Some, slice_get, slice_set, slice_index_or}
+use Rattle.std.specs.Option.{option_map}
+use Rattle.std.proofs.lemmas.List.{length-map, length-set, take-set}
+use Rattle.std.proofs.lemmas.Option.{slice_get-get_or, slice_get-map, slice_get_read}
+use Rattle.rvc_base.specs.Shares.{allowed}
 use Rattle.rvc_base.specs.declared.ids.InstId.{InstId}
 use Rattle.net_model.specs.declared.firing.BurstEnd.{BurstEnd}
 use Rattle.net_model.specs.Cell.{AreRooms, Cell, FireInTurn}
@@ -16,7 +19,7 @@ use Rattle.net_state.specs.Working.{BurstsAt, HasRoomRow, MayBurst, journal_of}
 use Rattle.net_state.proofs.Bursting.{calm_end}
 use Rattle.net_state.proofs.Coming.{on_some}
 use Rattle.net_state.proofs.Gaining.{get_set_other, get_set_same, some_is}
-use Rattle.net_state.proofs.Shared.{appended, count_both, joined_none}
+use Rattle.net_state.proofs.Shared.{appended, count_both, joined_none, take_length}
 
 -- Lists by place.
 
@@ -24,22 +27,19 @@ take_none : {A : Type 0} (xs : List A) → take 0 xs ≡ []
 take_none [] = refl
 take_none (x ∷ xs) = refl
 
+take_suc : {A : Type 0} (xs : List A) (k : ℕ) (x : A) → slice_get xs k ≡ Some x → take (suc k) xs ≡ take k xs ++ x ∷ []
+take_suc [] k x at = cc
+take_suc (y ∷ xs) zero x at = ap (λ z. z ∷ []) (some_is y x at)
+take_suc (y ∷ xs) (suc k) x at = ap (λ zs. y ∷ zs) (take_suc xs k x at)
+
 take_next : {A : Type 0} (xs : List A) (k : ℕ) (x : A) → slice_get xs k ≡ Some x → take (k + 1) xs ≡ take k xs ++ x ∷ []
-take_next [] k x at = cc
-take_next (y ∷ xs) zero x at = ap (λ z. z ∷ []) (some_is y x at)
-take_next (y ∷ xs) (suc k) x at = ap (λ zs. y ∷ zs) (take_next xs k x at)
+take_next xs k x at = ap (λ n. take n xs) (let e : k + 1 ≡ suc k = omega arith in e) ∙ take_suc xs k x at
 
 take_whole : {A : Type 0} (xs : List A) (k : ℕ) → length xs ≤ k → take k xs ≡ xs
 take_whole [] zero few = refl
 take_whole [] (suc k) few = refl
 take_whole (x ∷ xs) zero few = absurd (omega (arith, few))
 take_whole (x ∷ xs) (suc k) few = ap (λ ys. x ∷ ys) (take_whole xs k (omega (arith, few)))
-
-take_length : {A : Type 0} (xs : List A) (k : ℕ) → k ≤ length xs → length (take k xs) ≡ k
-take_length [] zero few = refl
-take_length [] (suc k) few = absurd (omega (arith, few))
-take_length (x ∷ xs) zero few = refl
-take_length (x ∷ xs) (suc k) few = ap suc (take_length xs k (omega (arith, few)))
 
 pub some_at : {A : Type 0} (xs : List A) (k : ℕ) → k < length xs → (x : A) × (slice_get xs k ≡ Some x)
 some_at [] k low = absurd (omega (arith, low))
@@ -168,3 +168,75 @@ module _ {X : Type 0} (limit : ℕ → ℕ) (cell before : ℕ) (marks : List Bo
   pub alone_few_all : (j k : ℕ) (made : Made) (now : List (Cell X)) → IsAlone limit cell before marks rows old j k made now → length marks ≡ length old → length old ≤ j
       → made.fired ≤ 65536 * count_picked marks
   alone_few_all j k made now so_far marked all = subst (λ ms. made.fired ≤ 65536 * count_picked ms) (take_whole marks j (omega (arith, all, marked))) so_far.few
+
+-- The same of a part, by what its worker does.
+
+pub among_marks : (marks : List Bool) (j : ℕ) → slice_get marks j ≡ Some true → count_picked (take j marks) < count_picked marks
+among_marks [] j at = cc
+among_marks (true ∷ marks) zero at = omega arith
+among_marks (false ∷ marks) zero at = cc
+among_marks (true ∷ marks) (suc j) at = let rest : count_picked (take j marks) < count_picked marks = among_marks marks j at in omega (arith, rest)
+among_marks (false ∷ marks) (suc j) at = among_marks marks j at
+
+pub few_marks : (marks : List Bool) → count_picked marks ≤ length marks
+few_marks [] = omega arith
+few_marks (true ∷ marks) = let rest : count_picked marks ≤ length marks = few_marks marks in omega (arith, rest)
+few_marks (false ∷ marks) = let rest : count_picked marks ≤ length marks = few_marks marks in omega (arith, rest)
+
+pub mark_at : (marks : List Bool) (j : ℕ) (d b : Bool) → j < length marks → slice_index_or marks j d ≡ b → slice_get marks j ≡ Some b
+mark_at marks j d b low is = slice_get-get_or marks j d low ∙ ap Some is
+
+pub row_at : {C : Type 0} (items : C → List ℕ) (rooms : List C) (j : ℕ) (row : C) (now : List ℕ) → j < length rooms → row ≡ slice_index_or rooms j row → now ≡ items row
+    → slice_get (map items rooms) j ≡ Some now
+row_at items rooms j row now low is value =
+    slice_get-map items rooms j ∙ (ap (option_map items) (slice_get_read rooms (length rooms) j row refl low is) ∙ ap Some (sym value))
+
+-- the first marks that are set
+pub marks_more : (marks : List Bool) (j : ℕ) → slice_get marks j ≡ Some true → count_picked (take (j + 1) marks) ≡ count_picked (take j marks) + 1
+marks_more marks j at = ap count_picked (take_next marks j true at) ∙ count_both (take j marks) (true ∷ [])
+
+pub marks_same : (marks : List Bool) (j : ℕ) → slice_get marks j ≡ Some false → count_picked (take (j + 1) marks) ≡ count_picked (take j marks)
+marks_same marks j at = ap count_picked (take_next marks j false at) ∙ (count_both (take j marks) (false ∷ []) ∙ (let e : count_picked (take j marks) + 0 ≡ count_picked (take j marks) = omega arith in e))
+
+pub marks_none : (marks : List Bool) → count_picked (take 0 marks) ≡ 0
+marks_none marks = ap count_picked (take_none marks)
+
+pub marks_all : (marks : List Bool) (j : ℕ) → length marks ≤ j → count_picked (take j marks) ≡ count_picked marks
+marks_all marks j all = ap count_picked (take_whole marks j all)
+
+module _ {X : Type 0} (shares : Shares) (are : AreShares shares) (part : Part) (marks : List Bool) (rows : List (List ℕ)) (old : List (Cell X)) (is_part : IsPart shares part marks rows old)
+    (j k : ℕ) (made : Made) (now : List (Cell X)) (so_far : IsAlone (share_of shares) part.cell part.before marks rows old j k made now) (low : j < length old) where
+  pub part_low : (j < length marks) × (j < length rows)
+  part_low = (omega (arith, low, is_part.marked), omega (arith, low, is_part.roomy))
+
+  pub part_stays : slice_get marks j ≡ Some false → IsAlone (share_of shares) part.cell part.before marks rows old (j + 1) k made now
+  part_stays unmarked = let row = some_at rows j part_low.1 in alone_stays (share_of shares) part.cell part.before marks rows old j k made now so_far is_part.marked low row.0 row.1 unmarked
+
+  module _ (here : slice_get marks j ≡ Some true) where
+    pub part_among : k < shares.picks
+    part_among = let among : count_picked (take j marks) < count_picked marks = among_marks marks j here in omega (arith, among, so_far.picked, is_part.picks, is_part.among)
+
+    module _ (row : List ℕ) (row_is : slice_get rows j ≡ Some row) (limit : ℕ) (limit_is : limit ≡ allowed shares.left shares.picks shares.burst k) where
+      few_burst : limit ≤ shares.burst
+      few_burst = omega (arith, limit_is)
+
+      is_ready : (c : Cell X) → slice_get old j ≡ Some c → IsReady shares.burst row c
+      is_ready c at = is_part.ready j row c row_is at
+
+      pub part_may : MayBurst now j limit
+      part_may = may_burst (share_of shares) part.cell part.before marks rows old j k made now so_far is_part.marked low shares.burst row row_is is_ready limit few_burst
+
+      pub part_row : HasRoomRow now j row
+      part_row = has_row (share_of shares) part.cell part.before marks rows old j k made now so_far is_part.marked low shares.burst row row_is is_ready
+
+      module _ (inst : InstId) (one : Made) (new : List (Cell X)) (makes : MakesAt j inst limit row now one new) where
+        pub part_few : made.fired + one.fired < 18446744073709551616
+        part_few =
+            let few : one.fired ≤ 65536 = alone_few (share_of shares) part.cell part.before marks rows old j k made now so_far is_part.marked low shares.burst row row_is is_ready inst limit (omega (arith, few_burst, are.most)) one new makes in
+            let marked : count_picked (take j marks) < count_picked marks = among_marks marks j here in
+            let all : count_picked marks ≤ length marks = few_marks marks in
+            omega (arith, few, marked, all, so_far.few, is_part.marked, is_part.few)
+
+        pub part_more : inst.0 ≡ part.cell + j → 1 ≤ limit → IsAlone (share_of shares) part.cell part.before marks rows old (j + 1) (k + 1) (joined made one) new
+        part_more inst_is least = alone_more (share_of shares) part.cell part.before marks rows old j k made now so_far is_part.marked low shares.burst row row_is is_ready inst inst_is here limit limit_is least
+            (omega (arith, few_burst, are.most)) one new makes

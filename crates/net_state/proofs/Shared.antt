@@ -1,11 +1,9 @@
 -- Bursts that several workers share: parts that are joined, and what they leave as one worker leaves it.
-use Rattle.std.proofs.Common.{◌≡◌, ℕ, zero, suc, ◌+◌, ◌-◌, ◌*◌, ◌<◌, ◌≤◌, Bool, true, false, List, [], ◌∷◌, ◌++◌, length, length-append, map, take, drop, refl, sym, ap, subst, ◌∙◌, ⊎_elim, arith, append_assoc, append-nil}
+use Rattle.std.proofs.Common.{◌≡◌, ℕ, zero, suc, ◌+◌, ◌*◌, ◌≤◌, Bool, true, false, List, [], ◌∷◌, ◌++◌, length, length-append, map, take, drop, refl, sym, ap, subst, ◌∙◌, arith, append_assoc}
 use Rattle.std.specs.Prelude.{Option, None, Some, slice_get, slice_set}
-use Rattle.std.proofs.lemmas.Bool.{cases_lt}
-use Rattle.rvc_base.specs.declared.ids.InstId.{InstId}
-use Rattle.net_model.specs.declared.firing.BurstEnd.{BurstEnd}
+use Rattle.std.proofs.lemmas.List.{length-map, map-append}
 use Rattle.net_model.specs.declared.wiring.Link.{Link}
-use Rattle.net_model.specs.Cell.{AreRooms, Cell}
+use Rattle.net_model.specs.Cell.{Cell}
 use Rattle.net_model.specs.Paced.{count_picked}
 use Rattle.net_state.specs.declared.made.Bursts.{Bursts as Made}
 use Rattle.net_state.specs.declared.made.Lacking.{Lacking}
@@ -14,10 +12,9 @@ use Rattle.net_state.specs.declared.sharing.Part.{Part}
 use Rattle.net_state.specs.declared.sharing.Shares.{Shares}
 use Rattle.net_state.specs.Held.{HasRooms, Held, IsWorking, held_of}
 use Rattle.net_state.specs.Made.{first_of, joined, made_by, none_made}
-use Rattle.net_state.specs.Sharing.{AreFresh, AreShares, BurstsBy, EachBursts, IsPart, IsReady, WorkEach, Works, bursts, none_left, stays}
+use Rattle.net_state.specs.Sharing.{EachBursts, IsPart, WorkEach, Works, bursts, none_left, stays}
 use Rattle.net_state.specs.Working.{BurstsAt, journal_of}
-use Rattle.net_state.proofs.Bursting.{burst_rooms, burst_same, burst_working, burst_works, rooms_of_cell}
-use Rattle.net_state.proofs.Gaining.{some_is}
+use Rattle.net_state.proofs.Bursting.{burst_rooms, burst_same, burst_working, burst_works}
 
 -- What came of bursts.
 
@@ -39,7 +36,7 @@ first_alone (Some x) = refl
 none_joined : (made : Made) → joined none_made made ≡ made
 none_joined made = same_made (joined none_made made) made (omega arith) refl refl
 
-joined_none : (made : Made) → joined made none_made ≡ made
+pub joined_none : (made : Made) → joined made none_made ≡ made
 joined_none made = same_made (joined made none_made) made (omega arith) (first_alone made.trap) (first_alone made.lacks)
 
 joined_then : (a b c : Made) → joined (joined a b) c ≡ joined a (joined b c)
@@ -63,10 +60,22 @@ set_there [] ys (suc k) x y at = absurd (omega (arith, at))
 set_there (z ∷ xs) ys zero x y at = absurd (omega (arith, at))
 set_there (z ∷ xs) ys (suc k) x y at = ap (λ zs. z ∷ zs) (set_there xs ys k x y (omega (arith, at)))
 
-count_both : (marks more : List Bool) → count_picked (marks ++ more) ≡ count_picked marks + count_picked more
+pub count_both : (marks more : List Bool) → count_picked (marks ++ more) ≡ count_picked marks + count_picked more
 count_both [] more = omega arith
 count_both (true ∷ marks) more = let rest : count_picked (marks ++ more) ≡ count_picked marks + count_picked more = count_both marks more in omega (arith, rest)
 count_both (false ∷ marks) more = count_both marks more
+
+pub take_length : {A : Type 0} (xs : List A) (k : ℕ) → k ≤ length xs → length (take k xs) ≡ k
+take_length [] zero few = refl
+take_length [] (suc k) few = absurd (omega (arith, few))
+take_length (x ∷ xs) zero few = refl
+take_length (x ∷ xs) (suc k) few = ap suc (take_length xs k (omega (arith, few)))
+
+pub take_drop : {A : Type 0} (xs : List A) (k : ℕ) → take k xs ++ drop k xs ≡ xs
+take_drop [] zero = refl
+take_drop [] (suc k) = refl
+take_drop (x ∷ xs) zero = refl
+take_drop (x ∷ xs) (suc k) = ap (λ zs. x ∷ zs) (take_drop xs k)
 
 -- Parts.
 
@@ -79,7 +88,7 @@ module _ {X : Type 0} (shares : Shares) (marks others : List Bool) (rows more : 
   low_part picks picked = record {
     marked = marked;
     roomy = roomy;
-    few = omega (arith, is_part.few, lengths.1.1);
+    few = omega (arith, is_part.few, lengths.2);
     picks = picked;
     among = omega (arith, is_part.among, is_part.picks, picked, count_both marks others);
     ready = λ i row cell row_at at. is_part.ready i row cell (get_low rows more i row row_at) (get_low cells rest i cell at);
@@ -88,9 +97,9 @@ module _ {X : Type 0} (shares : Shares) (marks others : List Bool) (rows more : 
   pub high_part : (cell before picks : ℕ) → cell ≡ whole.cell + length cells → before ≡ whole.before + count_picked marks → picks + count_picked marks ≡ whole.picks
       → IsPart shares (record { cell = cell; before = before; picks = picks }) others more rest
   high_part cell before picks cell_is before_is picks_is = record {
-    marked = omega (arith, is_part.marked, lengths.0, lengths.1.1, marked);
-    roomy = omega (arith, is_part.roomy, lengths.1.0, lengths.1.1, roomy);
-    few = omega (arith, is_part.few, lengths.1.1, cell_is);
+    marked = omega (arith, is_part.marked, lengths.0, lengths.2, marked);
+    roomy = omega (arith, is_part.roomy, lengths.1, lengths.2, roomy);
+    few = omega (arith, is_part.few, lengths.2, cell_is);
     picks = omega (arith, is_part.picks, count_both marks others, picks_is);
     among = omega (arith, is_part.among, before_is, picks_is);
     ready = λ i row at_cell row_at at.
@@ -180,3 +189,60 @@ module _ {X : Type 0} (links : List Link) (capacities waited : List ℕ) (limit 
         work = (held_of mid links capacities waited, length after.journal, end, made, works, refl, whole.work);
         at_work = whole.at_work;
       }
+
+-- A part is cut at a place.
+
+module _ {C X : Type 0} (view : C → Cell X) {R : Type 0} (items : R → List ℕ) (shares : Shares) (whole : Part) (marks : List Bool) (rooms : List R) (cells : List C) (cut : ℕ)
+    (is_part : IsPart shares whole marks (map items rooms) (map view cells)) (within : cut ≤ length marks) where
+  lows : (length (take cut marks) ≡ length (map view (take cut cells))) × (length (map items (take cut rooms)) ≡ length (map view (take cut cells)))
+  lows =
+      let m : length marks ≡ length cells = is_part.marked ∙ length-map cells view in
+      let r : length rooms ≡ length cells = sym (length-map rooms items) ∙ (is_part.roomy ∙ length-map cells view) in
+      let of_marks : length (take cut marks) ≡ cut = take_length marks cut within in
+      let of_cells : length (take cut cells) ≡ cut = take_length cells cut (omega (arith, m, within)) in
+      let of_rooms : length (take cut rooms) ≡ cut = take_length rooms cut (omega (arith, m, r, within)) in (
+        of_marks ∙ (sym of_cells ∙ sym (length-map (take cut cells) view)),
+        length-map (take cut rooms) items ∙ (of_rooms ∙ (sym of_cells ∙ sym (length-map (take cut cells) view))),
+      )
+
+  both_parts : IsPart shares whole (take cut marks ++ drop cut marks) (map items (take cut rooms) ++ map items (drop cut rooms)) (map view (take cut cells) ++ map view (drop cut cells))
+  both_parts =
+      subst (λ cs. IsPart shares whole (take cut marks ++ drop cut marks) (map items (take cut rooms) ++ map items (drop cut rooms)) cs) (sym (both_maps view cells))
+      (subst (λ rs. IsPart shares whole (take cut marks ++ drop cut marks) rs (map view cells)) (sym (both_maps items rooms))
+      (subst (λ ms. IsPart shares whole ms (map items rooms) (map view cells)) (sym (take_drop marks cut)) is_part))
+    where
+      both_maps : {A B : Type 0} (f : A → B) (xs : List A) → map f (take cut xs) ++ map f (drop cut xs) ≡ map f xs
+      both_maps f xs = sym (map-append f (take cut xs) (drop cut xs)) ∙ ap (map f) (take_drop xs cut)
+
+  pub cut_low : (picks : ℕ) → count_picked (take cut marks) ≡ picks → IsPart shares (record whole { picks = picks }) (take cut marks) (map items (take cut rooms)) (map view (take cut cells))
+  cut_low picks picked =
+      low_part shares (take cut marks) (drop cut marks) (map items (take cut rooms)) (map items (drop cut rooms)) (map view (take cut cells)) (map view (drop cut cells)) whole both_parts lows.0 lows.1 picks (sym picked)
+
+  pub cut_high : (cell before picks : ℕ) → cell ≡ whole.cell + cut → before ≡ whole.before + count_picked (take cut marks) → picks + count_picked (take cut marks) ≡ whole.picks
+      → IsPart shares (record { cell = cell; before = before; picks = picks }) (drop cut marks) (map items (drop cut rooms)) (map view (drop cut cells))
+  cut_high cell before picks cell_is before_is picks_is =
+      high_part shares (take cut marks) (drop cut marks) (map items (take cut rooms)) (map items (drop cut rooms)) (map view (take cut cells)) (map view (drop cut cells)) whole both_parts lows.0 lows.1
+      cell before picks (let of_marks : length (take cut marks) ≡ cut = take_length marks cut within in omega (arith, cell_is, of_marks, lows.0)) before_is picks_is
+
+  pub cut_few : count_picked (take cut marks) ≤ whole.picks
+  cut_few = let all : count_picked marks ≡ count_picked (take cut marks) + count_picked (drop cut marks) = ap count_picked (sym (take_drop marks cut)) ∙ count_both (take cut marks) (drop cut marks) in omega (arith, all, is_part.picks)
+
+-- What came of both halves of a part is what came of the part.
+module _ {C X : Type 0} (view : C → Cell X) {R : Type 0} (items : R → List ℕ) (limit : ℕ → ℕ) (i k : ℕ) (marks : List Bool) (rooms : List R) (cells low_new high_new : List C) (cut j l : ℕ) (low high : Made)
+    (front : EachBursts limit i k (take cut marks) (map items (take cut rooms)) (map view (take cut cells)) low (map view low_new))
+    (back : EachBursts limit j l (drop cut marks) (map items (drop cut rooms)) (map view (drop cut cells)) high (map view high_new)) where
+  pub both_halves : cut ≤ length marks → j ≡ i + cut → l ≡ k + count_picked (take cut marks) → EachBursts limit i k marks (map items rooms) (map view cells) (joined low high) (map view (low_new ++ high_new))
+  both_halves within at picked =
+      subst (λ ms. EachBursts limit i k ms (map items rooms) (map view cells) (joined low high) (map view (low_new ++ high_new))) (take_drop marks cut)
+      (subst (λ rs. EachBursts limit i k (take cut marks ++ drop cut marks) rs (map view cells) (joined low high) (map view (low_new ++ high_new))) (both_maps items rooms)
+      (subst (λ cs. EachBursts limit i k (take cut marks ++ drop cut marks) (map items (take cut rooms) ++ map items (drop cut rooms)) cs (joined low high) (map view (low_new ++ high_new))) (both_maps view cells)
+      (subst (λ ns. EachBursts limit i k (take cut marks ++ drop cut marks) (map items (take cut rooms) ++ map items (drop cut rooms)) (map view (take cut cells) ++ map view (drop cut cells)) (joined low high) ns) (sym (map-append view low_new high_new))
+      (appended j l (drop cut marks) (map items (drop cut rooms)) (map view (drop cut cells)) (map view high_new) high front (at ∙ ap (λ n. i + n) (sym (take_length marks cut within))) picked back))))
+    where
+      both_maps : {A B : Type 0} (f : A → B) (xs : List A) → map f (take cut xs) ++ map f (drop cut xs) ≡ map f xs
+      both_maps f xs = sym (map-append f (take cut xs) (drop cut xs)) ∙ ap (map f) (take_drop xs cut)
+
+pub both_few : (marks : List Bool) (cut low high : ℕ) → low ≤ 65536 * count_picked (take cut marks) → high ≤ 65536 * count_picked (drop cut marks) → low + high ≤ 65536 * count_picked marks
+both_few marks cut low high few more =
+    let all : count_picked marks ≡ count_picked (take cut marks) + count_picked (drop cut marks) = ap count_picked (sym (take_drop marks cut)) ∙ count_both (take cut marks) (drop cut marks) in
+    omega (arith, few, more, all)

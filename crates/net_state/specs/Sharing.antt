@@ -1,6 +1,6 @@
 -- How the cells of a round make their bursts if several workers share them.
 -- Trusted: part of what a promise means.
-use Rattle.std.specs.Prelude.{◌≡◌, ℕ, suc, ◌+◌, ◌≤◌, Bool, true, false, List, [], ◌∷◌, length, slice_get}
+use Rattle.std.specs.Prelude.{◌≡◌, ℕ, suc, ◌+◌, ◌≤◌, Bool, true, false, List, [], ◌∷◌, length, slice_get, Some}
 use Rattle.rvc_base.specs.Lawful.{IsLawful}
 use Rattle.rvc_base.specs.Shares.{allowed}
 use Rattle.rvc_base.specs.declared.ids.InstId.{InstId}
@@ -30,11 +30,12 @@ AreFresh {X} burst cells = (i : ℕ) (cell : Cell X) → slice_get cells i ≡ S
 abbrev pub share_of : Shares → ℕ → ℕ
 share_of shares k = allowed shares.left shares.picks shares.burst k
 
--- shares that are known before the round: each marked cell has one firing at least
+-- Shares that are known before the round: each marked cell has one firing at least.
 pub record AreShares (shares : Shares) : Type 0 where
   pub some : 1 ≤ shares.burst
   pub most : shares.burst ≤ 65536
   pub enough : shares.picks ≤ shares.left
+  pub few : shares.picks ≤ max_instances
 
 -- Parts of the cells.
 

@@ -3,4 +3,4 @@ use Rattle.net_model.specs.Paced.{count_picked}
 use Rattle.net_state.proofs.sharing.place_behind.Given as goal
 
 abbrev pub invariant-loop-k : goal.invariant-loop-k
-invariant-loop-k g l = (l.seen ≡ count_picked (take l.k l.marks)) × (l.seen ≤ l.picks)
+invariant-loop-k l = (l.seen ≡ count_picked (take l.k l.marks)) × (l.seen ≤ l.picks)
