@@ -12,9 +12,9 @@ use Rattle.net_state.specs.declared.sharing.Part.{Part}
 use Rattle.net_state.specs.declared.sharing.Shares.{Shares}
 use Rattle.net_state.specs.Held.{HasRooms, Held, IsWorking, held_of}
 use Rattle.net_state.specs.Made.{first_of, joined, made_by, none_made}
-use Rattle.net_state.specs.Sharing.{EachBursts, IsPart, WorkEach, Works, bursts, none_left, stays}
+use Rattle.net_state.specs.Sharing.{AreFresh, EachBursts, IsPart, WorkEach, Works, bursts, none_left, share_of, stays}
 use Rattle.net_state.specs.Working.{BurstsAt, journal_of}
-use Rattle.net_state.proofs.Bursting.{burst_rooms, burst_same, burst_working, burst_works}
+use Rattle.net_state.proofs.Bursting.{burst_rooms, burst_same, burst_working, burst_works, rooms_of_cell}
 
 -- What came of bursts.
 
@@ -246,3 +246,25 @@ pub both_few : (marks : List Bool) (cut low high : ℕ) → low ≤ 65536 * coun
 both_few marks cut low high few more =
     let all : count_picked marks ≡ count_picked (take cut marks) + count_picked (drop cut marks) = ap count_picked (sym (take_drop marks cut)) ∙ count_both (take cut marks) (drop cut marks) in
     omega (arith, few, more, all)
+
+-- All cells, as a round finds them.
+pub whole_part : {X : Type 0} (shares : Shares) (marks : List Bool) (cells : List (Cell X)) (links : List Link) (capacities waited : List ℕ) (table : List (List ℕ)) → IsWorking cells links capacities waited
+    → HasRooms cells links capacities waited table → AreFresh shares.burst cells → length marks ≡ length cells → shares.picks ≡ count_picked marks
+    → IsPart shares (record { cell = 0; before = 0; picks = shares.picks }) marks table cells
+whole_part shares marks cells links capacities waited table working rooms fresh as_many picked = record {
+  marked = as_many;
+  roomy = rooms.rows;
+  few = omega (arith, working.few_cells);
+  picks = picked;
+  among = omega arith;
+  ready = λ i row cell row_at at. record {
+    fresh = fresh i cell at;
+    fits = rooms_of_cell cells links capacities waited working table rooms i row row_at cell at;
+  };
+}
+
+-- what workers leave of all cells
+pub leave_all : {X : Type 0} (shares : Shares) (marks : List Bool) (old new : List (Cell X)) (links : List Link) (capacities waited : List ℕ) (table : List (List ℕ)) (made : Made) → IsWorking old links capacities waited
+    → HasRooms old links capacities waited table → EachBursts (share_of shares) 0 0 marks table old made new → Leave links capacities waited (share_of shares) table 0 0 marks old made new
+leave_all shares marks old new links capacities waited table made working rooms each =
+    work_each links capacities waited (share_of shares) table each [] [] refl refl refl (record { working = working; rooms = rooms })
