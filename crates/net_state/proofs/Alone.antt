@@ -1,21 +1,19 @@
 -- How far one worker made the bursts of a part.
-use Rattle.std.proofs.Common.{◌≡◌, ◌≢◌, ℕ, zero, suc, ◌+◌, ◌*◌, ◌<◌, ◌≤◌, Bool, true, false, List, [], ◌∷◌, ◌++◌, length, length-append, map, take, refl, sym, ap, subst, ◌∙◌, ⊎_elim, arith, append_assoc, append-nil}
-use Rattle.std.specs.Prelude.{None, Some, slice_get, slice_set, slice_index_or}
+use Rattle.std.proofs.Common.{◌≡◌, ℕ, zero, suc, ◌+◌, ◌*◌, ◌<◌, ◌≤◌, Bool, true, false, List, [], ◌∷◌, ◌++◌, length, map, take, refl, sym, ap, subst, ◌∙◌, arith, append_assoc, append-nil}
+use Rattle.std.specs.Prelude.{Some, slice_get, slice_index_or}
 use Rattle.std.specs.Option.{option_map}
-use Rattle.std.proofs.lemmas.List.{length-map, length-set, take-set}
+use Rattle.std.proofs.lemmas.List.{length-set, take-set}
 use Rattle.std.proofs.lemmas.Option.{slice_get-get_or, slice_get-map, slice_get_read}
 use Rattle.rvc_base.specs.Shares.{allowed}
 use Rattle.rvc_base.specs.declared.ids.InstId.{InstId}
-use Rattle.net_model.specs.declared.firing.BurstEnd.{BurstEnd}
 use Rattle.net_model.specs.Cell.{AreRooms, Cell, FireInTurn}
 use Rattle.net_model.specs.Paced.{count_picked}
-use Rattle.net_model.specs.Ready.{OnCell}
 use Rattle.net_state.specs.declared.made.Bursts.{Bursts as Made}
 use Rattle.net_state.specs.declared.sharing.Part.{Part}
 use Rattle.net_state.specs.declared.sharing.Shares.{Shares}
 use Rattle.net_state.specs.Made.{joined, made_by, none_made}
 use Rattle.net_state.specs.Sharing.{AreShares, BurstsBy, EachBursts, IsPart, IsReady, MakesAt, bursts, none_left, share_of, stays}
-use Rattle.net_state.specs.Working.{BurstsAt, HasRoomRow, MayBurst, journal_of}
+use Rattle.net_state.specs.Working.{HasRoomRow, MayBurst, journal_of}
 use Rattle.net_state.proofs.Bursting.{calm_end}
 use Rattle.net_state.proofs.Coming.{on_some}
 use Rattle.net_state.proofs.Gaining.{get_set_other, get_set_same, some_is}

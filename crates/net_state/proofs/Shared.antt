@@ -10,7 +10,7 @@ use Rattle.net_state.specs.declared.made.Lacking.{Lacking}
 use Rattle.net_state.specs.declared.made.Trapped.{Trapped}
 use Rattle.net_state.specs.declared.sharing.Part.{Part}
 use Rattle.net_state.specs.declared.sharing.Shares.{Shares}
-use Rattle.net_state.specs.Held.{HasRooms, Held, IsWorking, held_of}
+use Rattle.net_state.specs.Held.{HasRooms, IsWorking, held_of}
 use Rattle.net_state.specs.Made.{first_of, joined, made_by, none_made}
 use Rattle.net_state.specs.Sharing.{AreFresh, EachBursts, IsPart, WorkEach, Works, bursts, none_left, share_of, stays}
 use Rattle.net_state.specs.Working.{BurstsAt, journal_of}

@@ -104,19 +104,8 @@ fn burst_halves<R: Threads + Sync, A: Firing + Send, G: Gate>(
     let (low_rooms, high_rooms) = rooms.split_at(cut);
     let (low_cells, high_cells) = cells.split_at_mut(cut);
     burst_both(
-        rt,
-        gate,
-        shares,
-        low_crew,
-        low_part,
-        low_cells,
-        low_rooms,
-        low_marks,
-        high_crew,
-        high_part,
-        high_cells,
-        high_rooms,
-        high_marks,
+        rt, gate, shares, low_crew, low_part, low_cells, low_rooms, low_marks, high_crew,
+        high_part, high_cells, high_rooms, high_marks,
     )
 }
 
@@ -165,7 +154,11 @@ fn burst_both<R: Threads + Sync, A: Firing + Send, G: Gate>(
                 high_marks.entry.now (map vec_items high_rooms.entry.now)
                 (map A.cell high_cells.entry.now) result (map A.cell high_cells.exit.now)
                 × (result.fired ≤ 65536 * count_picked high_marks.entry.now) }
-        { burst_part(rt, gate, high_crew, shares, high_part, high_cells, high_rooms, high_marks) },
+        {
+            burst_part(
+                rt, gate, high_crew, shares, high_part, high_cells, high_rooms, high_marks,
+            )
+        },
         &mut || -> Bursts
             requires { IsSync R.row × IsSync G.row × IsSend A.row
                 × (low_crew.first + low_crew.count < 2 ^ 32) × AreShares shares
@@ -175,7 +168,11 @@ fn burst_both<R: Threads + Sync, A: Firing + Send, G: Gate>(
                 low_marks.entry.now (map vec_items low_rooms.entry.now)
                 (map A.cell low_cells.entry.now) result (map A.cell low_cells.exit.now)
                 × (result.fired ≤ 65536 * count_picked low_marks.entry.now) }
-        { burst_part(rt, gate, low_crew, shares, low_part, low_cells, low_rooms, low_marks) },
+        {
+            burst_part(
+                rt, gate, low_crew, shares, low_part, low_cells, low_rooms, low_marks,
+            )
+        },
     )
 }
 

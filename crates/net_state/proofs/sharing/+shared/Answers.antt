@@ -1,4 +1,4 @@
-use Rattle.std.proofs.Common.{rules, ◌≡◌, ◌*◌, ◌+◌, ◌≤◌, length, map, take, drop, vec_items, ◌++◌, subst, sym, ap, ◌∙◌}
+use Rattle.std.proofs.Common.{rules, ◌*◌, ◌+◌, ◌≤◌, map, take, drop, vec_items, sym, ap, ◌∙◌}
 use Rattle.net_model.specs.Paced.{count_picked}
 use Rattle.net_state.specs.Sharing.{EachBursts, share_of}
 use Rattle.net_state.proofs.Shared.{both_few, both_halves}

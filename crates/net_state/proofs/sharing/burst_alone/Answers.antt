@@ -1,9 +1,8 @@
-use Rattle.std.proofs.Common.{◌≡◌, ◌+◌, ◌≤◌, ◌<◌, length, map, vec_items, true, false, subst, sym, refl, ◌∙◌, arith}
-use Rattle.std.specs.Prelude.{Some, slice_get}
+use Rattle.std.proofs.Common.{◌+◌, ◌≤◌, ◌<◌, length, map, vec_items, true, false, subst, sym, refl, ◌∙◌, arith}
 use Rattle.std.proofs.lemmas.List.{length-map}
 use Rattle.net_state.specs.Made.{joined}
 use Rattle.net_state.specs.Sharing.{share_of}
-use Rattle.net_state.proofs.Alone.{IsAlone, alone_all, alone_few_all, alone_none, mark_at, part_among, part_few, part_low, part_may, part_more, part_row, part_stays, row_at}
+use Rattle.net_state.proofs.Alone.{IsAlone, alone_all, alone_few_all, alone_none, mark_at, part_among, part_few, part_may, part_more, part_row, part_stays, row_at}
 use Rattle.net_state.proofs.sharing.burst_alone.Goals as goal
 use Rattle.net_state.proofs.sharing.burst_alone.Goals.{then-marks-i, else-marks-i}
 

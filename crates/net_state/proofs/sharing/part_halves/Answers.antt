@@ -1,4 +1,4 @@
-use Rattle.std.proofs.Common.{◌≡◌, ◌+◌, ◌-◌, ◌≤◌, vec_items, refl, sym, ap, arith, take}
+use Rattle.std.proofs.Common.{◌+◌, ◌-◌, ◌≤◌, vec_items, refl, sym, ap, arith, take}
 use Rattle.net_model.specs.Paced.{count_picked}
 use Rattle.net_state.proofs.Shared.{cut_few, cut_high, cut_low}
 use Rattle.net_state.proofs.sharing.part_halves.Goals as goal

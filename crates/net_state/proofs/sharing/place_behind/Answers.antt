@@ -1,4 +1,4 @@
-use Rattle.std.proofs.Common.{◌≡◌, ◌+◌, ◌≤◌, ◌<◌, length, take, true, false, sym, ap, refl, ◌∙◌, arith}
+use Rattle.std.proofs.Common.{◌≡◌, ◌+◌, length, take, true, false, sym, ap, refl, ◌∙◌, arith}
 use Rattle.net_model.specs.Paced.{count_picked}
 use Rattle.net_state.proofs.Alone.{mark_at, marks_all, marks_more, marks_same}
 use Rattle.net_state.proofs.sharing.place_behind.Goals as goal
@@ -16,13 +16,13 @@ overflow_add-seen c = omega (arith, c.loop-k.invariant.1, c.if-seen-picks.false,
 pub loop-k-preserved : goal.loop-k-preserved
 loop-k-preserved c = elim c.if-marks-k.branch [
   | then-marks-k w ↦ (
-      w.seen-is ∙ (ap (λ n. n + 1) c.loop-k.invariant.0 ∙ sym (marks_more c.args.marks.now c.loop-k.k (mark_at c.args.marks.now c.loop-k.k _ true c.loop-k-test.true w.if-marks-k.true))),
-      omega (arith, w.seen-is, c.loop-k.invariant.1, c.if-seen-picks.false),
-    )
+    w.seen-is ∙ (ap (λ n. n + 1) c.loop-k.invariant.0 ∙ sym (marks_more c.args.marks.now c.loop-k.k (mark_at c.args.marks.now c.loop-k.k _ true c.loop-k-test.true w.if-marks-k.true))),
+    omega (arith, w.seen-is, c.loop-k.invariant.1, c.if-seen-picks.false),
+  )
   | else-marks-k w ↦ (
-      w.seen-is ∙ (c.loop-k.invariant.0 ∙ sym (marks_same c.args.marks.now c.loop-k.k (mark_at c.args.marks.now c.loop-k.k _ false c.loop-k-test.true w.if-marks-k.false))),
-      omega (arith, w.seen-is, c.loop-k.invariant.1),
-    )
+    w.seen-is ∙ (c.loop-k.invariant.0 ∙ sym (marks_same c.args.marks.now c.loop-k.k (mark_at c.args.marks.now c.loop-k.k _ false c.loop-k-test.true w.if-marks-k.false))),
+    omega (arith, w.seen-is, c.loop-k.invariant.1),
+  )
 ]
 
 pub returns-clause-picks : goal.returns-clause-picks

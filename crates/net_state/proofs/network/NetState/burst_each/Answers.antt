@@ -1,8 +1,8 @@
-use Rattle.std.proofs.Common.{◌≡◌, ◌++◌, ◌≤◌, ◌*◌, arith, ap, sym, subst, ◌∙◌, length, map, take, drop, vec_items}
+use Rattle.std.proofs.Common.{◌≡◌, ◌++◌, arith, ap, sym, subst, ◌∙◌, length, map, take, drop, vec_items}
 use Rattle.std.proofs.lemmas.List.{length-map}
 use Rattle.net_state.specs.Held.{held_of, seen}
 use Rattle.net_state.specs.Sharing.{AreFresh, EachBursts, IsPart, WorkEach, share_of}
-use Rattle.net_state.proofs.Shared.{Leave, leave_all, whole_part}
+use Rattle.net_state.proofs.Shared.{leave_all, whole_part}
 use Rattle.net_state.proofs.Slices.{written_back}
 use Rattle.net_state.proofs.network.NetState.burst_each.Goals as goal
 
