@@ -1,5 +1,5 @@
 -- Bursts that several workers share are the bursts of a round.
-use Rattle.std.proofs.Common.{◌≡◌, ℕ, suc, ◌+◌, ◌-◌, ◌<◌, ◌≤◌, Bool, true, false, List, [], ◌∷◌, length, map, drop, min, refl, sym, ap, subst, ◌∙◌, arith}
+use Rattle.std.proofs.Common.{◌≡◌, ℕ, zero, suc, ◌+◌, ◌-◌, ◌<◌, ◌≤◌, Bool, true, false, List, [], ◌∷◌, length, drop, min, refl, sym, ap, subst, ◌∙◌, arith}
 use Rattle.std.specs.Prelude.{Option, None, Some, nat_le, slice_get, if◌then◌else◌}
 use Rattle.std.proofs.lemmas.Bool.{le-leb}
 use Rattle.rvc_base.specs.Shares.{allowed}
@@ -25,15 +25,15 @@ first_alone (Some x) = refl
 
 -- what stands behind the first i items
 here_in : {A : Type 0} (xs ys : List A) (i : ℕ) (x : A) → drop i xs ≡ x ∷ ys → slice_get xs i ≡ Some x
-here_in [] ys 0 x is = cc
+here_in [] ys zero x is = cc
 here_in [] ys (suc i) x is = cc
-here_in (z ∷ xs) ys 0 x is = cc
+here_in (z ∷ xs) ys zero x is = cc
 here_in (z ∷ xs) ys (suc i) x is = here_in xs ys i x is
 
 rest_in : {A : Type 0} (xs ys : List A) (i : ℕ) (x : A) → drop i xs ≡ x ∷ ys → drop (suc i) xs ≡ ys
-rest_in [] ys 0 x is = cc
+rest_in [] ys zero x is = cc
 rest_in [] ys (suc i) x is = cc
-rest_in (z ∷ xs) ys 0 x is = drop_none xs ∙ (let e : xs ≡ ys = cc in e)
+rest_in (z ∷ xs) ys zero x is = drop_none xs ∙ (let e : xs ≡ ys = cc in e)
   where
     drop_none : {A : Type 0} (xs : List A) → drop 0 xs ≡ xs
     drop_none [] = refl

@@ -79,12 +79,7 @@ fn burst_shared<R: Threads + Sync, A: Firing + Send, G: Gate>(
 }
 
 /// Lets each marked cell fire, one after another.
-fn burst_in_turn<A: Firing>(
-    net: &mut NetState<A>,
-    marks: &[bool],
-    burst: u32,
-    left: u64,
-) -> Bursts
+fn burst_in_turn<A: Firing>(net: &mut NetState<A>, marks: &[bool], burst: u32, left: u64) -> Bursts
     requires bursts { 1 ≤ burst }
     requires most { burst ≤ 65536 }
     requires as_many { length marks.now ≡ length net.old.cells }

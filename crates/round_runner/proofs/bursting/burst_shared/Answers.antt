@@ -1,4 +1,4 @@
-use Rattle.std.proofs.Common.{◌≡◌, ◌+◌, length, map, drop, List, [], ◌∷◌, refl, sym, subst, ap, arith}
+use Rattle.std.proofs.Common.{◌≡◌, ◌+◌, length, drop, List, [], ◌∷◌, refl, subst, arith}
 use Rattle.std.specs.Prelude.{None}
 use Rattle.net_state.specs.Held.{seen}
 use Rattle.round_runner.proofs.UpTo.{bursting_all, bursting_none, idle_all, spent_none}
