@@ -1,7 +1,9 @@
 #!/usr/bin/env python3
-"""Prints what the tables of crates/runner_rows/src/policies.rt ask for: of a network of three actors in a row (runs of
+"""Prints what the tables of crates/runner_rows/src ask for. Of policies.rt: of a network of three actors in a row (runs of
 zeros, a zigzag, numbers cut to a byte), by policy and burst, how many rounds its run takes and the FNV-1a number of 64
-bits of its trace. It follows the rules of rounds and shares no code with the crates."""
+bits of its trace. Of crews.rt: the same of five actors in a row that add one, by burst and budget, with how many firings
+are made and what goes out, and in how many rounds as many workers start as are asked for, and one. It follows the rules of
+rounds and shares no code with the crates."""
 
 BLOCK = bytes.fromhex("000064000000D4FE02001B003A000500")
 CAPACITY = 512
@@ -66,40 +68,57 @@ class Sat:
         return 0
 
 
-def picks(kind, number, seed):
+class Inc:
+    """One is added."""
+
+    def fire(self, tokens, sent, room):
+        if not tokens:
+            return "waits"
+        if len(sent) + 1 > room:
+            return "lacks"
+        sent.append((tokens.pop(0) + 1) % 256)
+        return 0
+
+
+def picks(kind, count, number, seed):
     """The instances that the policy picks in a round, and the seed's next number."""
     if kind == "all":
-        return [True] * 3, seed
+        return [True] * count, seed
     if kind == "turn":
-        return [k == (number - 1) % 3 for k in range(3)], seed
+        return [k == (number - 1) % count for k in range(count)], seed
     marks = []
-    for _ in range(3):
+    for _ in range(count):
         seed = (seed * 6364136223846793005 + 1442695040888963407) % 2**64
         marks.append(seed >> 63 == 1)
     return marks, seed
 
 
-def run(kind, burst, seed=0):
-    """How many rounds a run takes, its lines, and what it sends out."""
-    feed = [signed(low | high << 8, 16) for low, high in zip(BLOCK[::2], BLOCK[1::2])]
-    cells, waiting, sent, out = [Runs(), Zigzag(), Sat()], [[], [], []], [[], [], []], []
-    lines, left, number, idle = [], LEFT, 0, False
+def run(cells, feed, kind, burst, seed=0, left=LEFT):
+    """How many rounds the run of a row of actors takes, its lines, what it sends out, and in how many rounds each instance
+    that is picked may fire once at least, and in how many not."""
+    count, feed = len(cells), list(feed)
+    waiting, sent, out = [[] for _ in cells], [[] for _ in cells], []
+    lines, number, idle, shared, alone = [], 0, False, 0, 0
     while True:
         number += 1
-        waiting[1] += sent[0]
-        waiting[2] += sent[1]
-        out += sent[2]
-        sent = [[], [], []]
+        for k in range(1, count):
+            waiting[k] += sent[k - 1]
+        out += sent[-1]
+        sent = [[] for _ in cells]
         while feed and len(waiting[0]) < CAPACITY:
             waiting[0].append(feed.pop(0))
         lines.append("r")
-        marks, seed = picks(kind, number, seed)
+        if left == 0:
+            quiet = not any(waiting)
+            return number, lines + ["q" if quiet else "b"], out, shared, alone
+        marks, seed = picks(kind, count, number, seed)
         if idle or not any(marks):
-            marks = [True] * 3
-        rooms = [CAPACITY - len(waiting[1]), CAPACITY - len(waiting[2]), CAPACITY]
+            marks = [True] * count
+        rooms = [CAPACITY - len(tokens) for tokens in waiting[1:]] + [CAPACITY]
         picked, fired, lacks = sum(marks), 0, False
-        for k, i in enumerate(i for i in range(3) if marks[i]):
-            limit = min(burst, left // picked + (k < left % picked))
+        shared, alone = shared + (picked <= left), alone + (picked > left)
+        for k, i in enumerate(i for i in range(count) if marks[i]):
+            limit = min(burst, left // picked + (k < left % picked) if picked <= left else left - fired)
             for _ in range(limit):
                 answer = cells[i].fire(waiting[i], sent[i], rooms[i])
                 if isinstance(answer, str):
@@ -111,7 +130,7 @@ def run(kind, burst, seed=0):
         idle = fired == 0
         if idle and all(marks):
             assert not lacks
-            return number, lines + ["q"], out
+            return number, lines + ["q"], out, shared, alone
 
 
 def fnv(text):
@@ -121,8 +140,17 @@ def fnv(text):
     return number
 
 
+def trace_of(lines):
+    return "".join(line + "\n" for line in lines).encode()
+
+
+BLOCK_FEED = [signed(low | high << 8, 16) for low, high in zip(BLOCK[::2], BLOCK[1::2])]
 for kind, seed, burst in [("all", 0, 1), ("all", 0, 100), ("turn", 0, 1), ("turn", 0, 100), ("seed", 7, 1), ("seed", 7, 100),
                           ("seed", 0, 2), ("all", 0, 64)]:
-    rounds, lines, out = run(kind, burst, seed)
-    trace = "".join(line + "\n" for line in lines).encode()
-    print(f"{kind} {seed} burst {burst}: {rounds} rounds, {fnv(trace):016X}, {len(out)} bytes that begin {bytes(out[:3]).hex()}")
+    rounds, lines, out, _, _ = run([Runs(), Zigzag(), Sat()], BLOCK_FEED, kind, burst, seed)
+    print(f"{kind} {seed} burst {burst}: {rounds} rounds, {fnv(trace_of(lines)):016X}, {len(out)} bytes that begin {bytes(out[:3]).hex()}")
+for burst, budget in [(2, LEFT), (64, LEFT), (2, 35), (2, 23), (1, 13), (3, 7), (2, 5), (64, 4)]:
+    rounds, lines, out, shared, alone = run([Inc() for _ in range(5)], [0, 1, 2, 250, 251, 252, 255], "all", burst, left=budget)
+    firings = sum(line[0] == "f" for line in lines)
+    print(f"five burst {burst} budget {budget}: {rounds} rounds, {fnv(trace_of(lines)):016X}, {firings} firings, out {list(out)}, "
+          f"ends {lines[-1]}, {shared} rounds shared, {alone} alone")

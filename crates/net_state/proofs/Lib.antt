@@ -20,3 +20,5 @@ pub mod Grown
 pub mod Lowest
 pub mod Readied
 pub mod Surveying
+pub mod Shared
+pub mod Alone

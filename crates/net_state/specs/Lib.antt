@@ -6,3 +6,5 @@ pub mod Working
 pub mod Beginning
 pub mod Fed
 pub mod Surveyed
+pub mod Made
+pub mod Sharing

@@ -1,13 +1,15 @@
 //! A network at work.
 
-ghost use Rattle.std.specs.Prelude.{◌≡◌, ◌<◌, ◌*◌, ℕ, true, IfNone, IfOk, IfSome, OnErr, Some, length, map, min, slice_get, slice_index_or, slice_set};
+ghost use Rattle.std.specs.Prelude.{◌≡◌, ◌<◌, ◌≤◌, ◌+◌, ◌*◌, ◌^◌, ℕ, true, IfNone, IfOk, IfSome, OnErr, Some, length, map, min, slice_get, slice_index_or, slice_set};
 ghost use Rattle.rvc_io.specs.Feeds.{PullsOnly, ReadFails};
+ghost use Rattle.net_model.specs.Paced.{count_picked};
 ghost use Rattle.port_files.specs.Coming.{EndIsTrue};
 ghost use Rattle.net_state.specs.Beginning.{AreLawfulIn};
 ghost use Rattle.net_state.specs.Fed.{AllArriveOn, FillsOn, IsFullOn, KeepsRest};
 ghost use Rattle.net_state.specs.Filling.{IsInputLink};
 ghost use Rattle.net_state.specs.Held.{AreCounted, CanWork, capacity_of, room_of, seen};
 ghost use Rattle.net_state.specs.Moving.{IsFromCell, IsOutput, SameActors, SameMarks, carried_on};
+ghost use Rattle.net_state.specs.Sharing.{AreFresh, AreShares, WorkEach, share_of};
 ghost use Rattle.net_state.specs.Surveyed.{AreSettled, AreUntrapped, IsOutlook, NamesFound, NamesLink, StallsAt, StillStand, Tells};
 ghost use Rattle.net_state.specs.Working.{CanHold, GrewTo, HasAction, IsAtRest, IsLowestLacking, LacksAsEnds, LacksAt, LooksAt, MayBurst, MayWork, TriesAt, WorksAt, journal_of};
 ghost use Rattle.net_state.specs.Standing.{AreAllOut, IsTrueOfUnarrived, LeadInside, StandAtStart};
@@ -17,15 +19,18 @@ use crate::delivering::{deliver_inside, lay_out};
 use crate::filling::{Filled, fill_link};
 use crate::growing::grow_link;
 use crate::lacking::lowest_lacking;
+use crate::made::Bursts;
 use crate::outlook::{Outlook, Survey, with_look};
+use crate::sharing::{Crew, Part, Shares, burst_part};
 use crate::tables::{first_capacities, room_table, zeros};
 use crate::working::{burst_at, look_at, try_at};
 use net_model::{BurstEnd, Firing, Link, Look, Tried};
 use port_files::TokenFeed;
 use rvc_base::{ActId, InstId, LinkId, Memory, Num};
-use rvc_io::{Failed, Feeds};
+use rvc_io::{Failed, Feeds, Gate};
 use std::alloc::Global;
 use std::marker::Model;
+use std::thread::Threads;
 
 /// The cells of a network, its links, and how many tokens each link can hold now.
 ///
@@ -357,5 +362,46 @@ impl<A: Firing> NetState<A> {
             &mut self.waited,
             &mut self.rooms,
         );
+    }
+}
+
+impl<A: Firing + Send> NetState<A> {
+    /// Lets the marked cells fire, each its share of the firings that are left, on at most so many workers. `gate` is told
+    /// of each worker as it starts. No thread takes memory.
+    ///
+    /// Each cell fires by the rooms that were fixed at the last delivery, so what they leave is what they leave one after
+    /// another (`work`).
+    pub fn burst_each<R: Threads + Sync, G: Gate>(
+        &mut self,
+        rt: &R,
+        gate: &G,
+        crew: Crew,
+        shares: Shares,
+        marks: &[bool],
+    ) -> Bursts
+        requires numbers { crew.first + crew.count < 2 ^ 32 }
+        requires as_many { length marks.now ≡ length self.old.cells }
+        requires picks { shares.picks ≡ count_picked marks.now }
+        requires shares { AreShares shares }
+        requires fresh { AreFresh shares.burst (map A.cell self.old.cells) }
+        ensures work { WorkEach (share_of shares) 0 0 marks.now (seen A.cell self.old) result
+            (seen A.cell self.new) }
+        ensures few { result.fired ≤ 65536 * count_picked marks.now }
+    {
+        let part = Part {
+            cell: 0,
+            before: 0,
+            picks: shares.picks,
+        };
+        burst_part(
+            rt,
+            gate,
+            crew,
+            shares,
+            part,
+            &mut self.cells,
+            &self.rooms,
+            marks,
+        )
     }
 }

@@ -10,7 +10,7 @@ use Rattle.net_model.specs.Limits.{max_grow}
 use Rattle.net_model.specs.Ready.{waiting_at}
 use Rattle.net_state.specs.Held.{Held}
 use Rattle.net_state.specs.Working.{CanHold, IsAtRest, LacksFrom, LacksOnLink, gives_of}
-use Rattle.round_runner.specs.Bursting.{AreFresh}
+use Rattle.net_state.specs.Sharing.{AreFresh}
 use Rattle.round_runner.specs.Running.{Running}
 use Rattle.network_runner.specs.Asking.{growth_left}
 use Rattle.network_runner.specs.Keeping.{GivesWithin, GoesOn}

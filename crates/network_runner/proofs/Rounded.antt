@@ -20,8 +20,8 @@ use Rattle.net_state.specs.Standing.{StandsSince}
 use Rattle.net_state.specs.Working.{AreFed, journal_of}
 use Rattle.net_state.proofs.Coming.{by_bool}
 use Rattle.net_state.proofs.Gaining.{there_too}
-use Rattle.round_runner.specs.declared.bursting.Lacking.{Lacking}
-use Rattle.round_runner.specs.declared.bursting.Trapped.{Trapped}
+use Rattle.net_state.specs.declared.made.Lacking.{Lacking}
+use Rattle.net_state.specs.declared.made.Trapped.{Trapped}
 use Rattle.round_runner.specs.declared.outcome.RoundEnd.{RoundEnd}
 use Rattle.round_runner.specs.declared.outcome.RoundEnd.TheVariants as round
 use Rattle.round_runner.specs.declared.outcome.RunEnd.TheVariants as end

@@ -10,7 +10,7 @@ use Rattle.net_model.specs.Paced.{Close, ClosesIdle, Ends, GoesOn, Widens, close
 use Rattle.net_state.specs.Held.{Held}
 use Rattle.net_state.specs.Standing.{StandsSince}
 use Rattle.net_state.specs.Working.{CanHold, LacksAt}
-use Rattle.round_runner.specs.declared.bursting.Lacking.{Lacking}
+use Rattle.net_state.specs.declared.made.Lacking.{Lacking}
 use Rattle.round_runner.specs.declared.outcome.RoundEnd.{RoundEnd}
 use Rattle.round_runner.specs.declared.outcome.RoundEnd.TheVariants as round
 use Rattle.round_runner.specs.Bursting.{Sees}

@@ -14,8 +14,8 @@ use Rattle.net_state.specs.Held.{Held, IsReader}
 use Rattle.net_state.specs.Moving.{IsWriter}
 use Rattle.net_state.specs.Standing.{StandsSince}
 use Rattle.net_state.specs.Working.{AreFed, CanHold, IsAtRest, LacksAt}
-use Rattle.round_runner.specs.declared.bursting.Lacking.{Lacking}
-use Rattle.round_runner.specs.declared.bursting.Trapped.{Trapped}
+use Rattle.net_state.specs.declared.made.Lacking.{Lacking}
+use Rattle.net_state.specs.declared.made.Trapped.{Trapped}
 use Rattle.round_runner.specs.declared.outcome.RoundEnd.{RoundEnd}
 use Rattle.round_runner.specs.declared.outcome.RoundEnd.TheVariants as round
 use Rattle.round_runner.specs.declared.outcome.RunEnd.TheVariants as end

@@ -5,7 +5,7 @@ ghost use Rattle.net_state.specs.Held.{seen};
 ghost use Rattle.net_state.specs.Moving.{SameActors};
 ghost use Rattle.net_state.specs.Surveyed.{AreUntrapped};
 ghost use Rattle.net_state.specs.Working.{IsAtRest};
-ghost use Rattle.round_runner.specs.Bursting.{AreFresh};
+ghost use Rattle.net_state.specs.Sharing.{AreFresh};
 ghost use Rattle.network_runner.specs.Closing.{GrowsBy};
 ghost use Rattle.network_runner.specs.Rounding.{CanGrow, ClosedBy, CountsTo, IfGoing, IsNoFault, MakesRound, MayClose, is_trap};
 
@@ -14,8 +14,9 @@ use crate::spending::end_spent;
 use net_model::Firing;
 use net_state::NetState;
 use round_plan::Policy;
-use round_runner::{Bursts, RoundEnd, RunEnd, Trapped, burst_each, choose, count_marks};
+use round_runner::{Bursts, Crew, RoundEnd, RunEnd, Trapped, burst_each, choose, count_marks};
 use rvc_io::Gate;
+use std::thread::Threads;
 
 /// By what the firings of a round are made.
 #[derive(Clone, Copy, Debug, PartialEq, Eq)]
@@ -41,13 +42,15 @@ pub struct RoundMade {
 }
 
 /// A round once its delivery was made: nothing fires if the budget is spent or no instance is there, and else the
-/// instances that the policy picks. `gate` is told when a worker starts.
-pub fn make_firings<A: Firing, P: Policy, G: Gate>(
+/// instances that the policy picks, on so many workers. `gate` is told of each of them that works, as it starts.
+pub fn make_firings<R: Threads + Sync, A: Firing + Send, P: Policy, G: Gate>(
+    rt: &R,
+    gate: &G,
+    workers: u32,
     net: &mut NetState<A>,
     policy: &mut P,
     marks: &mut [bool],
     turn: &Turn,
-    gate: &G,
 ) -> RoundMade
     requires next { 0 < length marks.old → turn.now.round ≡ P.rounds policy.old + 1 }
     requires same_instances { 0 < P.rounds policy.old → length marks.old ≡ P.instances policy.old }
@@ -87,13 +90,16 @@ pub fn make_firings<A: Firing, P: Policy, G: Gate>(
             fired: 0,
         };
     }
-    gate.arrive(turn.round, 0);
-    fire_round(net, policy, marks, turn)
+    fire_round(rt, gate, workers, net, policy, marks, turn)
 }
 
-/// Lets the instances fire that the policy picks, and closes the round. Its delivery was made, and some firings are
-/// left of the budget. `marks` says then which instances were picked.
-pub fn fire_round<A: Firing, P: Policy>(
+/// Lets the instances fire that the policy picks, on so many workers, and closes the round. Its delivery was made, and
+/// some firings are left of the budget. `marks` says then which instances were picked. `gate` is told of each worker that
+/// works, as it starts.
+pub fn fire_round<R: Threads + Sync, A: Firing + Send, P: Policy, G: Gate>(
+    rt: &R,
+    gate: &G,
+    workers: u32,
     net: &mut NetState<A>,
     policy: &mut P,
     marks: &mut [bool],
@@ -128,7 +134,12 @@ pub fn fire_round<A: Firing, P: Policy>(
     ensures still_as_many { length marks.new ≡ length marks.old }
 {
     choose(policy, turn.round, turn.idle, marks);
-    let made = burst_each(net, marks, turn.burst, turn.left);
+    let crew = Crew {
+        round: turn.round,
+        first: 0,
+        count: workers,
+    };
+    let made = burst_each(rt, gate, crew, net, marks, turn.burst, turn.left);
     let all = count_marks(marks) as usize == marks.len();
     let answer = close(net, &made, all, turn.grow);
     RoundMade {

@@ -142,8 +142,8 @@ impl<A: Firing + Send, P: Policy> Runner<A, P> {
     /// each further call answers that end and touches nothing.
     ///
     /// The feeds and channels that the wiring needs are open, and are the same ones in each call. `rt` is for the threads
-    /// of more workers than one: one is used now, and what a round leaves doesn't depend on how many there are. `gate` is
-    /// told when a worker starts.
+    /// of more workers than one: what a round leaves doesn't depend on how many there are. `gate` is told of each worker
+    /// that works in the round as it starts.
     ///
     /// # Errors
     ///
@@ -151,7 +151,7 @@ impl<A: Firing + Send, P: Policy> Runner<A, P> {
     /// failure was counted (`faults`).
     pub fn round<R: Threads + Sync, F: Feeds, D: Drains, G: Gate>(
         &mut self,
-        _rt: &R,
+        rt: &R,
         left: u64,
         feeds: &mut F,
         drains: &mut D,
@@ -186,7 +186,7 @@ impl<A: Firing + Send, P: Policy> Runner<A, P> {
         if let Some(end) = self.ended {
             return RoundEnd::End(end);
         }
-        let answer = self.make_round(left, feeds, drains, gate);
+        let answer = self.make_round(rt, left, feeds, drains, gate);
         self.finish(answer, drains)
     }
 
@@ -194,7 +194,7 @@ impl<A: Firing + Send, P: Policy> Runner<A, P> {
     /// further call answers that end and touches nothing.
     ///
     /// The feeds and channels that the wiring needs are open, and are the same ones in each call. `rt` is for the threads
-    /// of more workers than one, as in a round. `gate` is told in each round when a worker starts.
+    /// of more workers than one, as in a round. `gate` is told in each round of each worker that works as it starts.
     ///
     /// # Errors
     ///
@@ -253,8 +253,9 @@ impl<A: Firing + Send, P: Policy> Runner<A, P> {
     }
 
     /// A round but for what is put of what is buffered: what came of it, or the fault that cut it short.
-    fn make_round<F: Feeds, D: Drains, G: Gate>(
+    fn make_round<R: Threads + Sync, F: Feeds, D: Drains, G: Gate>(
         &mut self,
+        rt: &R,
         left: u64,
         feeds: &mut F,
         drains: &mut D,
@@ -280,7 +281,7 @@ impl<A: Firing + Send, P: Policy> Runner<A, P> {
         if let Err(ReadFault { feed }) = self.deliver(feeds) {
             return RoundEnd::End(RunEnd::ReadFault { feed });
         }
-        let answer = self.fire(left, gate);
+        let answer = self.fire(rt, left, gate);
         if let Err(WriteFault { channel }) = self.write(answer, drains) {
             return RoundEnd::End(RunEnd::WriteFault { channel });
         }
@@ -360,7 +361,7 @@ impl<A: Firing + Send, P: Policy> Runner<A, P> {
     }
 
     /// The firings of a round and what closes it, which are counted.
-    fn fire<G: Gate>(&mut self, left: u64, gate: &G) -> RoundEnd
+    fn fire<R: Threads + Sync, G: Gate>(&mut self, rt: &R, left: u64, gate: &G) -> RoundEnd
         requires going { self.old.ended ≡ None }
         requires rest { IsAtRest (seen A.cell self.old.held) }
         requires budget { self.old.counts.firings + left ≤ MAX_BUDGET }
@@ -382,11 +383,13 @@ impl<A: Firing + Send, P: Policy> Runner<A, P> {
             grow: self.plan.grow,
         };
         let made = make_firings(
+            rt,
+            gate,
+            self.plan.workers,
             &mut self.net,
             &mut self.policy,
             &mut self.marks,
             &turn,
-            gate,
         );
         self.idle = made.fired == 0;
         self.counts.firings += made.fired;

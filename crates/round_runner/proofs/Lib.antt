@@ -3,3 +3,4 @@ mod UpTo
 mod Marks
 mod Stepping
 mod Halving
+mod Sharing

@@ -26,9 +26,11 @@ use Rattle.net_state.specs.Working.{EndsSeeHalt, GoesOn, HasAction, IsAtRest, Lo
 use Rattle.net_state.proofs.Coming.{on_cell, on_some}
 use Rattle.net_state.proofs.Gaining.{same_actor, some_is, there_too}
 use Rattle.net_state.proofs.Kept.{same_then}
-use Rattle.round_runner.specs.declared.bursting.Lacking.{Lacking}
-use Rattle.round_runner.specs.declared.bursting.Trapped.{Trapped}
-use Rattle.round_runner.specs.Bursting.{AreFresh, Bursted, Idle, NamesIts, Sees, first_of, lacking_by, trap_line, trapped_by}
+use Rattle.net_state.specs.declared.made.Lacking.{Lacking}
+use Rattle.net_state.specs.declared.made.Trapped.{Trapped}
+use Rattle.net_state.specs.Made.{first_of, lacking_by, trapped_by}
+use Rattle.net_state.specs.Sharing.{AreFresh}
+use Rattle.round_runner.specs.Bursting.{Bursted, Idle, NamesIts, Sees, trap_line}
 
 -- Lists by place.
 

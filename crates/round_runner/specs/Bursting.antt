@@ -1,11 +1,8 @@
 -- The bursts of a round: how the leaves fire one after another, and what came of it.
 -- Trusted: part of what a promise means.
-use Rattle.std.specs.Prelude.{◌≡◌, ℕ, ◌≤◌, ◌<◌, false, List, [], length, slice_get, slice_index_or, Bool, Option, None, Some}
-use Rattle.rvc_base.specs.declared.ids.InstId.{InstId}
+use Rattle.std.specs.Prelude.{◌≡◌, ℕ, ◌<◌, List, [], length, slice_get, slice_index_or, Bool, Option, None, Some}
 use Rattle.trace_text.specs.declared.line.Line.{Line}
 use Rattle.trace_text.specs.declared.line.Line.TheVariants.{Trap as TrapLine}
-use Rattle.net_model.specs.declared.firing.BurstEnd.{BurstEnd}
-use Rattle.net_model.specs.declared.firing.BurstEnd.TheVariants as burst
 use Rattle.net_model.specs.Network.{Network}
 use Rattle.net_model.specs.State.{State}
 use Rattle.net_model.specs.Cell.{Cell}
@@ -15,9 +12,9 @@ use Rattle.net_state.specs.Held.{Held, seen}
 use Rattle.net_state.specs.Moving.{SameActors}
 use Rattle.net_state.specs.Standing.{StandsSince}
 use Rattle.net_state.specs.Working.{AreFed, HasAction, IsAtRest, LooksFed, journal_of}
-use Rattle.round_runner.specs.declared.bursting.Bursts.{Bursts}
-use Rattle.round_runner.specs.declared.bursting.Lacking.{Lacking}
-use Rattle.round_runner.specs.declared.bursting.Trapped.{Trapped}
+use Rattle.net_state.specs.declared.made.Bursts.{Bursts}
+use Rattle.net_state.specs.declared.made.Lacking.{Lacking}
+use Rattle.net_state.specs.declared.made.Trapped.{Trapped}
 use Rattle.net_model.specs.declared.firing.Look.TheVariants as look
 use Rattle.net_state.specs.Surveyed.{AreUntrapped, LacksFirst}
 
@@ -25,36 +22,6 @@ use Rattle.net_state.specs.Surveyed.{AreUntrapped, LacksFirst}
 abbrev pub trap_line : Option Trapped → Option Line
 trap_line None = None
 trap_line (Some trapped) = Some (TrapLine trapped.inst.0 trapped.action.0 trapped.trap)
-
--- the trap by which a burst ended, if it did
-abbrev pub trapped_by : InstId → BurstEnd → Option Trapped
-trapped_by inst burst.Spent = None
-trapped_by inst burst.Waits = None
-trapped_by inst (burst.NoRoom action port) = None
-trapped_by inst (burst.Trap action trap) =
-    Some (record { inst = inst; action = action; trap = trap })
-
--- the action by whose lack of room a burst ended, if it did
-abbrev pub lacking_by : InstId → BurstEnd → Option Lacking
-lacking_by inst burst.Spent = None
-lacking_by inst burst.Waits = None
-lacking_by inst (burst.NoRoom action port) = Some (record { inst = inst; action = action })
-lacking_by inst (burst.Trap action trap) = None
-
--- the first of two, if there is one
-abbrev pub first_of : {A : Type 0} → Option A → Option A → Option A
-first_of None second = second
-first_of (Some first) second = Some first
-
--- no cell has trapped, no journal names a firing, and each has room for a burst
-pub record IsFresh {X : Type 0} (burst : ℕ) (cell : Cell X) : Type 0 where
-  pub untrapped : cell.trapped ≡ false
-  pub empty : cell.journal ≡ []
-  pub room : burst ≤ cell.journal_room
-
-abbrev pub AreFresh : {X : Type 0} → ℕ → List (Cell X) → Type 0
-AreFresh {X} burst cells = (i : ℕ) (cell : Cell X) → slice_get cells i ≡ Some cell
-    → IsFresh burst cell
 
 -- The state that a round's delivery opened goes on by these bursts, to one that stands.
 pub record Fires {X : Type 0} (net : Network X) (share : Share) (marks : List Bool) (opened : State X) (bursts : List (List ℕ)) (halts : List Halt) (new : Held (Cell X)) : Type 0 where

@@ -1,45 +1,85 @@
 //! The bursts of a round.
 
 ghost use Rattle.std.specs.Prelude.{◌≡◌, ◌≤◌, ◌<◌, ◌+◌, ◌^◌, length, map};
-ghost use Rattle.round_runner.specs.Bursting.{AreFresh, BurstedBy, IdleBy, first_of, lacking_by, trapped_by};
+ghost use Rattle.net_model.specs.Paced.{count_picked};
+ghost use Rattle.net_state.specs.Made.{first_of, lacking_by, trapped_by};
+ghost use Rattle.net_state.specs.Sharing.{AreFresh, AreShares};
+ghost use Rattle.round_runner.specs.Bursting.{BurstedBy, IdleBy};
 
 use crate::choosing::count_marks;
 use crate::limits::limit_for;
 use net_model::{BurstEnd, Firing};
-use net_state::NetState;
-use rvc_base::{ActId, InstId, Trap};
+use net_state::{Bursts, Crew, NetState, Shares, joined, made_by};
+use rvc_base::InstId;
+use rvc_io::Gate;
+use std::thread::Threads;
 
-/// A cell that trapped, its action, and by what.
-#[derive(Clone, Copy, Debug, PartialEq, Eq)]
-pub struct Trapped {
-    pub inst: InstId,
-    pub action: ActId,
-    pub trap: Trap,
-}
-
-/// A cell whose action lacks room.
-#[derive(Clone, Copy, Debug, PartialEq, Eq)]
-pub struct Lacking {
-    pub inst: InstId,
-    pub action: ActId,
-}
-
-/// What came of the bursts of a round.
-#[derive(Clone, Copy, Debug, PartialEq, Eq)]
-pub struct Bursts {
-    /// How many firings were made.
-    pub fired: u64,
-    /// The lowest cell that trapped.
-    pub trap: Option<Trapped>,
-    /// The lowest cell whose burst ended because an action lacks room.
-    pub lacks: Option<Lacking>,
-}
-
-/// Lets each marked cell fire, one after another: its share of the firings that are left, and at most `burst` times.
+/// Lets each marked cell fire: its share of the firings that are left, and at most `burst` times.
+///
+/// The workers share the cells if each marked cell may fire once at least. If fewer firings are left than cells are
+/// marked, the first worker lets them fire one after another. What comes of it doesn't depend on how many workers there
+/// are. `gate` is told of each worker that works as it starts.
 ///
 /// If all were marked and nothing fired, the answer says how the network stands, as ends judge (`idle`): quiet if no
 /// cell lacks room, else stalled at the lowest that does.
-pub fn burst_each<A: Firing>(net: &mut NetState<A>, marks: &[bool], burst: u32, left: u64) -> Bursts
+pub fn burst_each<R: Threads + Sync, A: Firing + Send, G: Gate>(
+    rt: &R,
+    gate: &G,
+    crew: Crew,
+    net: &mut NetState<A>,
+    marks: &[bool],
+    burst: u32,
+    left: u64,
+) -> Bursts
+    requires numbers { crew.first + crew.count < 2 ^ 32 }
+    requires bursts { 1 ≤ burst }
+    requires most { burst ≤ 65536 }
+    requires as_many { length marks.now ≡ length net.old.cells }
+    requires few { length marks.now ≤ 1024 }
+    requires fresh { AreFresh burst (map A.cell net.old.cells) }
+    ensures bursted { BurstedBy A.cell burst left marks.now result net.old net.new }
+    ensures idle { IdleBy A.cell left marks.now result net.old net.new }
+    ensures within { result.fired ≤ left }
+    ensures links { net.new.links ≡ net.old.links }
+    ensures capacities { net.new.capacities ≡ net.old.capacities }
+    ensures waited { net.new.waited ≡ net.old.waited }
+{
+    let picks = count_marks(marks);
+    if u64::from(picks) <= left {
+        let count = crew.count.min(picks);
+        let shares = Shares { burst, left, picks };
+        return burst_shared(rt, gate, Crew { count, ..crew }, net, marks, shares);
+    }
+    gate.arrive(crew.round, crew.first);
+    burst_in_turn(net, marks, burst, left)
+}
+
+/// Lets each marked cell fire on several workers, by shares that are known.
+fn burst_shared<R: Threads + Sync, A: Firing + Send, G: Gate>(
+    rt: &R,
+    gate: &G,
+    crew: Crew,
+    net: &mut NetState<A>,
+    marks: &[bool],
+    shares: Shares,
+) -> Bursts
+    requires numbers { crew.first + crew.count < 2 ^ 32 }
+    requires as_many { length marks.now ≡ length net.old.cells }
+    requires picks { shares.picks ≡ count_picked marks.now }
+    requires shares { AreShares shares }
+    requires fresh { AreFresh shares.burst (map A.cell net.old.cells) }
+    ensures bursted { BurstedBy A.cell shares.burst shares.left marks.now result net.old net.new }
+    ensures idle { IdleBy A.cell shares.left marks.now result net.old net.new }
+    ensures within { result.fired ≤ shares.left }
+    ensures links { net.new.links ≡ net.old.links }
+    ensures capacities { net.new.capacities ≡ net.old.capacities }
+    ensures waited { net.new.waited ≡ net.old.waited }
+{
+    net.burst_each(rt, gate, crew, shares, marks)
+}
+
+/// Lets each marked cell fire, one after another.
+fn burst_in_turn<A: Firing>(net: &mut NetState<A>, marks: &[bool], burst: u32, left: u64) -> Bursts
     requires bursts { 1 ≤ burst }
     requires most { burst ≤ 65536 }
     requires as_many { length marks.now ≡ length net.old.cells }
@@ -79,37 +119,5 @@ fn with_burst(made: Bursts, inst: InstId, count: u64, end: BurstEnd) -> Bursts
     ensures trap { result.trap ≡ first_of made.trap (trapped_by inst end) }
     ensures lacks { result.lacks ≡ first_of made.lacks (lacking_by inst end) }
 {
-    let lacks = match made.lacks {
-        Some(lacking) => Some(lacking),
-        None => lacking_by(inst, end),
-    };
-    let trap = match made.trap {
-        Some(trapped) => Some(trapped),
-        None => trapped_by(inst, end),
-    };
-    Bursts {
-        fired: made.fired + count,
-        trap,
-        lacks,
-    }
-}
-
-/// The trap by which a burst ended, if it did.
-fn trapped_by(inst: InstId, end: BurstEnd) -> Option<Trapped>
-    ensures { result ≡ trapped_by inst end }
-{
-    match end {
-        BurstEnd::Trap { action, trap } => Some(Trapped { inst, action, trap }),
-        _ => None,
-    }
-}
-
-/// The action by whose lack of room a burst ended, if it did.
-fn lacking_by(inst: InstId, end: BurstEnd) -> Option<Lacking>
-    ensures { result ≡ lacking_by inst end }
-{
-    match end {
-        BurstEnd::NoRoom { action, port: _ } => Some(Lacking { inst, action }),
-        _ => None,
-    }
+    joined(made, made_by(inst, count, end))
 }

@@ -11,9 +11,10 @@ mod outcome;
 mod piece;
 mod sending;
 
-pub use bursting::{Bursts, Lacking, Trapped, burst_each};
+pub use bursting::burst_each;
 pub use choosing::{choose, count_marks};
 pub use limits::limit_for;
+pub use net_state::{Bursts, Crew, Lacking, Trapped};
 pub use noting::{note, note_firings};
 pub use outcome::{Plan, RoundEnd, RunEnd};
 pub use piece::{CellPiece, work_each};

@@ -24,6 +24,8 @@ pub use running::{Ran, Ready, run_network};
 #[cfg(test)]
 mod actors;
 #[cfg(test)]
+mod crews;
+#[cfg(test)]
 mod faults;
 #[cfg(test)]
 mod networks;

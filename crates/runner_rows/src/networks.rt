@@ -25,6 +25,12 @@ pub(crate) enum Net {
     Blocks,
     /// An input that feeds two actors, with an output each.
     Fork,
+    /// Five actors in a row that add one.
+    Five,
+    /// An input that feeds two actors, with an output each: the lower one divides, the higher one does, or both do.
+    LowTraps,
+    HighTraps,
+    BothTrap,
     /// An actor that is behind itself.
     Itself,
     /// Nothing at all.
@@ -74,6 +80,15 @@ const FORK: &[Row] = &[
     ((1, 0), (NET, 1), 512, BYTE),
 ];
 
+const FIVE: &[Row] = &[
+    ((NET, 0), (0, 0), 512, BYTE),
+    ((0, 0), (1, 0), 512, BYTE),
+    ((1, 0), (2, 0), 512, BYTE),
+    ((2, 0), (3, 0), 512, BYTE),
+    ((3, 0), (4, 0), 512, BYTE),
+    ((4, 0), (NET, 0), 512, BYTE),
+];
+
 const ITSELF: &[Row] = &[((0, 0), (0, 0), 512, BYTE)];
 
 fn rows(named: Net) -> &'static [Row] {
@@ -84,7 +99,8 @@ fn rows(named: Net) -> &'static [Row] {
         Net::Ring => RING,
         Net::Pair => PAIR,
         Net::Blocks => BLOCKS,
-        Net::Fork => FORK,
+        Net::Fork | Net::LowTraps | Net::HighTraps | Net::BothTrap => FORK,
+        Net::Five => FIVE,
         Net::Itself => ITSELF,
         Net::Empty => &[],
     }
@@ -99,6 +115,10 @@ fn names(named: Net) -> &'static [Named] {
         Net::Pair => &[Named::Copy, Named::Sum, Named::Join],
         Net::Blocks => &[Named::Runs, Named::Zigzag, Named::Sat],
         Net::Fork => &[Named::Inc, Named::Copy],
+        Net::Five => &[Named::Inc, Named::Inc, Named::Inc, Named::Inc, Named::Inc],
+        Net::LowTraps => &[Named::Div, Named::Copy],
+        Net::HighTraps => &[Named::Copy, Named::Div],
+        Net::BothTrap => &[Named::Div, Named::Div],
         Net::Itself => &[Named::Race],
         Net::Empty => &[],
     }
@@ -161,7 +181,7 @@ fn marks(alloc: Global, count: usize, mark: bool) -> Result<Vec<bool>, Memory> {
 fn shape(named: Net) -> (usize, usize, Scalar, Scalar) {
     match named {
         Net::Ring | Net::Itself | Net::Empty => (0, 0, BYTE, BYTE),
-        Net::Fork => (1, 2, BYTE, BYTE),
+        Net::Fork | Net::LowTraps | Net::HighTraps | Net::BothTrap => (1, 2, BYTE, BYTE),
         Net::Blocks => (1, 1, SHORT, BYTE),
         Net::Wide => (1, 1, SHORT, SHORT),
         _ => (1, 1, BYTE, BYTE),

@@ -46,7 +46,7 @@ const BLOCK_OUT: &[u8] = &[
 ];
 
 /// The trace doesn't depend on how many workers there are.
-const WORKERS: &[u32] = &[1, 3, 64];
+const WORKERS: &[u32] = &[1, 2, 3, 64];
 
 /// How the block's run ended, and whether it left what is wanted.
 fn run_block<R: Threads + Sync>(

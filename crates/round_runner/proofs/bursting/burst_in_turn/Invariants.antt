@@ -1,7 +1,7 @@
 use Rattle.net_model.specs.Paced.{count_picked}
 use Rattle.net_state.specs.Held.{seen}
 use Rattle.round_runner.proofs.UpTo.{IsBursting, IsSpent}
-use Rattle.round_runner.proofs.bursting.burst_each.Given as goal
+use Rattle.round_runner.proofs.bursting.burst_in_turn.Given as goal
 
 abbrev pub invariant-loop-i : goal.invariant-loop-i
 invariant-loop-i g l =

@@ -4,10 +4,10 @@ use Rattle.std.proofs.lemmas.List.{length-map}
 use Rattle.net_model.specs.Paced.{Share, count_picked, limit_of}
 use Rattle.net_state.specs.Held.{seen}
 use Rattle.net_state.specs.Working.{journal_of}
-use Rattle.round_runner.specs.Bursting.{first_of, lacking_by, trapped_by}
+use Rattle.net_state.specs.Made.{first_of, lacking_by, trapped_by}
 use Rattle.round_runner.proofs.UpTo.{IsBursting, IsSpent, at_mark, bursting_all, bursting_more, bursting_none, bursting_other, idle_all, may_burst, noted_few, picked_among, picked_before, spent_more, spent_none}
-use Rattle.round_runner.proofs.bursting.burst_each.Goals as goal
-use Rattle.round_runner.proofs.bursting.burst_each.Goals.{then-marks-i, else-marks-i}
+use Rattle.round_runner.proofs.bursting.burst_in_turn.Goals as goal
+use Rattle.round_runner.proofs.bursting.burst_in_turn.Goals.{then-marks-i, else-marks-i}
 
 pub loop-i-init : goal.loop-i-init
 loop-i-init g c = (
