@@ -17,7 +17,7 @@ use rvc_words::PortWord;
 pub const FIRST_INPUT_FEED: u32 = 1;
 
 /// Opens a feed for each of these links that begins at an input of the network which has a file, in the order of the
-/// links. They are numbered from 1, and those of inputs without a file are left out.
+/// links. They are numbered from 1, and those of inputs without a file are left out. No feed of such a number is open yet.
 ///
 /// # Errors
 ///
@@ -28,7 +28,7 @@ pub fn open_feeds<F: Feeds>(
     ins: &[Port],
     feeds: &mut F,
 ) -> Result<(), u32>
-    requires closed { (n : ℕ) → (F.feeds feeds.old).is_open n ≡ false }
+    requires closed { (n : ℕ) → 1 ≤ n → n ≤ length links.now → (F.feeds feeds.old).is_open n ≡ false }
     requires few { length links.now < 4294967295 }
     ensures opened { OnOk result (FeedsAreOpened
         (feeds_of links.now (names_of ins.now) (map port_text words.now)) (F.feeds feeds.old)
@@ -61,6 +61,7 @@ fn open_from<F: Feeds>(
     requires closed { (F.feeds feeds.old).is_open number ≡ false }
     requires small { number < 4294967295 }
     ensures next { IfOk result (λ next. next ≤ number + 1) }
+    ensures same_or_next { IfOk result (λ next. number ≤ next) }
     ensures opened { IfOk result (λ next. (all : List Opening) (links : List LinkOf) (start : Inputs)
         → FeedsSoFar all
         (feeds_from number (link.now ∷ links) (names_of ins.now) (map port_text words.now)) number

@@ -6,7 +6,7 @@ use Rattle.port_words.specs.Steps.{FeedsSoFar}
 use Rattle.port_words.proofs.feeds.open_feeds.Given as goal
 
 abbrev pub invariant-links : goal.invariant-links
-invariant-links g l = (l.number + length l.rest ≤ 1 + length l.initial.rest)
+invariant-links g l = (l.number + length l.rest ≤ 1 + length l.initial.rest) × (1 ≤ l.number)
     × FeedsSoFar (feeds_of l.initial.rest (names_of l.ins) (map port_text l.words)) (feeds_from l.number l.rest (names_of l.ins) (map port_text l.words)) l.number
     (g.F.Feeds.feeds l.initial.feeds) (g.F.Feeds.feeds l.feeds)
 
