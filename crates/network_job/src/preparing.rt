@@ -86,11 +86,11 @@ fn permit(flat: &Flat, job: &Job) -> Result<(), Refusal>
     ensures permitted { OnOk result (IsPermitted flat.now job.now) }
     ensures refused { IfErr result (IsRefused flat.now job.now) }
 {
-    match_words(
-        job.ports.as_slice(),
-        flat.ins.as_slice(),
-        flat.outs.as_slice(),
-    )?;
+    let ins = flat.ins.as_slice();
+    let outs = flat.outs.as_slice();
+    if let Err(refusal) = match_words(job.ports.as_slice(), ins, outs) {
+        return Err(refusal);
+    }
     fits_grown(flat.links.as_slice(), job.grow)
 }
 

@@ -1,6 +1,7 @@
-mod Sourced
-mod Cells
-mod Leaving
-mod Reported
-mod Answering
+pub mod Sourced
+pub mod Cells
+pub mod Leaving
+pub mod Reported
+pub mod Answering
 mod Answered
+mod Deciding

@@ -1,7 +1,7 @@
 //! How many actors are certified.
 
 ghost use Rattle.std.specs.Prelude.{◌≡◌};
-ghost use Rattle.run_job.specs.Commands.{count_none};
+ghost use Rattle.network_commands.specs.Commands.{count_none};
 
 use determinacy_cert::CertFault;
 

@@ -1,5 +1,5 @@
 use Rattle.std.proofs.Common.{◌≡◌, ◌+◌, ◌≤◌, length}
-use Rattle.run_job.specs.Commands.{count_none}
+use Rattle.network_commands.specs.Commands.{count_none}
 use Rattle.run_job.proofs.counting.count_none.Given as goal
 
 abbrev pub invariant-said : goal.invariant-said
