@@ -3,5 +3,5 @@ pub mod Cells
 pub mod Leaving
 pub mod Reported
 pub mod Answering
-mod Answered
-mod Deciding
+pub mod Answered
+pub mod Deciding
