@@ -25,7 +25,7 @@ module _ (cmd : Command) (one : OneConforms) (one_net : LibraryNetworksAreOne) (
   has_net : (other : Network State) → HasFiles cmd other → other ≡ net
   has_net other files = one_net cmd.library (top_of cmd) other net tells (record { reads = files.reads; are_loaded = files.are_read.are_loaded tells; means = files.means }) conforms.means
 
-  still_refused : (r : Refusal) (about : About) → IsRefused cmd r about → IsStillRefused cmd net r
+  pub still_refused : (r : Refusal) (about : About) → IsRefused cmd r about → IsStillRefused cmd net r
   still_refused r about (by_workers asks) = of_workers asks
   still_refused r about (by_files names breaks) = ⊎_elim
       (λ refuses. absurd (law names_of_ports cmd.library (top_of cmd) (words_of cmd) net cmd.misses names r tells conforms (in_files refuses)))
