@@ -1,3 +1,3 @@
 pub mod Words
 pub mod Refused
-pub mod Answered
+pub mod Putting

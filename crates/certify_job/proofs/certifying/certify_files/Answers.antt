@@ -4,7 +4,7 @@ use Rattle.actor_files.specs.Views.{file_names}
 use Rattle.rvc_engine.specs.Refused.{IsFault}
 use Rattle.rvc_engine.specs.Top.{top_asked}
 use Rattle.network_commands.specs.Steps.{about_words, status_of_build}
-use Rattle.network_commands.proofs.Answered.{last_alone, line_answered}
+use Rattle.network_commands.proofs.Putting.{last_alone, line_answered}
 use Rattle.certify_job.specs.Ends.{Comes}
 use Rattle.certify_job.proofs.Ending.{failed}
 use Rattle.certify_job.proofs.certifying.certify_files.Goals as goal

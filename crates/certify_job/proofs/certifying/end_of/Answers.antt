@@ -5,7 +5,7 @@ use Rattle.run_report.specs.Report.{certified_line}
 use Rattle.run_report.specs.declared.status.Status.TheVariants as status
 use Rattle.rvc_words.specs.Words.{port_text}
 use Rattle.network_commands.specs.Steps.{about_words}
-use Rattle.network_commands.proofs.Answered.{line_answered, put_answered}
+use Rattle.network_commands.proofs.Putting.{line_answered, put_answered}
 use Rattle.certify_job.specs.Ends.{Comes}
 use Rattle.certify_job.proofs.Ending.{comes, wrong}
 use Rattle.certify_job.proofs.certifying.end_of.Goals as goal

@@ -3,7 +3,7 @@ use Rattle.actor_files.specs.Views.{file_names}
 use Rattle.rvc_engine.specs.Refused.{IsFault}
 use Rattle.rvc_engine.specs.Top.{top_asked}
 use Rattle.network_commands.specs.Steps.{about_words, status_of_build}
-use Rattle.network_commands.proofs.Answered.{last_alone, line_answered}
+use Rattle.network_commands.proofs.Putting.{last_alone, line_answered}
 use Rattle.std.specs.Prelude.{string_bytes}
 use Rattle.check_job.specs.Ends.{Comes}
 use Rattle.check_job.proofs.Ending.{failed}

@@ -5,7 +5,7 @@ use Rattle.run_report.specs.declared.status.Status.TheVariants as status
 use Rattle.run_report.specs.Report.{size_lines}
 use Rattle.rvc_words.specs.Words.{port_text}
 use Rattle.network_commands.specs.Steps.{about_words}
-use Rattle.network_commands.proofs.Answered.{line_answered, put_answered}
+use Rattle.network_commands.proofs.Putting.{line_answered, put_answered}
 use Rattle.check_job.specs.Ends.{Comes}
 use Rattle.check_job.specs.Steps.{about_checked}
 use Rattle.check_job.proofs.Ending.{conformed, wrong}
