@@ -22,7 +22,7 @@ use Rattle.run_report.specs.declared.status.Status.TheVariants as status
 use Rattle.network_commands.specs.Answers.{IsAnswered, is_reported, is_unreported}
 use Rattle.network_commands.specs.Commands.{Command, OpenedNothing, about_files}
 use Rattle.network_commands.specs.Steps.{IsPut, about_words, status_of_build}
-use Rattle.network_commands.proofs.Answered.{last_alone, line_answered}
+use Rattle.network_commands.proofs.Putting.{last_alone, line_answered}
 use Rattle.run_job.specs.Ends.{AsksForWorkers, Comes, IsRefused, by_files, by_workers}
 use Rattle.run_job.specs.Steps.{ImageRan, about_image, lines_at, status_of}
 use Rattle.run_job.proofs.Answering.{comes}

@@ -7,7 +7,6 @@
 //! `proofs/Sourced.antt` carries what cells leave over to their sources.
 #![tactic(auto)]
 
-mod counting;
 mod image;
 mod laws;
 mod reporting;

@@ -5,8 +5,8 @@ ghost use Rattle.network_commands.specs.Commands.{count_none};
 
 use determinacy_cert::CertFault;
 
-/// How many of these are nothing.
-pub(crate) fn count_none(said: &[Option<CertFault>]) -> u64
+/// How many of these are nothing: so many actors are certified, if this is said of each.
+pub fn count_none(said: &[Option<CertFault>]) -> u64
     ensures { result ≡ count_none said.now }
 {
     let mut count = 0u64;

@@ -1,6 +1,6 @@
 use Rattle.std.proofs.Common.{◌≡◌, ◌+◌, ◌≤◌, length}
 use Rattle.network_commands.specs.Commands.{count_none}
-use Rattle.run_job.proofs.counting.count_none.Given as goal
+use Rattle.network_commands.proofs.counting.count_none.Given as goal
 
 abbrev pub invariant-said : goal.invariant-said
 invariant-said l = (l.count + count_none l.rest ≡ count_none l.initial.rest)
