@@ -22,7 +22,7 @@ use Rattle.gen_job.specs.Ends.{Comes, IsGenerated, Runs, by_run}
 -- ---- one command for another
 
 module _ (cmd gen : Command) (is : IsGenerated cmd gen) (untouched : cmd.feeds_after ≡ cmd.feeds) where
-  no_rise : (old new : ℕ) → new ≡ 0 → HasRisen old new → ⊥
+  pub no_rise : (old new : ℕ) → new ≡ 0 → HasRisen old new → ⊥
   no_rise old new none (inl less) = omega (arith, none, less)
   no_rise old new none (inr last) = omega (arith, none, last)
 

@@ -7,7 +7,7 @@ ghost use Rattle.gen_job.specs.Making.{IsMadeFor};
 
 use generated_network::{GeneratedLibrary, TOP_NAME, generated_library};
 use rvc_base::Memory;
-use rvc_words::{Job, MAX_GENERATED, PortWord, read_number};
+use rvc_words::{Job, PortWord};
 use std::alloc::Global;
 
 /// The name of the network's input, and of the file that it is read from.
@@ -49,9 +49,9 @@ fn instances_of(top: &str) -> u32
     ensures number { instances_of top.now ≡ Some result }
     ensures some { 0 < result }
 {
-    match read_number(top, 1, MAX_GENERATED) {
-        Some(number) => number as u32,
-        None => unreachable!(),
+    match top.parse::<u32>() {
+        Ok(number) => number,
+        Err(_) => unreachable!(),
     }
 }
 

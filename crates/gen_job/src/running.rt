@@ -1,6 +1,6 @@
 //! The verb.
 
-ghost use Rattle.std.specs.Prelude.{◌≡◌, ◌≢◌, ◌++◌, ◌∷◌, ℕ, [], IsSome, Some, false, true, map, string_bytes};
+ghost use Rattle.std.specs.Prelude.{◌≡◌, ◌≢◌, ℕ, IsSome, Some, false, true, map, string_bytes};
 ghost use Rattle.rvc_io.specs.Feeds.{Inputs};
 ghost use Rattle.rvc_words.specs.Words.{IsWithin, job_text, port_text};
 ghost use Rattle.actor_files.specs.Loading.{Counts, Library};
@@ -15,6 +15,7 @@ ghost use Rattle.gen_job.specs.Steps.{command_over};
 use crate::built::run_built;
 use crate::making::{Generated, generate};
 use actor_files::Names;
+use conforming_jobs::one_network_conforms;
 use network_commands::{conforming_jobs_are_not_refused, report_unbuilt, status_of_build};
 use run_job::{built_images_can_be_run, refused_workers};
 use run_report::Status;
@@ -69,6 +70,7 @@ pub fn gen_job<R: Threads + Sync, D: Drains, G: Gate>(
         (D.channels drains.old) (D.channels drains.new)) result }
 {
     one_library_network();
+    one_network_conforms();
     conforming_jobs_are_not_refused();
     run_for(rt, alloc, job, drains, gate)
 }
