@@ -1,16 +1,15 @@
 -- Feeds that are opened one after another.
-use Rattle.std.proofs.Common.{◌≡◌, ℕ, zero, suc, ◌+◌, ◌<◌, ◌≤◌, ◌⊎◌, inl, inr, Bool, true, false, List, [], ◌∷◌, ◌++◌, length, refl, sym, ap, subst, ◌∙◌, arith, Option, None, Some, Contains}
+use Rattle.std.proofs.Common.{◌≡◌, ℕ, zero, suc, ◌+◌, ◌<◌, ◌≤◌, inl, inr, true, false, List, [], ◌∷◌, ◌++◌, refl, sym, subst, ◌∙◌, arith, Option, None, Some, Contains}
 use Rattle.std.specs.Prelude.{option_map, slice_get, if◌then◌else◌}
 use Rattle.std.proofs.lemmas.Bool.{cases_eq}
 use Rattle.std.proofs.lemmas.List.{append_assoc, append-nil}
 use Rattle.std.proofs.lemmas.List.Elements.{Contains-append_left, Contains-append_right, Contains-append_cases}
 use Rattle.rvc_io.specs.Count.{HasRisen}
-use Rattle.rvc_io.specs.Elsewhere.{SameElsewhere}
 use Rattle.rvc_io.specs.Feeds.{FailsOn, Inputs, OpensOn, OpensOnlyAt}
 use Rattle.rvc_words.specs.Words.{PortText}
 use Rattle.net_model.specs.Network.{is_outside}
 use Rattle.net_model.specs.declared.wiring.End.{End}
-use Rattle.net_model.specs.declared.wiring.End.TheVariants.{Leaf as AtLeaf, Net as AtNet}
+use Rattle.net_model.specs.declared.wiring.End.TheVariants.{Net as AtNet}
 use Rattle.net_model.specs.declared.wiring.Link.{Link}
 use Rattle.port_words.specs.Opening.{FeedFails, FeedsAreOpened, IsApart, Opening, feeds_from, file_at, file_from, opening_if}
 use Rattle.port_words.specs.Steps.{FeedsSoFar, IsUnopenedFeed}
@@ -58,6 +57,16 @@ one_opened number file old new on only = record {
   same_left = λ n a. only.same_left n (λ e. a _ (one_in _) e);
   same_names = only.same_names;
   faults_stay = only.faults_stay;
+}
+
+-- the feed of a trace was opened, and those of inputs come behind it
+pub begins_behind : (trace : List ℕ) (rest : List Opening) (old now : Inputs) → FeedsAreOpened (record { number = 0; file = trace } ∷ []) old now
+    → FeedsSoFar (record { number = 0; file = trace } ∷ rest) rest 1 old now
+begins_behind trace rest old now opened = record {
+  made = record { number = 0; file = trace } ∷ [];
+  in_order = refl;
+  below = λ o h. subst (λ x. x.number < 1) (in_one _ o h) (omega arith);
+  are_opened = opened;
 }
 
 -- one more behind those that were opened
@@ -134,6 +143,18 @@ fails all rest number (Some file) old mid new so this = record {
     later : (a b c : ℕ) → a ≤ b → HasRisen b c → HasRisen a c
     later a b c stay (inl less) = inl (omega arith)
     later a b c stay (inr last) = inr last
+
+-- the feed of a trace couldn't be opened
+pub fails_first : (trace : List ℕ) (rest : List Opening) (old new : Inputs) → IsUnopenedFeed 0 (Some trace) old new → FeedFails (record { number = 0; file = trace } ∷ rest) 0 old new
+fails_first trace rest old new this = record {
+  before = [];
+  failed = record { number = 0; file = trace };
+  after = rest;
+  in_order = refl;
+  number_is = refl;
+  are_opened = this.unchanged;
+  counted = this.counted;
+}
 
 -- it failed, and nothing else changed
 pub fails_alone : (number : ℕ) (name : List ℕ) (old new : Inputs) → FailsOn number old new → OpensOnlyAt number old new → IsUnopenedFeed number (Some name) old new
