@@ -1,6 +1,7 @@
 -- What a command's answer says, by what it came to.
-use Rattle.std.proofs.Common.{◌≡◌, ℕ, List, subst}
+use Rattle.std.proofs.Common.{◌≡◌, ℕ, false, List, None, subst}
 use Rattle.rvc_base.specs.declared.refusal.Refusal.{Refusal}
+use Rattle.rvc_io.specs.Feeds.{Inputs}
 use Rattle.rvc_io.specs.Channels.{WritesOnlyAt}
 use Rattle.actor_files.specs.Loading.{Counts, TellsAll}
 use Rattle.cal_model.specs.Certified.{IsCertified}
@@ -21,6 +22,10 @@ use Rattle.network_commands.specs.Commands.{Command, ConformingAreNotRefused, Is
 use Rattle.network_commands.proofs.Refused.{broken_is_refused}
 use Rattle.certify_job.specs.Ends.{Comes, FailsFirst, IsDecided, IsUndecided, Judged}
 use Rattle.certify_job.proofs.OneActors.{same_actors}
+
+-- feeds of which nothing is told
+abbrev pub no_feeds : Inputs
+no_feeds = record { under = λ name. None; left = λ feed. None; is_open = λ feed. false; faults = 0 }
 
 -- ---- what stays
 

@@ -1,6 +1,7 @@
 -- What a command's answer says, by what it came to.
-use Rattle.std.proofs.Common.{◌≡◌, ℕ, List, ap, subst, ◌∙◌}
+use Rattle.std.proofs.Common.{◌≡◌, ℕ, false, List, None, ap, subst, ◌∙◌}
 use Rattle.rvc_base.specs.declared.refusal.Refusal.{Refusal}
+use Rattle.rvc_io.specs.Feeds.{Inputs}
 use Rattle.rvc_io.specs.Channels.{Appends, WritesOnlyAt}
 use Rattle.actor_files.specs.Loading.{Counts, TellsAll}
 use Rattle.cal_model.specs.Selection.{State}
@@ -15,6 +16,10 @@ use Rattle.network_commands.specs.Answers.{IsAnswered, is_reported, is_unreporte
 use Rattle.network_commands.specs.Commands.{Command, ConformingAreNotRefused, OpenedNothing, RefusesJob, top_of, words_of}
 use Rattle.network_commands.proofs.Refused.{broken_is_refused}
 use Rattle.check_job.specs.Ends.{Comes, Conformed, IsDoneOrOutside, network_report}
+
+-- feeds of which nothing is told
+abbrev pub no_feeds : Inputs
+no_feeds = record { under = λ name. None; left = λ feed. None; is_open = λ feed. false; faults = 0 }
 
 -- ---- what stays
 

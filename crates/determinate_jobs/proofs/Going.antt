@@ -94,21 +94,21 @@ module _ {X : Type 0} (laws : Laws X) (net : Network X) (inputs : List (List ℕ
   }
 
 pub tells : Laws ActorState → FlatAreWired ActorState → CertifiedAreDeterminate → NoFailureWhereCertified
-    → (cmd : Command) (end : Line) (counts : Counts) (lines : List ℕ) (about : About) (ran : Ran cmd end counts lines about)
+    → (cmd : Command) (net : Network ActorState) (end : Line) (counts : Counts) (lines : List ℕ) (about : About) (ran : Ran cmd net end counts lines about)
     → Each IsSound (actors_of ran) → TellsQuietRuns ran
-tells laws wired determinate none cmd end counts lines about ran sound =
+tells laws wired determinate none cmd net end counts lines about ran sound =
     let means = ran.is_to_run.files.means in
     let files = files_of ran.is_to_run.files.reads in
     let instances : about.instances ≡ length means.actors =
-    ap (λ a. a.instances) ran.about_is ∙ leaves_many files means.tree.leaves means.actors ran.net.leaves means.are_actors in
+    ap (λ a. a.instances) ran.about_is ∙ leaves_many files means.tree.leaves means.actors net.leaves means.are_actors in
     record {
       shown = (
         λ shows. all_counted means.actors ran.are_certified.said ran.are_certified.judged (sym ran.are_certified.counted ∙ (shows ∙ instances)),
         λ each. ran.are_certified.counted
-            ∙ (counted_all none files means.tree.leaves means.actors ran.net.leaves ran.are_certified.said means.are_actors ran.are_certified.judged each ∙ sym instances),
+            ∙ (counted_all none files means.tree.leaves means.actors net.leaves ran.are_certified.said means.are_actors ran.are_certified.judged each ∙ sym instances),
       );
       go_on = λ each inputs given.
-          goes_on laws ran.net inputs cmd.job
-          (determinate ran.net (wired means.tree _ ran.net means.flat) (leaves_certified files means.tree.leaves means.actors ran.net.leaves means.are_actors sound each))
+          goes_on laws net inputs cmd.job
+          (determinate net (wired means.tree _ net means.flat) (leaves_certified files means.tree.leaves means.actors net.leaves means.are_actors sound each))
           end counts cmd.channels_after (ran.leaves inputs given);
     }

@@ -7,8 +7,10 @@ use Rattle.trace_text.specs.declared.line.Line.{Line}
 use Rattle.trace_text.specs.declared.line.Line.TheVariants.{Quiet as QuietLine, Trap as TrapLine, Stall as StallLine, Budget as BudgetLine}
 use Rattle.cal_model.specs.Actor.{Actor}
 use Rattle.cal_model.specs.Certified.{IsCertified}
+use Rattle.cal_model.specs.Selection.{State as ActorState}
 use Rattle.cal_model.specs.Sound.{Each}
 use Rattle.net_model.specs.declared.wiring.Counts.{Counts}
+use Rattle.net_model.specs.Network.{Network}
 use Rattle.net_model.specs.State.{State}
 use Rattle.net_model.specs.Event.{Event}
 use Rattle.net_model.specs.Laws.{firings_in}
@@ -47,16 +49,16 @@ AllGoOn {X} run end counts channels ended = (events : List Event) (quiet : State
 -- ---- a command
 
 -- the actors at the leaves of the network that a command ran
-abbrev pub actors_of : {cmd : Command} {end : Line} {counts : Counts} {lines : List ℕ} {about : About}
-    → Ran cmd end counts lines about → List Actor
+abbrev pub actors_of : {cmd : Command} {net : Network ActorState} {end : Line} {counts : Counts} {lines : List ℕ} {about : About}
+    → Ran cmd net end counts lines about → List Actor
 actors_of ran = ran.is_to_run.files.means.actors
 
 -- A command ran until this line. Each of its actors is certified exactly if its report counts as many that are as there are
 -- instances. If they are, then whatever bytes its inputs have, every quiet run over these goes on from where it ended.
-pub record TellsQuietRuns {cmd : Command} {end : Line} {counts : Counts} {lines : List ℕ} {about : About} (ran : Ran cmd end counts lines about) : Type 0 where
+pub record TellsQuietRuns {cmd : Command} {net : Network ActorState} {end : Line} {counts : Counts} {lines : List ℕ} {about : About} (ran : Ran cmd net end counts lines about) : Type 0 where
   pub shown : (ran.certified ≡ about.instances) ↔ Each IsCertified (actors_of ran)
   pub go_on : Each IsCertified (actors_of ran) → (inputs : List (List ℕ))
-      → (given : AreGiven cmd ran.net inputs) → AllGoOn (run_over cmd ran.net inputs) end counts
+      → (given : AreGiven cmd net inputs) → AllGoOn (run_over cmd net inputs) end counts
       cmd.channels_after (ran.leaves inputs given)
 
 -- the line by which a run ended that has this status
@@ -76,8 +78,9 @@ line_of (status.Uncertified inst state first second reason) = None
 
 -- A command that came to this status, with these lines in its report and speaking of this, tells what every quiet run gives.
 abbrev pub QuietRunsGoOn : Command → Status → (lines : List ℕ) → About → Type 0
-QuietRunsGoOn cmd said lines about = (end : Line) → line_of said ≡ Some end → (counts : Counts)
-    (ran : Ran cmd end counts lines about) → TellsQuietRuns ran
+QuietRunsGoOn cmd said lines about = (net : Network ActorState) (end : Line)
+    → line_of said ≡ Some end → (counts : Counts) (ran : Ran cmd net end counts lines about)
+    → TellsQuietRuns ran
 
 -- .. whatever it is
 abbrev pub RunsTellQuietRuns : Type 0

@@ -60,8 +60,8 @@ module _ (cmd : Command) where
   run_came Done lines about comes put = absurd comes
   run_came (Usage cause) lines about comes put = absurd comes
   run_came (ReadFault (File file)) lines about comes put = record { caused = comes.0.counted; alone = λ b. comes.1.only_report; plain = λ t. tt }
-  run_came (ReadFault (Feed feed)) lines about comes put = record { caused = unread-counted comes.net feed comes.how; alone = λ b. absurd b; plain = λ t. tt }
-  run_came (WriteFault channel) lines about comes put = record { caused = comes.counted; alone = λ b. absurd b; plain = λ t. tt }
+  run_came (ReadFault (Feed feed)) lines about comes put = record { caused = unread-counted comes.0 feed comes.1.how; alone = λ b. absurd b; plain = λ t. tt }
+  run_came (WriteFault channel) lines about comes put = record { caused = comes.1.counted; alone = λ b. absurd b; plain = λ t. tt }
   run_came (Refused r) lines about comes put = record { caused = tt; alone = λ b. comes.1.only_report; plain = λ t. tt }
   run_came (Trapped inst action trap) lines about comes put = record { caused = tt; alone = λ b. absurd b; plain = λ t. tt }
   run_came (Stalled inst action link) lines about comes put = record { caused = tt; alone = λ b. absurd b; plain = λ t. tt }

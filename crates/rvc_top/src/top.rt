@@ -12,17 +12,17 @@ ghost use Rattle.actor_files.specs.Loading.{Counts, TellsAll};
 ghost use Rattle.cal_ast.specs.Tree.{Tree};
 ghost use Rattle.cal_model.specs.Selection.{State};
 ghost use Rattle.net_model.specs.Network.{Network};
-ghost use Rattle.conforming_jobs.specs.Conforming.{Conforms, ConformsWith, no_ports};
+ghost use Rattle.conforming_jobs.specs.Conforming.{Conforms, ConformsWith, names_of_ports, no_ports};
 ghost use Rattle.rvc_engine.specs.Top.{top_asked};
-ghost use Rattle.network_commands.specs.Answers.{OnRefusal};
+ghost use Rattle.grown_links.specs.Growth.{GrowTooFar};
 ghost use Rattle.network_commands.specs.Commands.{RefusesJob, met_by};
 ghost use Rattle.certify_job.specs.Ends.{Comes as CertifyComes, IsDecided, IsUndecided};
 ghost use Rattle.check_job.specs.Ends.{Comes as CheckComes, IsDoneOrOutside};
 ghost use Rattle.determinate_jobs.specs.QuietRuns.{ComesDeterminate};
 ghost use Rattle.format_job.specs.Formatting.{HasFile, IsDoneOrMemory, IsPrinting, IsUnprinted, PrintsFile};
 ghost use Rattle.format_job.specs.Reports.{ReportIs, about_file};
-ghost use Rattle.run_job.specs.Ends.{Comes as RunComes, IsUnbuilt};
-ghost use Rattle.rvc_top.specs.Jobs.{IsAnsweredAlone, IsDoneBy, OfJob, is_built, not_built_here};
+ghost use Rattle.run_job.specs.Ends.{Comes as RunComes, ComesFor, IsNoEnd};
+ghost use Rattle.rvc_top.specs.Jobs.{IsAnsweredAlone, IsDoneBy, is_built, not_built_here};
 ghost use Rattle.rvc_top.specs.Status.{IsBeforeAll, IsCaused, IsOfJob, PlainReportIs};
 
 use crate::reporting::report;
@@ -42,7 +42,9 @@ use std::thread::Threads;
 /// what [`run_job`](run_job::run_job) comes: `Ran` for these four answers, and a case for each other one). **If every actor
 /// is certified, which the report's count shows, the outputs of every quiet run over these inputs are those bytes, or
 /// continue them if this run ended otherwise** (`determinate`: `TellsQuietRuns` of [`determinate_jobs`]). If the library
-/// tells of each name, and the files and the words conform, nothing is refused but what isn't built yet (`run_complete`).
+/// tells of each name, and the files and the words conform to a network, that one is run, unless the job asks for what isn't
+/// built yet or lets links grow too far, or memory runs out, or reading or writing fails (`run_complete`); and what is
+/// refused never ends a run (`run_incomplete`, `run_too_far`).
 ///
 /// - `check`: the job was checked as [`check_job`](check_job::check_job) says: `Done` if the files conform and there is no
 ///   port word. Nothing is opened. What conforms is `Done`, unless memory runs out or reading or writing fails
@@ -94,7 +96,17 @@ pub fn rvc<R: Threads + Sync, L: Library, F: Feeds, D: Drains, G: Gate>(
     ensures run_complete { (j : JobText) (net : Network State) → job (texts words.now) ≡ Ok j
         → j.verb ≡ verb.Run → TellsAll (L.file library.old)
         → Conforms (L.file library.old) (top_asked j.top) j.ports net
-        → OnRefusal result (λ refusal. OfJob j (λ read. IsUnbuilt (L.file library.old) read refusal)) }
+        → IsDoneBy (ComesFor net) j (met_by L.file L.misses L.faults F.feeds D.channels
+        library.old library.new feeds.old feeds.new drains.old drains.new) result }
+    ensures run_incomplete { (j : JobText) (misses : Counts) (names : List (List ℕ))
+        (refusal : Denial) → job (texts words.now) ≡ Ok j → j.verb ≡ verb.Run
+        → TellsAll (L.file library.old)
+        → RefusesJob names_of_ports (L.file library.old) (top_asked j.top) j.ports misses names
+        refusal → IsNoEnd result }
+    ensures run_too_far { (j : JobText) (net : Network State) → job (texts words.now) ≡ Ok j
+        → j.verb ≡ verb.Run → TellsAll (L.file library.old)
+        → Conforms (L.file library.old) (top_asked j.top) j.ports net
+        → GrowTooFar net.links j.grow → IsNoEnd result }
 
     // `check`.
     ensures check { (j : JobText) → job (texts words.now) ≡ Ok j → j.verb ≡ verb.Check

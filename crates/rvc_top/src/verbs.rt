@@ -9,16 +9,17 @@ ghost use Rattle.actor_files.specs.Loading.{Counts, TellsAll};
 ghost use Rattle.cal_ast.specs.Tree.{Tree};
 ghost use Rattle.cal_model.specs.Selection.{State};
 ghost use Rattle.net_model.specs.Network.{Network};
-ghost use Rattle.conforming_jobs.specs.Conforming.{Conforms, ConformsWith, no_ports};
+ghost use Rattle.conforming_jobs.specs.Conforming.{Conforms, ConformsWith, names_of_ports, no_ports};
 ghost use Rattle.rvc_engine.specs.Top.{top_asked};
-ghost use Rattle.network_commands.specs.Answers.{IsAnswered, OnRefusal};
+ghost use Rattle.grown_links.specs.Growth.{GrowTooFar};
+ghost use Rattle.network_commands.specs.Answers.{IsAnswered};
 ghost use Rattle.network_commands.specs.Commands.{RefusesJob, command, met_by};
 ghost use Rattle.certify_job.specs.Ends.{Comes as CertifyComes, IsDecided, IsUndecided};
 ghost use Rattle.check_job.specs.Ends.{Comes as CheckComes, IsDoneOrOutside};
 ghost use Rattle.determinate_jobs.specs.QuietRuns.{ComesDeterminate};
 ghost use Rattle.format_job.specs.Formatting.{HasFile, IsDoneOrMemory, IsPrinting, IsUnprinted, PrintsFile};
 ghost use Rattle.format_job.specs.Reports.{ReportIs, about_file};
-ghost use Rattle.run_job.specs.Ends.{Comes as RunComes, IsUnbuilt};
+ghost use Rattle.run_job.specs.Ends.{Comes as RunComes, ComesFor, IsNoEnd};
 ghost use Rattle.rvc_top.specs.Jobs.{IsToldAlone, is_built, not_built_here};
 ghost use Rattle.rvc_top.specs.Steps.{IsNoUsage, IsSaid};
 
@@ -68,7 +69,20 @@ pub(crate) fn do_job<R: Threads + Sync, L: Library, F: Feeds, D: Drains, G: Gate
         → TellsAll (L.file library.old)
         → Conforms (L.file library.old) (top_asked (string_bytes job.now.top))
         (map port_text job.now.ports.items) net
-        → OnRefusal result (IsUnbuilt (L.file library.old) job.now) }
+        → IsAnswered (ComesFor net) (command
+        (met_by L.file L.misses L.faults F.feeds D.channels library.old library.new
+        feeds.old feeds.new drains.old drains.new) job.now)
+        result }
+    ensures run_incomplete { (misses : Counts) (names : List (List ℕ)) (refusal : Denial)
+        → job.now.verb ≡ Verb.Run → TellsAll (L.file library.old)
+        → RefusesJob names_of_ports (L.file library.old) (top_asked (string_bytes job.now.top))
+        (map port_text job.now.ports.items) misses names refusal
+        → IsNoEnd result }
+    ensures run_too_far { (net : Network State) → job.now.verb ≡ Verb.Run
+        → TellsAll (L.file library.old)
+        → Conforms (L.file library.old) (top_asked (string_bytes job.now.top))
+        (map port_text job.now.ports.items) net
+        → GrowTooFar net.links job.now.grow → IsNoEnd result }
 
     ensures check { job.now.verb ≡ Verb.Check → IsAnswered CheckComes (command
         (met_by L.file L.misses L.faults F.feeds D.channels library.old library.new

@@ -1,9 +1,10 @@
-use Rattle.std.proofs.Common.{[], refl, subst}
+use Rattle.std.proofs.Common.{rules, [], refl, subst}
 use Rattle.std.specs.Prelude.{string_bytes}
 use Rattle.actor_files.specs.Views.{file_names}
 use Rattle.rvc_engine.specs.Refused.{IsFault}
 use Rattle.rvc_engine.specs.Top.{top_asked}
-use Rattle.network_commands.specs.Steps.{about_words, status_of_build}
+use Rattle.run_report.specs.Report.{last_line}
+use Rattle.network_commands.specs.Steps.{IsPut, about_words, status_of_build}
 use Rattle.network_commands.proofs.Putting.{last_alone, line_answered}
 use Rattle.certify_job.specs.Ends.{Comes}
 use Rattle.certify_job.proofs.Ending.{failed}
@@ -20,7 +21,8 @@ returns-clause-answered g c = λ feeds.
     (record { old = g.L.Library.faults c.args.library.now; new = g.L.Library.faults c.check_network.new.library })
     (file_names c.check_network.new.names) c.in-Err.fault)
     c.as_str.ensures.value c.in-Err.ensures.fault in
+    let put : IsPut (status_of_build c.in-Err.fault) (last_line (about_words c.check_network.new.names c.args.job.now) (status_of_build c.in-Err.fault))
+    (g.D.Drains.channels c.args.drains.now) (g.D.Drains.channels c.report_unbuilt.new.drains) c.report_unbuilt.result = search rules in
     line_answered Comes _ (status_of_build c.in-Err.fault) c.report_unbuilt.result [] (about_words c.check_network.new.names c.args.job.now)
     (last_alone [] (about_words c.check_network.new.names c.args.job.now) c.in-Err.fault)
-    (λ only. failed _ (file_names c.check_network.new.names) c.in-Err.fault [] why (record { same_feeds = refl; only_report = only }))
-    c.report_unbuilt.ensures
+    (λ only. failed _ (file_names c.check_network.new.names) c.in-Err.fault [] why (record { same_feeds = refl; only_report = only })) put

@@ -18,8 +18,8 @@ returns-in-Ok-judge_leaves g c = λ library misses faults feeds is.
     c.in-Ok-judge_leaves.verdict (about_words c.args.names.now c.args.job.now) none is c.in-Ok-judge_leaves.ensures (record { same_feeds = refl; only_report = only }))
     c.report_certified.ensures
 
-pub returns-in-Ok-judge_leaves-in-Err : goal.returns-in-Err-judge_leaves
-returns-in-Ok-judge_leaves-in-Err g c = λ library misses faults feeds is.
+pub returns-in-Err-judge_leaves : goal.returns-in-Err-judge_leaves
+returns-in-Err-judge_leaves g c = λ library misses faults feeds is.
     line_answered Comes _ status.OutOfMemory c.report_unbuilt.result [] (about_words c.args.names.now c.args.job.now) refl
     (λ only. record { same_feeds = refl; only_report = only }) c.report_unbuilt.ensures
 

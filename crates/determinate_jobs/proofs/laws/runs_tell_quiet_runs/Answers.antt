@@ -2,7 +2,7 @@ use Rattle.determinate_jobs.proofs.Going.{tells}
 use Rattle.determinate_jobs.proofs.laws.runs_tell_quiet_runs.Goals as goal
 
 pub returns : goal.returns
-returns c cmd said lines about end ends counts ran =
+returns c cmd said lines about net end ends counts ran =
     tells (record {
       runs = c.lines_are_runs.ensures;
       starts = c.taken_have_arrived.ensures.start;
@@ -11,4 +11,4 @@ returns c cmd said lines about end ends counts ran =
       alone = c.no_quiet_run_besides_a_trap.ensures;
       all = c.as_many_firings_are_all.ensures;
     }) c.flat_networks_are_wired.ensures c.certified_networks_are_determinate.ensures c.no_failure_where_certified.ensures
-    cmd end counts lines about ran ran.sound
+    cmd net end counts lines about ran ran.sound

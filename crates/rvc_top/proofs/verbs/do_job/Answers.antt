@@ -7,6 +7,9 @@ returns-in-Run-clause-determinate g c = λ is. run_tells _ c.runs_tell_quiet_run
 pub returns-in-Run-clause-run_complete : goal.returns-in-Run-clause-run_complete
 returns-in-Run-clause-run_complete g c = λ net is tells conforms. c.run_job.ensures.complete net tells conforms
 
+pub returns-in-Run-clause-run_too_far : goal.returns-in-Run-clause-run_too_far
+returns-in-Run-clause-run_too_far g c = λ net is tells conforms far. c.run_job.ensures.too_far net tells conforms far
+
 pub returns-in-Run-clause-said : goal.returns-in-Run-clause-said
 returns-in-Run-clause-said g c = run_said _ c.run_job.result c.run_job.ensures.answered
 
