@@ -6,13 +6,13 @@ use Rattle.net_state.specs.Surveyed.{AreUntrapped}
 use Rattle.net_state.specs.Working.{IsAtRest}
 use Rattle.net_state.proofs.Slices.{written_back}
 use Rattle.network_runner.specs.Asking.{Advances, end_of, seen_run}
-use Rattle.network_runner.specs.Counting.{sent_with}
+use Rattle.network_runner.specs.Counting.{IsToPort, sent_with}
 use Rattle.network_runner.specs.Keeping.{running_of}
 use Rattle.network_runner.specs.Rounding.{MakesRound}
 use Rattle.network_runner.specs.Stepping.{FiresRun}
 use Rattle.network_runner.proofs.Fitting.{as_many_cells, parts_kept}
-use Rattle.network_runner.proofs.Going.{advances_fired, going_fired, if_goes}
-use Rattle.network_runner.proofs.Held.{can_grow}
+use Rattle.network_runner.proofs.Going.{advances_fired, going_fired, if_goes, to_ports}
+use Rattle.network_runner.proofs.Held.{can_grow, fresh_now}
 use Rattle.network_runner.proofs.Numbers.{sent_long}
 use Rattle.network_runner.proofs.runner.Runner.fire.Goals as goal
 
@@ -22,6 +22,20 @@ make_firings-made-requires-clause-queues g c κs within =
     let goes = c.self.invariant.1 (ap (λ r. r.ended) c.self.view_is ∙ c.requires.going) in
     let rest : IsAtRest (seen g.A.Firing.cell c.self.inside.net) = subst (λ r. IsAtRest (seen g.A.Firing.cell r.held)) (sym c.self.view_is) c.requires.rest in
     can_grow (seen_run g.A.Firing.cell view) (length c.self.inside.marks.items) (g.P.Policy.rounds c.self.inside.policy) (g.P.Policy.instances c.self.inside.policy) goes rest
+
+pub make_firings-made-requires-clause-fresh : goal.make_firings-made-requires-clause-fresh
+make_firings-made-requires-clause-fresh g c κs within =
+    let view = running_of c.self.inside.net c.self.inside.ins.items c.self.inside.open_ins.items c.self.inside.outlets.items c.self.inside.readers.items (g.P.Policy.kind c.self.inside.policy) c.self.inside.plan c.self.inside.idle c.self.inside.trace c.self.inside.writers.items c.self.inside.counts c.self.inside.ended in
+    let goes = c.self.invariant.1 (ap (λ r. r.ended) c.self.view_is ∙ c.requires.going) in
+    let rest : IsAtRest (seen g.A.Firing.cell c.self.inside.net) = subst (λ r. IsAtRest (seen g.A.Firing.cell r.held)) (sym c.self.view_is) c.requires.rest in
+    fresh_now (seen_run g.A.Firing.cell view) (length c.self.inside.marks.items) (g.P.Policy.rounds c.self.inside.policy) (g.P.Policy.instances c.self.inside.policy) goes rest
+
+pub count_sent-requires-clause-ports : goal.count_sent-requires-clause-ports
+count_sent-requires-clause-ports g c =
+    let view = running_of c.self.inside.net c.self.inside.ins.items c.self.inside.open_ins.items c.self.inside.outlets.items c.self.inside.readers.items (g.P.Policy.kind c.self.inside.policy) c.self.inside.plan c.self.inside.idle c.self.inside.trace c.self.inside.writers.items c.self.inside.counts c.self.inside.ended in
+    subst (λ ls. IsToPort ls (length c.deref_mut-2.result.now)) (sym c.deref.ensures.value)
+    (to_ports view c.self.inside.links.items c.self.inside.outlets.items (length c.self.inside.came.items) (length c.self.inside.writers.items) c.self.inside.cells (length c.deref_mut-2.result.now) c.self.invariant.0
+    (ap (λ ns. length ns) c.deref_mut-2.ensures.value ∙ c.self.invariant.0.sent_for_each))
 
 pub invariant_of-self : goal.invariant_of-self
 invariant_of-self g c =
