@@ -1,5 +1,5 @@
 -- The top of a job of the verb is a number.
-use Rattle.std.proofs.Common.{◌≡◌, ℕ, Bool, true, false, List, Option, None, Some, Result, Ok, Err, refl, sym, ap, subst, ◌∙◌}
+use Rattle.std.proofs.Common.{◌≡◌, ℕ, Bool, true, false, List, Option, None, Some, Result, Ok, Err, refl, sym, ap, ◌∙◌, rules}
 use Rattle.std.specs.Prelude.{IsSome, is_some, if◌then◌else◌}
 use Rattle.rvc_words.specs.Command.{Parts, matches, parts_of, refuses}
 use Rattle.rvc_words.specs.Forms.{is_top}
@@ -23,7 +23,7 @@ kept_so false value cause a e = cc
 top_so : (verb : Verb) (top given : List ℕ) (j : JobText) → is_top verb given ≡ true → given ≡ top → j.verb ≡ verb → j.top ≡ top → is_top j.verb j.top ≡ true
 top_so verb top given j is same verb_is top_is = ap (λ t. is_top j.verb t) (top_is ∙ sym same) ∙ ap (λ v. is_top v given) verb_is ∙ is
 
-same_job : (one j : JobText) → Ok {E = UsageCause} one ≡ Ok j → one ≡ j
+same_job : (one j : JobText) → ◌≡◌ {A = Result JobText UsageCause} (Ok one) (Ok j) → one ≡ j
 same_job one j e = cc
 
 form : (p : Parts) (j : JobText) → asked p ≡ Ok j → is_top j.verb j.top ≡ true

@@ -20,12 +20,12 @@ either true = inr refl
 either false = inl refl
 
 -- a word that names a number is its digits
-record Names (w : List ℕ) (n : ℕ) : Type 0 where
-  some : 0 < length w
-  digits : list_all is_digit w ≡ true
-  value : n ≡ digits_value 10 w
-  least : 1 ≤ n
-  most : n ≤ 1000
+pub record Names (w : List ℕ) (n : ℕ) : Type 0 where
+  pub some : 0 < length w
+  pub digits : list_all is_digit w ≡ true
+  pub value : n ≡ digits_value 10 w
+  pub least : 1 ≤ n
+  pub most : n ≤ 1000
 
 chosen : (t : Bool) (v n : ℕ) → cond t (Some v) None ≡ Some n → (t ≡ true) × (v ≡ n)
 chosen true v n e = (refl, (let same : Some v ≡ Some n = e in cc))
