@@ -1,5 +1,5 @@
 -- The misses that were counted before a network was given.
-use Rattle.std.proofs.Common.{◌≡◌, ℕ, suc, ◌<◌, Bool, true, List, [], ◌∷◌, length, refl, sym, ap, subst, ◌∙◌, arith}
+use Rattle.std.proofs.Common.{◌≡◌, ℕ, suc, ◌<◌, true, List, [], ◌∷◌, length, refl, sym, ap, subst, ◌∙◌, arith}
 use Rattle.std.proofs.lemmas.List.{length-map}
 use Rattle.std.proofs.lemmas.List.Elements.{All-head}
 use Rattle.std.specs.List.{All}
@@ -9,7 +9,7 @@ use Rattle.actor_files.specs.Loading.{Counts}
 use Rattle.cal_model.specs.Actor.{Actor}
 use Rattle.cal_model.specs.Selection.{State}
 use Rattle.net_model.specs.Network.{Leaf as NetLeaf, Network}
-use Rattle.fnl_bind.specs.Library.{Entry, network_of}
+use Rattle.fnl_bind.specs.Library.{network_of}
 use Rattle.fnl_bind.specs.Trees.{bound}
 use Rattle.fnl_flatten.specs.declared.flat.Flat.{Flat}
 use Rattle.fnl_tree.specs.Tree.{Leaf, Tree}
