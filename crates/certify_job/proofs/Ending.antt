@@ -73,7 +73,7 @@ comes ordered none cmd names c v about matched h is nothing =
 
 pub wrong : (cmd : Command) (names : List (List ℕ)) (c : Checked) (r : Refusal) (lines : List ℕ) → IsWrongWord [] (words_of cmd) r
     → IsChecked cmd.library (top_of cmd) names c → OpenedNothing cmd → Comes cmd (status.Refused r) lines (about_files cmd names)
-wrong cmd names c r lines is h nothing = (by_words names h.source.net (record { files = has_files cmd names c h; names_are = refl; wrong = is; }), nothing)
+wrong cmd names c r lines is h nothing = (by_words names h.source.net (record { files = has_files cmd names c h; names_are = refl; wrong = is }), nothing)
 
 pub failed : (cmd : Command) (names : List (List ℕ)) (f : BuildFault) (lines : List ℕ) → IsFault cmd.library (top_of cmd) cmd.misses cmd.faults names f
     → OpenedNothing cmd → Comes cmd (status_of_build f) lines (about_files cmd names)

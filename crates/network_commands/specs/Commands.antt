@@ -44,14 +44,14 @@ abbrev pub met_by : {L F D : Type 0} → (file : L → Library) → (misses faul
     → (library library_after : L) → (feeds_old feeds_new : F) → (drains drains_after : D) → Met
 met_by file misses faults feeds channels library library_after feeds_old feeds_new drains drains_after =
     record {
-  library = file library;
-  misses = record { old = misses library; new = misses library_after };
-  faults = record { old = faults library; new = faults library_after };
-  feeds = feeds feeds_old;
-  feeds_after = feeds feeds_new;
-  channels = channels drains;
-  channels_after = channels drains_after;
-}
+      library = file library;
+      misses = record { old = misses library; new = misses library_after };
+      faults = record { old = faults library; new = faults library_after };
+      feeds = feeds feeds_old;
+      feeds_after = feeds feeds_new;
+      channels = channels drains;
+      channels_after = channels drains_after;
+    }
 
 -- A command: its job, and what it met.
 pub record Command : Type 0 where

@@ -28,12 +28,7 @@ pub fn files_subject<'a>(names: &'a Names, job: &'a Job) -> Subject<'a>
 
 /// Puts the last line of a status alone, and gives that status; if it can't be put, which is counted, the write fault of
 /// channel 0.
-pub fn report_unbuilt<D: Drains>(
-    said: Status,
-    names: &Names,
-    job: &Job,
-    drains: &mut D,
-) -> Status
+pub fn report_unbuilt<D: Drains>(said: Status, names: &Names, job: &Job, drains: &mut D) -> Status
     requires { (D.channels drains.old).is_open REPORT_CHANNEL ≡ true }
     ensures { IsPut said (last_line (about_words names.now job.now) said) (D.channels drains.old)
         (D.channels drains.new) result }

@@ -81,7 +81,7 @@ module _ (cmd : Command) where
   run_tells law _ (is_reported {said = said} lines about comes put) = is_reported lines about (comes, law cmd said lines about) put
   run_tells law _ (is_unreported said lines about comes put risen) = is_unreported said lines about (comes, law cmd said lines about) put risen
 
--- ---- `check`
+  -- ---- `check`
 
   check_came : (said : Status) (lines : List ℕ) (about : About) → check.Comes cmd said lines about → Put cmd (report lines about said) → CommandSaid cmd said
   check_came Quiet lines about comes put = absurd comes
@@ -104,7 +104,7 @@ module _ (cmd : Command) where
   pub check_no_usage : (answer : Status) → IsAnswered check.Comes cmd answer → IsNoUsage answer
   check_no_usage = no_usage_of check.Comes cmd (λ cause lines about comes. comes)
 
--- ---- `certify`
+  -- ---- `certify`
 
   certify_came : (said : Status) (lines : List ℕ) (about : About) → certify.Comes cmd said lines about → Put cmd (report lines about said) → CommandSaid cmd said
   certify_came Quiet lines about comes put = absurd comes
