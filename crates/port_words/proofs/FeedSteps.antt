@@ -60,6 +60,16 @@ one_opened number file old new on only = record {
   faults_stay = only.faults_stay;
 }
 
+-- the feed of a trace was opened, and those of inputs come behind it
+pub begins_behind : (trace : List ℕ) (rest : List Opening) (old now : Inputs) → FeedsAreOpened (record { number = 0; file = trace } ∷ []) old now
+    → FeedsSoFar (record { number = 0; file = trace } ∷ rest) rest 1 old now
+begins_behind trace rest old now opened = record {
+  made = record { number = 0; file = trace } ∷ [];
+  in_order = refl;
+  below = λ o h. subst (λ x. x.number < 1) (in_one _ o h) (omega arith);
+  are_opened = opened;
+}
+
 -- one more behind those that were opened
 more_opened : (made : List Opening) (x : Opening) (number : ℕ) (old mid new : Inputs) → x.number ≡ number → ((o : Opening) → Contains made o → o.number < number)
     → FeedsAreOpened made old mid → FeedsAreOpened (x ∷ []) mid new → FeedsAreOpened (made ++ x ∷ []) old new
@@ -134,6 +144,18 @@ fails all rest number (Some file) old mid new so this = record {
     later : (a b c : ℕ) → a ≤ b → HasRisen b c → HasRisen a c
     later a b c stay (inl less) = inl (omega arith)
     later a b c stay (inr last) = inr last
+
+-- the feed of a trace couldn't be opened
+pub fails_first : (trace : List ℕ) (rest : List Opening) (old new : Inputs) → IsUnopenedFeed 0 (Some trace) old new → FeedFails (record { number = 0; file = trace } ∷ rest) 0 old new
+fails_first trace rest old new this = record {
+  before = [];
+  failed = record { number = 0; file = trace };
+  after = rest;
+  in_order = refl;
+  number_is = refl;
+  are_opened = this.unchanged;
+  counted = this.counted;
+}
 
 -- it failed, and nothing else changed
 pub fails_alone : (number : ℕ) (name : List ℕ) (old new : Inputs) → FailsOn number old new → OpensOnlyAt number old new → IsUnopenedFeed number (Some name) old new

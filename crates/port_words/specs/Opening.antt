@@ -45,6 +45,12 @@ feeds_from number (link ∷ links) ins words =
 abbrev pub feeds_of : List Link → (ins : List (List ℕ)) → List PortText → List Opening
 feeds_of links ins words = feeds_from 1 links ins words
 
+-- .. and feed 0 is that of a trace that is to be replayed
+abbrev pub replay_feeds : (trace : List ℕ) → List Link → (ins : List (List ℕ)) → List PortText
+    → List Opening
+replay_feeds trace links ins words =
+    record { number = 0; file = trace } ∷ feeds_of links ins words
+
 -- the channels of outputs, the first of which has this number: those that have a file
 abbrev pub outputs_from : (number : ℕ) → (outs : List (List ℕ)) → List PortText → List Opening
 outputs_from number [] words = []

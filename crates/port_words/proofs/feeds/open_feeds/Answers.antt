@@ -1,14 +1,15 @@
-use Rattle.std.proofs.Common.{map, subst, arith}
+use Rattle.std.proofs.Common.{map}
+use Rattle.std.proofs.lemmas.Result.{on_ok_weaker, IfErr-weaker}
 use Rattle.rvc_words.specs.Words.{port_text}
 use Rattle.port_words.specs.Matching.{names_of}
-use Rattle.port_words.specs.Opening.{feeds_from, feeds_of}
-use Rattle.port_words.specs.Steps.{FeedsSoFar}
-use Rattle.port_words.proofs.FeedSteps.{closed_still}
+use Rattle.port_words.specs.Opening.{feeds_of}
+use Rattle.port_words.proofs.FeedSteps.{begins}
 use Rattle.port_words.proofs.feeds.open_feeds.Goals as goal
 
-pub open_from-requires-clause-closed : goal.open_from-requires-clause-closed
-open_from-requires-clause-closed g c = closed_still _ _ c.links.number c.links.number _ _ c.links.invariant.1 (omega arith) (c.requires.closed c.links.number)
+pub returns-clause-opened : goal.returns-clause-opened
+returns-clause-opened g c = on_ok_weaker c.open_inputs.result (λ h. h (feeds_of c.args.links.now (names_of c.args.ins.now) (map port_text c.args.words.now)) (g.F.Feeds.feeds c.args.feeds.now)
+    (begins (feeds_of c.args.links.now (names_of c.args.ins.now) (map port_text c.args.words.now)) (g.F.Feeds.feeds c.args.feeds.now))) c.open_inputs.ensures.opened
 
-pub returns-in-Err-clause-failed : goal.returns-in-Err-clause-failed
-returns-in-Err-clause-failed g c = c.in-Err.ensures.failed (feeds_of c.args.links.now (names_of c.args.ins.now) (map port_text c.args.words.now)) c.in-Some.others.now _
-    (subst (λ ls. FeedsSoFar (feeds_of c.args.links.now (names_of c.args.ins.now) (map port_text c.args.words.now)) (feeds_from c.links.number ls (names_of c.args.ins.now) (map port_text c.args.words.now)) c.links.number (g.F.Feeds.feeds c.args.feeds.now) (g.F.Feeds.feeds c.links.feeds)) c.in-Some.ensures.cases.0 c.links.invariant.1)
+pub returns-clause-failed : goal.returns-clause-failed
+returns-clause-failed g c = IfErr-weaker c.open_inputs.result _ _ (λ feed h. h (feeds_of c.args.links.now (names_of c.args.ins.now) (map port_text c.args.words.now)) (g.F.Feeds.feeds c.args.feeds.now)
+    (begins (feeds_of c.args.links.now (names_of c.args.ins.now) (map port_text c.args.words.now)) (g.F.Feeds.feeds c.args.feeds.now))) c.open_inputs.ensures.failed
