@@ -31,7 +31,8 @@ pub fn open_feeds<F: Feeds>(
     ins: &[Port],
     feeds: &mut F,
 ) -> Result<(), u32>
-    requires closed { (n : ℕ) → (F.feeds feeds.old).is_open n ≡ false }
+    requires closed { (n : ℕ) → 1 ≤ n → n ≤ length links.now
+        → (F.feeds feeds.old).is_open n ≡ false }
     requires few { length links.now < 4294967295 }
     ensures opened { OnOk result (FeedsAreOpened
         (feeds_of links.now (names_of ins.now) (map port_text words.now)) (F.feeds feeds.old)
@@ -56,7 +57,7 @@ pub fn open_replay_feeds<F: Feeds>(
     ins: &[Port],
     feeds: &mut F,
 ) -> Result<(), u32>
-    requires closed { (n : ℕ) → (F.feeds feeds.old).is_open n ≡ false }
+    requires closed { (n : ℕ) → n ≤ length links.now → (F.feeds feeds.old).is_open n ≡ false }
     requires few { length links.now < 4294967295 }
     ensures opened { OnOk result (FeedsAreOpened
         (replay_feeds trace.now links.now (names_of ins.now) (map port_text words.now))
@@ -78,7 +79,8 @@ fn open_inputs<F: Feeds>(
     ins: &[Port],
     feeds: &mut F,
 ) -> Result<(), u32>
-    requires closed { (n : ℕ) → 1 ≤ n → (F.feeds feeds.old).is_open n ≡ false }
+    requires closed { (n : ℕ) → 1 ≤ n → n ≤ length links.now
+        → (F.feeds feeds.old).is_open n ≡ false }
     requires few { length links.now < 4294967295 }
     ensures opened { OnOk result ((all : List Opening) (start : Inputs)
         → FeedsSoFar all (feeds_of links.now (names_of ins.now) (map port_text words.now)) 1 start

@@ -14,13 +14,14 @@ use Rattle.net_model.specs.declared.wiring.Link.{Link}
 use Rattle.net_model.specs.Network.{Leaf, Network}
 use Rattle.net_model.specs.State.{Flow, State, effect_at}
 use Rattle.net_model.specs.Event.{each_flow}
-use Rattle.net_model.specs.Ends.{Grows}
+use Rattle.net_model.specs.Ends.{Grows, IsSettled}
 use Rattle.net_model.specs.Trace.{FitFlows, LineIsTrue, PlaysFrom, TrapFits, counted_flows, goes, opened_by, with_given}
 use Rattle.net_model.specs.Paced.{HasRoomIn, PassesLink, PassesOn, PassesRoom}
 use Rattle.net_model.specs.Alike.{Allowed, AreAlike, EffectsAlike, LeavesAlike, StatesAlike}
 use Rattle.net_model.proofs.Twins.{StepToo, TwinNets, Twins, each_same, twin, twin_effect, twin_give, twin_net}
 use Rattle.net_model.proofs.LikeLines.{between_back, goes_too, line_too, plays_too, quiet_back, stalled_back, stuck_back}
 use Rattle.network_cells.proofs.Lawlike.{carried, keep_alike, nets, texts_alike, twins_of}
+use Rattle.trace_replay.specs.Events.{IsUnjudged}
 use Rattle.trace_replay.specs.Judging.{AreOfTable, AtEnd, AtEvents, AtFirst, AtInstance, EventFails, FiringFails, IsInstance, IsNotRun, IsOver, IsTrace, LacksRoomIn, Lead, LeadsOn, LineFails, MayCome, Reached, RestFails, BeginsNone, IsOfNoTable, MayNotCome, IsBehindEnd, IsCutOff, GoesPast, EndsPast, TrapComes, Trial, after_line, due, first_line, instance_text, is_end}
 use Rattle.trace_replay.specs.declared.why.Why.{Why}
 
@@ -296,24 +297,24 @@ module _ {X Y : Type 0} (related : ℕ → X → Y → Type 0) (allowed : Allowe
     fellows : Fellows next that
 
   leads_too : (reached next : Reached X) (other : Reached Y) (text : List ℕ) (line : Line) → Fellows reached other → LeadsOn t reached text line next → LeadsToo text line other next
-  leads_too AtFirst next AtFirst text line firsts on = record {
+  leads_too reached next that text line firsts on = record {
     that = due 0 others (twin t.start starts);
     leads = (on.0 ∙ first_same, refl);
     fellows = subst (λ r. Fellows r (due 0 others (twin t.start starts))) (sym on.1) (due_too 0 t.net.leaves others all_named);
   }
-  leads_too (AtInstance k leaf leaves) next (AtInstance k other more) text line (instances k leaf leaves other more path class same) on = record {
+  leads_too reached next that text line (instances k leaf leaves other more path class same) on = record {
     that = due (k + 1) more (twin t.start starts);
     leads = ((on.0.0, on.0.1 ∙ text_same k leaf other path class), refl);
     fellows = subst (λ r. Fellows r (due (k + 1) more (twin t.start starts))) (sym on.1) (due_too (k + 1) leaves more same);
   }
-  leads_too (AtEvents opened s) next (AtEvents _ _) text line (events opened s first those twins) (last, comes, is) =
+  leads_too reached next that text line (events opened s first those twins) (last, comes, is) =
       let too = may_come_too opened s last first those line twins comes in
       record {
         that = after_line line (twin opened first) (twin last too.that);
         leads = (twin last too.that, too.comes, refl);
         fellows = subst (λ r. Fellows r (after_line line (twin opened first) (twin last too.that))) (sym is) (after_too line opened last first too.that too.twins);
       }
-  leads_too (AtEnd end last) next (AtEnd _ _) text line (ends end last those twins) on = absurd on
+  leads_too reached next that text line (ends end last those twins) on = absurd on
 
   record LeadToo (texts : List (List ℕ)) (other : Reached Y) (last : Reached X) : Type 0 where
     that : Reached Y
@@ -330,23 +331,23 @@ module _ {X Y : Type 0} (related : ℕ → X → Y → Type 0) (allowed : Allowe
   -- ---- what fails
 
   line_fails_too : (reached : Reached X) (other : Reached Y) (text : List ℕ) (line : Line) (why : Why) → Fellows reached other → LineFails t reached text line why → LineFails fellow other text line why
-  line_fails_too AtFirst AtFirst text line why firsts h = (h.0, (λ is. h.1 (is ∙ sym first_same)))
-  line_fails_too (AtInstance k leaf leaves) (AtInstance k other more) text line why (instances k leaf leaves other more path class same) h =
+  line_fails_too reached that text line why firsts h = (h.0, (λ is. h.1 (is ∙ sym first_same)))
+  line_fails_too reached that text line why (instances k leaf leaves other more path class same) h =
       (h.0, (λ is. h.1 (is.0, is.1 ∙ sym (text_same k leaf other path class))))
-  line_fails_too (AtEvents opened s) (AtEvents _ _) text line why (events opened s first those twins) h = event_fails_too opened s first those line why twins h
-  line_fails_too (AtEnd end last) (AtEnd _ _) text line why (ends end last those twins) h = absurd h
+  line_fails_too reached that text line why (events opened s first those twins) h = event_fails_too opened s first those line why twins h
+  line_fails_too reached that text line why (ends end last those twins) h = absurd h
 
   over_too : (reached : Reached X) (other : Reached Y) → Fellows reached other → IsOver reached → IsOver other
-  over_too AtFirst AtFirst firsts h = absurd h
-  over_too (AtInstance k leaf leaves) (AtInstance k other more) (instances k leaf leaves other more path class same) h = absurd h
-  over_too (AtEvents opened s) (AtEvents _ _) (events opened s first those twins) h = absurd h
-  over_too (AtEnd end last) (AtEnd _ _) (ends end last those twins) h = tt
+  over_too reached that firsts h = absurd h
+  over_too reached that (instances k leaf leaves other more path class same) h = absurd h
+  over_too reached that (events opened s first those twins) h = absurd h
+  over_too reached that (ends end last those twins) h = tt
 
   over_back : (reached : Reached X) (other : Reached Y) → Fellows reached other → IsOver other → IsOver reached
-  over_back AtFirst AtFirst firsts h = absurd h
-  over_back (AtInstance k leaf leaves) (AtInstance k other more) (instances k leaf leaves other more path class same) h = absurd h
-  over_back (AtEvents opened s) (AtEvents _ _) (events opened s first those twins) h = absurd h
-  over_back (AtEnd end last) (AtEnd _ _) (ends end last those twins) h = tt
+  over_back reached that firsts h = absurd h
+  over_back reached that (instances k leaf leaves other more path class same) h = absurd h
+  over_back reached that (events opened s first those twins) h = absurd h
+  over_back reached that (ends end last those twins) h = tt
 
   rest_fails_too : (reached : Reached X) (other : Reached Y) (rest : List ℕ) (longer : Bool) (why : Why) → Fellows reached other → RestFails t reached rest longer why → RestFails fellow other rest longer why
   rest_fails_too reached other rest longer why fellows (BeginsNone going front byte more is fits begins) =
@@ -376,6 +377,40 @@ module _ {X Y : Type 0} (related : ℕ → X → Y → Type 0) (allowed : Allowe
         fails = rest_fails_too told.reached lead.that told.rest told.longer why lead.fellows told.fails;
       }
 
+  -- a growth that isn't judged isn't judged there either
+  settled_too : (s : State X) (those : List Y) → IsSettled t.net s → IsSettled (twin_net t.net others) (twin s those)
+  settled_too s those settled = record { untrapped = settled.untrapped; arrived = settled.arrived }
+
+  record EventsToo (opened s : State X) (that : Reached Y) : Type 0 where
+    first : List Y
+    those : List Y
+    is : that ≡ AtEvents (twin opened first) (twin s those)
+
+  events_only : (opened s : State X) (that : Reached Y) → Fellows (AtEvents opened s) that → EventsToo opened s that
+  events_only opened s that (events _ _ first those twins) = record { first = first; those = those; is = refl }
+
+  unjudged_too : (text : List ℕ) (n : ℕ) (why : Why) → IsUnjudged t text n why → IsUnjudged fellow text n why
+  unjudged_too text n why told =
+      let lead = lead_too told.texts AtFirst (AtEvents told.opened told.s) AtFirst firsts told.lead in
+      let at = events_only told.opened told.s lead.that lead.fellows in
+      record {
+        texts = told.texts;
+        front = told.front;
+        more = told.more;
+        line = told.line;
+        opened = twin told.opened at.first;
+        s = twin told.s at.those;
+        is_text = told.is_text;
+        lead = subst (λ r. Lead fellow AtFirst told.texts r) at.is lead.lead;
+        late = told.late;
+        settled = settled_too told.s at.those told.settled;
+        spells = told.spells;
+        growth = told.growth;
+        of_table = told.of_table;
+        number = told.number;
+        why_is = told.why_is;
+      }
+
   of_table_too : (lines : List Line) → AreOfTable t lines → AreOfTable fellow lines
   of_table_too lines of_table = record {
     first = subst IsWritten first_same of_table.first;
@@ -400,6 +435,11 @@ module _ {X Y : Type 0} (related : ℕ → X → Y → Type 0) (allowed : Allowe
   not_run_alike text n why told =
       carried related allowed net other alike (λ m w. IsNotRun (record { net = m; grow = grow; start = w }) text n why) s that states
       (not_run_too related allowed one_trial other.leaves that.actors (nets related allowed net other alike) (twins_of related allowed net other alike s that states) text n why told)
+
+  pub unjudged_alike : (text : List ℕ) (n : ℕ) (why : Why) → IsUnjudged (record { net = net; grow = grow; start = s }) text n why → IsUnjudged (record { net = other; grow = grow; start = that }) text n why
+  unjudged_alike text n why told =
+      carried related allowed net other alike (λ m w. IsUnjudged (record { net = m; grow = grow; start = w }) text n why) s that states
+      (unjudged_too related allowed one_trial other.leaves that.actors (nets related allowed net other alike) (twins_of related allowed net other alike s that states) text n why told)
 
   -- a trace of the one is one of the other, and leads to a state that is alike
   pub record TracedToo (text : List ℕ) (lines : List Line) (end : Line) (last : State X) : Type 0 where

@@ -1,6 +1,6 @@
-mod Sourced
-mod Cells
-mod Leaving
-mod Reported
-mod Answering
-mod Answered
+pub mod Sourced
+pub mod Cells
+pub mod Leaving
+pub mod Reported
+pub mod Answering
+pub mod Answered

@@ -9,8 +9,8 @@ use Rattle.port_words.proofs.feeds.open_inputs.Goals as goal
 
 pub returns-in-Err-clause-failed : goal.returns-in-Err-clause-failed
 returns-in-Err-clause-failed g c = λ all start so. c.in-Err.ensures.failed all c.in-Some.others.now start
-    (subst (λ ls. FeedsSoFar all (feeds_from c.links.number ls (names_of c.args.ins.now) (map port_text c.args.words.now)) c.links.number start (g.F.Feeds.feeds c.links.feeds)) c.in-Some.ensures.cases.0 (c.links.invariant.2 all start so))
+    (subst (λ ls. FeedsSoFar all (feeds_from c.links.number ls (names_of c.args.ins.now) (map port_text c.args.words.now)) c.links.number start (g.F.Feeds.feeds c.links.feeds)) c.in-Some.ensures.cases.0 (c.links.invariant.3 all start so))
 
 pub returns-clause-opened : goal.returns-clause-opened
 returns-clause-opened g c = λ all start so. ends all c.links.number start _
-    (subst (λ ls. FeedsSoFar all (feeds_from c.links.number ls (names_of c.args.ins.now) (map port_text c.args.words.now)) c.links.number start (g.F.Feeds.feeds c.links.feeds)) (none_left c.links.rest.now c.in_default.ensures.cases) (c.links.invariant.2 all start so))
+    (subst (λ ls. FeedsSoFar all (feeds_from c.links.number ls (names_of c.args.ins.now) (map port_text c.args.words.now)) c.links.number start (g.F.Feeds.feeds c.links.feeds)) (none_left c.links.rest.now c.in_default.ensures.cases) (c.links.invariant.3 all start so))

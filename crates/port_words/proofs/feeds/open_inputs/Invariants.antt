@@ -8,7 +8,8 @@ use Rattle.port_words.proofs.feeds.open_inputs.Given as goal
 
 abbrev pub invariant-links : goal.invariant-links
 invariant-links g l = (l.number + length l.rest ≤ 1 + length l.initial.rest)
-    × ((n : ℕ) → l.number ≤ n → (g.F.Feeds.feeds l.feeds).is_open n ≡ false)
+    × (1 ≤ l.number)
+    × ((n : ℕ) → l.number ≤ n → n ≤ length l.initial.rest → (g.F.Feeds.feeds l.feeds).is_open n ≡ false)
     × ((all : List Opening) (start : Inputs)
     → FeedsSoFar all (feeds_of l.initial.rest (names_of l.ins) (map port_text l.words)) 1 start (g.F.Feeds.feeds l.initial.feeds)
     → FeedsSoFar all (feeds_from l.number l.rest (names_of l.ins) (map port_text l.words)) l.number start (g.F.Feeds.feeds l.feeds))

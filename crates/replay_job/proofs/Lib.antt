@@ -1,0 +1,6 @@
+mod LikeTraces
+mod Opened
+mod Named
+mod Judged
+mod Sourced
+mod Answering
