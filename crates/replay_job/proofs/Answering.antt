@@ -12,7 +12,7 @@ use Rattle.cal_model.specs.Actor.{Actor}
 use Rattle.cal_model.specs.Selection.{State as ActorState}
 use Rattle.net_model.specs.declared.wiring.Link.{Link}
 use Rattle.net_model.specs.Network.{Network}
-use Rattle.actor_files.specs.Loading.{TellsAll}
+use Rattle.actor_files.specs.Loading.{Counts, TellsAll}
 use Rattle.actor_files.specs.Views.{file_names}
 use Rattle.actor_files.specs.declared.names.Names.{Names}
 use Rattle.source_network.specs.Files.{class_asked, files_of}
@@ -39,13 +39,13 @@ use Rattle.run_report.specs.declared.status.Status.{Status}
 use Rattle.run_report.specs.declared.status.Status.TheVariants as status
 use Rattle.run_job.proofs.Cells.{many_leaves}
 use Rattle.run_job.proofs.Leaving.{same_names}
-use Rattle.network_commands.specs.Answers.{IsAnswered}
-use Rattle.network_commands.specs.Commands.{AreCertified, Command, ConformingAreNotRefused, HasFiles, IsOfCommand, OpenedNothing, RefusesJob, about_net, count_none, port_names, top_of, words_of}
+use Rattle.network_commands.specs.Answers.{IsAnswered, is_reported, is_unreported}
+use Rattle.network_commands.specs.Commands.{AreCertified, Command, ConformingAreNotRefused, HasFiles, IsOfCommand, OpenedNothing, about_net, count_none, port_names, top_of, words_of}
 use Rattle.network_commands.specs.Steps.{IsPut, about_words, status_of_build}
 use Rattle.network_commands.proofs.Answered.{last_alone, line_answered, put_answered}
 use Rattle.network_commands.proofs.Words.{none_wrong}
-use Rattle.replay_job.specs.Ends.{Comes, IsJudgedOrOutside, IsRefusedFor, by_files, by_growth, by_words}
-use Rattle.replay_job.specs.Replays.{ConformsToReplay, IsReplayFeed, IsToReplay, OpensFeeds, OpensForReplay}
+use Rattle.replay_job.specs.Ends.{Comes, IsJudgedOrOutside, IsNoVerdict, IsRefusedFor, by_files, by_growth, by_words}
+use Rattle.replay_job.specs.Replays.{ConformsToReplay, IsReadFeed, IsToReplay, OpensFeeds, OpensForReplay, RefusesReplay, in_growth, in_job}
 use Rattle.replay_job.specs.Steps.{ImageJudged, ImageReplayed, IsForbidden, IsPermitted, IsUnread, about_image, lines_of, status_of, status_of_fault}
 use Rattle.replay_job.specs.declared.outcome.NotReplayed.{NotReplayed}
 use Rattle.replay_job.specs.declared.outcome.NotReplayed.TheVariants as stop
@@ -118,10 +118,8 @@ module _ (cmd : Command) (image : Image) (names : Names) (law : SourcesAreActorN
       subst (λ ls. FeedFails (replay_feeds (string_bytes cmd.job.trace) ls (port_names net.ins) (words_of cmd)) feed cmd.feeds cmd.feeds_after) (sym links_are)
       (subst (λ ps. FeedFails (replay_feeds (string_bytes cmd.job.trace) image.flat.links.items ps (words_of cmd)) feed cmd.feeds cmd.feeds_after) (sym ins_are) fails)
 
-  replay_feed : (feed : ℕ) → IsReplayFeed image.flat.links.items (asks.in_names image.flat) (asks.words_of cmd.job) feed → IsReplayFeed net.links (port_names net.ins) (words_of cmd) feed
-  replay_feed feed is =
-      subst (λ ls. IsReplayFeed ls (port_names net.ins) (words_of cmd) feed) (sym links_are)
-      (subst (λ ps. IsReplayFeed image.flat.links.items ps (words_of cmd) feed) (sym ins_are) is)
+  read_feed : (feed : ℕ) → IsReadFeed image.flat.links.items feed → IsReadFeed net.links feed
+  read_feed feed is = subst (λ ls. IsReadFeed ls feed) (sym links_are) is
 
   -- ---- each answer
 
@@ -155,7 +153,7 @@ module _ (cmd : Command) (image : Image) (names : Names) (law : SourcesAreActorN
   comes_fault (judged.ReadFault feed) was only = record {
     net = net;
     is_to_replay = to_replay was.leaves.0;
-    how = ⊎_elim (λ fails. inl (unopened feed fails)) (λ broke. inr (record { counted = broke.0; is_feed = replay_feed feed broke.1; feeds = opens broke.2 })) was.leaves.1;
+    how = ⊎_elim (λ fails. inl (unopened feed fails)) (λ broke. inr (record { counted = broke.0; is_feed = read_feed feed broke.1; feeds = opens broke.2 })) was.leaves.1;
     only_report = only;
     about_is = about_is;
   }
@@ -244,7 +242,26 @@ module _ (cmd : Command) (names : Names) (same : cmd.feeds_after ≡ cmd.feeds) 
 
 -- ---- what is refused
 
-no_verdict : (cmd : Command) (law : ConformingAreNotRefused) (r : Refusal) (found : List (List ℕ)) → TellsAll cmd.library → RefusesJob input_names cmd.library (top_of cmd) (words_of cmd) cmd.misses found r
-    → (net : Network ActorState) → IsToReplay cmd net → ⊥
-no_verdict cmd law r found tells refuses net is =
-    law input_names cmd.library (top_of cmd) (words_of cmd) net cmd.misses found r tells (is.is_of.conforms tells) refuses
+module _ (cmd : Command) (law : ConformingAreNotRefused) (one : LibraryNetworksAreOne) (misses : Counts) (found : List (List ℕ)) (r : Refusal) (tells : TellsAll cmd.library) where
+  not_refused : (net : Network ActorState) → IsToReplay cmd net → RefusesReplay cmd.library (top_of cmd) (words_of cmd) cmd.job.grow misses found r → ⊥
+  not_refused net is (in_job refuses) = law input_names cmd.library (top_of cmd) (words_of cmd) net misses found r tells (is.is_of.conforms tells) refuses
+  not_refused net is (in_growth other means far rule) =
+      is.little (subst (λ (n : Network ActorState). GrowTooFar n.links cmd.job.grow) (one cmd.library (top_of cmd) other net tells means (is.is_of.conforms tells).means) far)
+
+  by_status : (said : Status) (lines : List ℕ) (about : About) → RefusesReplay cmd.library (top_of cmd) (words_of cmd) cmd.job.grow misses found r → Comes cmd said lines about → IsNoVerdict said
+  by_status status.Done lines about refuses came = not_refused came.replayed.net came.replayed.is_to_replay refuses
+  by_status (status.NotRun line why) lines about refuses came = not_refused came.net came.is_to_replay refuses
+  by_status (status.Refused rule) lines about refuses came = tt
+  by_status (status.ReadFault at) lines about refuses came = tt
+  by_status (status.WriteFault channel) lines about refuses came = tt
+  by_status status.OutOfMemory lines about refuses came = tt
+  by_status status.Quiet lines about refuses came = tt
+  by_status (status.Trapped inst action trap) lines about refuses came = tt
+  by_status (status.Stalled inst action link) lines about refuses came = tt
+  by_status (status.Budget firings) lines about refuses came = tt
+  by_status (status.Usage cause) lines about refuses came = tt
+  by_status (status.Uncertified inst state first second reason) lines about refuses came = tt
+
+  pub no_verdict : (answer : Status) → IsAnswered Comes cmd answer → RefusesReplay cmd.library (top_of cmd) (words_of cmd) cmd.job.grow misses found r → IsNoVerdict answer
+  no_verdict answer (is_reported {said = said} lines about came put) refuses = by_status said lines about refuses came
+  no_verdict answer (is_unreported said lines about came put counted) refuses = tt

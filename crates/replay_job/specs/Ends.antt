@@ -25,7 +25,7 @@ use Rattle.actor_files.specs.Loading.{TellsAll}
 use Rattle.rvc_engine.specs.Refused.{RefusesTop}
 use Rattle.network_commands.specs.Answers.{FileUnread, HasWrongWord}
 use Rattle.network_commands.specs.Commands.{AreCertified, Command, HasFiles, IsOfCommand, OpenedNothing, about_files, about_net, port_names, top_of, words_of}
-use Rattle.replay_job.specs.Replays.{IsReplayFeed, IsToReplay, OpensFeeds, WhateverIsTold}
+use Rattle.replay_job.specs.Replays.{IsReadFeed, IsToReplay, OpensFeeds, WhateverIsTold}
 
 -- ---- a trace that was judged
 
@@ -71,7 +71,7 @@ FeedUnopened cmd net feed =
 -- the trace or an input couldn't be read, which was counted
 pub record FeedBroke (cmd : Command) (net : Network State) (feed : ℕ) : Type 0 where
   pub counted : HasRisen cmd.feeds.faults cmd.feeds_after.faults
-  pub is_feed : IsReplayFeed net.links (port_names net.ins) (words_of cmd) feed
+  pub is_feed : IsReadFeed net.links feed
   pub feeds : OpensFeeds cmd net
 
 pub record WasUnread (cmd : Command) (feed : ℕ) (about : About) : Type 0 where
@@ -144,3 +144,18 @@ IsJudgedOrOutside cmd net (status.Stalled inst action link) = ⊥
 IsJudgedOrOutside cmd net (status.Budget firings) = ⊥
 IsJudgedOrOutside cmd net (status.Usage cause) = ⊥
 IsJudgedOrOutside cmd net (status.Uncertified inst state first second reason) = ⊥
+
+-- the trace isn't judged
+abbrev pub IsNoVerdict : Status → Type 0
+IsNoVerdict status.Done = ⊥
+IsNoVerdict (status.NotRun line why) = ⊥
+IsNoVerdict (status.Refused r) = Unit {0}
+IsNoVerdict (status.ReadFault at) = Unit {0}
+IsNoVerdict (status.WriteFault channel) = Unit {0}
+IsNoVerdict status.OutOfMemory = Unit {0}
+IsNoVerdict status.Quiet = Unit {0}
+IsNoVerdict (status.Trapped inst action trap) = Unit {0}
+IsNoVerdict (status.Stalled inst action link) = Unit {0}
+IsNoVerdict (status.Budget firings) = Unit {0}
+IsNoVerdict (status.Usage cause) = Unit {0}
+IsNoVerdict (status.Uncertified inst state first second reason) = Unit {0}

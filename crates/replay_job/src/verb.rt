@@ -4,18 +4,21 @@ ghost use Rattle.std.specs.Prelude.{◌≡◌, ◌≤◌, ℕ, List, false, true
 ghost use Rattle.rvc_words.specs.Words.{IsWithin, job_text};
 ghost use Rattle.cal_model.specs.Selection.{State};
 ghost use Rattle.net_model.specs.Network.{Network};
-ghost use Rattle.actor_files.specs.Loading.{TellsAll};
+ghost use Rattle.rvc_base.specs.declared.refusal.Refusal.{Refusal as Denial};
+ghost use Rattle.actor_files.specs.Loading.{Counts, TellsAll};
 ghost use Rattle.rvc_engine.specs.Top.{top_asked};
 ghost use Rattle.network_commands.specs.Answers.{IsAnswered};
 ghost use Rattle.network_commands.specs.Commands.{command, met_by};
 ghost use Rattle.network_job.specs.Network.{words_of};
-ghost use Rattle.replay_job.specs.Ends.{Comes, IsJudgedOrOutside};
-ghost use Rattle.replay_job.specs.Replays.{ConformsToReplay};
+ghost use Rattle.replay_job.specs.Ends.{Comes, IsJudgedOrOutside, IsNoVerdict};
+ghost use Rattle.replay_job.specs.Replays.{ConformsToReplay, RefusesReplay};
 
 use crate::image::replay_image;
 use actor_files::Names;
 use network_cells::cells_run_as_sources;
-use network_commands::{report_unbuilt, status_of_build};
+use network_commands::{
+    conforming_jobs_are_not_refused, report_unbuilt, status_of_build,
+};
 use run_report::Status;
 use rvc_engine::build;
 use rvc_io::{Drains, Feeds, Library};
@@ -38,6 +41,7 @@ use std::alloc::Global;
 /// - `complete`: if the library tells of each name and conforms with the words, and the links may grow as far as the job
 ///   asks, the answer is one of these two over this network; unless an actor has a form that isn't built yet, memory runs out,
 ///   or reading or writing fails.
+/// - `incomplete`: if the library tells of each name, a job that is refused is never answered by one of these two.
 /// - `same_files`, `faults_stay`, `misses_stay`: the library keeps its files, and its counts never fall.
 ///
 /// # Errors
@@ -67,15 +71,21 @@ pub fn replay_job<L: Library, F: Feeds, D: Drains>(
         (words_of job.now) job.now.grow net
         → IsJudgedOrOutside (command (met_by L.file L.misses L.faults F.feeds D.channels
         library.old library.new feeds.old feeds.new drains.old drains.new) job.now) net result }
+    ensures incomplete { (misses : Counts) (found : List (List ℕ)) (r : Denial)
+        → TellsAll (L.file library.old)
+        → RefusesReplay (L.file library.old) (top_asked (string_bytes job.now.top))
+        (words_of job.now) job.now.grow misses found r
+        → IsNoVerdict result }
     ensures same_files { (other : List ℕ) → L.file library.new other ≡ L.file library.old other }
     ensures faults_stay { L.faults library.old ≤ L.faults library.new }
     ensures misses_stay { L.misses library.old ≤ L.misses library.new }
 {
+    conforming_jobs_are_not_refused();
+    one_library_network();
     let mut names = Names::new(alloc);
     match build(alloc, library, job.top.as_str(), &mut names) {
         Ok(image) => {
             cells_run_as_sources();
-            one_library_network();
             replay_image(alloc, &image, &names, job, feeds, drains)
         }
         Err(fault) => report_unbuilt(status_of_build(fault), &names, job, drains),
