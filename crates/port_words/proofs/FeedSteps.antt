@@ -1,16 +1,15 @@
 -- Feeds that are opened one after another.
-use Rattle.std.proofs.Common.{◌≡◌, ℕ, zero, suc, ◌+◌, ◌<◌, ◌≤◌, ◌⊎◌, inl, inr, Bool, true, false, List, [], ◌∷◌, ◌++◌, length, refl, sym, ap, subst, ◌∙◌, arith, Option, None, Some, Contains}
+use Rattle.std.proofs.Common.{◌≡◌, ℕ, zero, suc, ◌+◌, ◌<◌, ◌≤◌, inl, inr, true, false, List, [], ◌∷◌, ◌++◌, refl, sym, subst, ◌∙◌, arith, Option, None, Some, Contains}
 use Rattle.std.specs.Prelude.{option_map, slice_get, if◌then◌else◌}
 use Rattle.std.proofs.lemmas.Bool.{cases_eq}
 use Rattle.std.proofs.lemmas.List.{append_assoc, append-nil}
 use Rattle.std.proofs.lemmas.List.Elements.{Contains-append_left, Contains-append_right, Contains-append_cases}
 use Rattle.rvc_io.specs.Count.{HasRisen}
-use Rattle.rvc_io.specs.Elsewhere.{SameElsewhere}
 use Rattle.rvc_io.specs.Feeds.{FailsOn, Inputs, OpensOn, OpensOnlyAt}
 use Rattle.rvc_words.specs.Words.{PortText}
 use Rattle.net_model.specs.Network.{is_outside}
 use Rattle.net_model.specs.declared.wiring.End.{End}
-use Rattle.net_model.specs.declared.wiring.End.TheVariants.{Leaf as AtLeaf, Net as AtNet}
+use Rattle.net_model.specs.declared.wiring.End.TheVariants.{Net as AtNet}
 use Rattle.net_model.specs.declared.wiring.Link.{Link}
 use Rattle.port_words.specs.Opening.{FeedFails, FeedsAreOpened, IsApart, Opening, feeds_from, file_at, file_from, opening_if}
 use Rattle.port_words.specs.Steps.{FeedsSoFar, IsUnopenedFeed}

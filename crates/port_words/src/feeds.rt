@@ -126,8 +126,8 @@ fn open_from<F: Feeds>(
         (feeds_from number (link.now ∷ links) (names_of ins.now) (map port_text words.now)) number
         start (F.feeds feeds.old)
         → FeedFails all feed start (F.feeds feeds.new)) }
-    ensures later { (n : ℕ) → number < n
-        → (F.feeds feeds.new).is_open n ≡ (F.feeds feeds.old).is_open n }
+    ensures later { IfOk result (λ next. (n : ℕ) → next ≤ n
+        → (F.feeds feeds.new).is_open n ≡ (F.feeds feeds.old).is_open n) }
 {
     match link.from {
         End::Leaf { inst: _, port: _ } => Ok(number),

@@ -1,5 +1,5 @@
 use Rattle.std.proofs.Common.{map}
-use Rattle.std.proofs.lemmas.Result.{on_ok_weaker, IfErr-weaker}
+use Rattle.std.proofs.lemmas.Result.{on_ok_weaker}
 use Rattle.rvc_words.specs.Words.{port_text}
 use Rattle.port_words.specs.Matching.{names_of}
 use Rattle.port_words.specs.Opening.{channels_of, outputs_from}

@@ -1,9 +1,8 @@
-use Rattle.std.proofs.Common.{◌∙◌, map, subst}
+use Rattle.std.proofs.Common.{map, subst}
 use Rattle.rvc_words.specs.Words.{port_text}
 use Rattle.port_words.specs.Matching.{names_of}
 use Rattle.port_words.specs.Opening.{FeedsAreOpened, opening_if}
-use Rattle.port_words.specs.Steps.{IsUnopenedFeed}
-use Rattle.port_words.proofs.FeedSteps.{fails_from, steps_from}
+use Rattle.port_words.proofs.FeedSteps.{steps_from}
 use Rattle.port_words.proofs.feeds.open_from.Goals as goal
 
 pub returns-in-Ok-clause-opened : goal.returns-in-Ok-clause-opened
