@@ -1,5 +1,5 @@
 -- Networks that are alike have the same traces, and what is told of a text that is none is told of it in both.
-use Rattle.std.proofs.Common.{◌≡◌, ◌≢◌, inl, inr, ℕ, zero, suc, ◌+◌, Bool, true, false, List, [], ◌∷◌, ◌++◌, length, refl, sym, ap, ◌∙◌, subst, arith}
+use Rattle.std.proofs.Common.{◌≡◌, inl, inr, ℕ, zero, suc, ◌+◌, Bool, true, false, List, [], ◌∷◌, ◌++◌, length, refl, sym, ap, ◌∙◌, subst, arith}
 use Rattle.std.specs.Prelude.{Option, None, Some, slice_get, if◌then◌else◌, ◌==◌, replicate, pos, codes}
 use Rattle.rvc_base.specs.declared.trap.Trap.{Trap as TrapName}
 use Rattle.rvc_base.specs.Behaviour.{Effect, Fires, TrapsInGuard, TrapsInBody}
@@ -13,16 +13,16 @@ use Rattle.net_model.specs.declared.wiring.End.TheVariants.{Leaf as AtLeaf, Net 
 use Rattle.net_model.specs.declared.wiring.Link.{Link}
 use Rattle.net_model.specs.Network.{Leaf, Network}
 use Rattle.net_model.specs.State.{Flow, State, effect_at}
-use Rattle.net_model.specs.Event.{each_flow}
 use Rattle.net_model.specs.Ends.{Grows, IsSettled}
-use Rattle.net_model.specs.Trace.{FitFlows, LineIsTrue, PlaysFrom, TrapFits, counted_flows, goes, opened_by, with_given}
+use Rattle.net_model.specs.Trace.{FitFlows, PlaysFrom, TrapFits, counted_flows, goes, opened_by, with_given}
 use Rattle.net_model.specs.Paced.{HasRoomIn, PassesLink, PassesOn, PassesRoom}
 use Rattle.net_model.specs.Alike.{Allowed, AreAlike, EffectsAlike, LeavesAlike, StatesAlike}
 use Rattle.net_model.proofs.Twins.{StepToo, TwinNets, Twins, each_same, twin, twin_effect, twin_give, twin_net}
 use Rattle.net_model.proofs.LikeLines.{between_back, goes_too, line_too, plays_too, quiet_back, stalled_back, stuck_back}
 use Rattle.network_cells.proofs.Lawlike.{carried, keep_alike, nets, texts_alike, twins_of}
+use Rattle.alike_traces.specs.Traces.{trial}
 use Rattle.trace_replay.specs.Events.{IsUnjudged}
-use Rattle.trace_replay.specs.Judging.{AreOfTable, AtEnd, AtEvents, AtFirst, AtInstance, EventFails, FiringFails, IsInstance, IsNotRun, IsOver, IsTrace, LacksRoomIn, Lead, LeadsOn, LineFails, MayCome, Reached, RestFails, BeginsNone, IsOfNoTable, MayNotCome, IsBehindEnd, IsCutOff, GoesPast, EndsPast, TrapComes, Trial, after_line, due, first_line, instance_text, is_end}
+use Rattle.trace_replay.specs.Judging.{AreOfTable, AtEnd, AtEvents, AtFirst, AtInstance, EventFails, FiringFails, IsNotRun, IsOver, IsTrace, LacksRoomIn, Lead, LeadsOn, LineFails, MayCome, Reached, RestFails, BeginsNone, IsOfNoTable, MayNotCome, IsBehindEnd, IsCutOff, GoesPast, EndsPast, TrapComes, Trial, after_line, due, first_line, instance_text, is_end}
 use Rattle.trace_replay.specs.declared.why.Why.{Why}
 
 -- ---- names of leaves
@@ -57,6 +57,12 @@ record NamedSo {X Y : Type 0} (leaves : List (Leaf X)) (k : ℕ) (other : Leaf Y
 some_is : {A : Type 0} (x y : A) → Some x ≡ Some y → x ≡ y
 some_is x y h = cc
 
+same_path : {Y : Type 0} (one other : Leaf Y) → one ≡ other → one.path ≡ other.path
+same_path one other is = ap (λ l. l.path) is
+
+same_class : {Y : Type 0} (one other : Leaf Y) → one ≡ other → one.class ≡ other.class
+same_class one other is = ap (λ l. l.class) is
+
 named_at : {X Y : Type 0} (leaves : List (Leaf X)) (others : List (Leaf Y)) → SameNames leaves others → (k : ℕ) (other : Leaf Y) → slice_get others k ≡ Some other → NamedSo leaves k other
 named_at [] [] same k other at = cc
 named_at (leaf ∷ leaves) (first ∷ others) same zero other at =
@@ -64,8 +70,8 @@ named_at (leaf ∷ leaves) (first ∷ others) same zero other at =
     record {
       leaf = leaf;
       is_there = refl;
-      path = same.0 ∙ ap (λ (l : Leaf Y). l.path) is;
-      class = same.1 ∙ ap (λ (l : Leaf Y). l.class) is;
+      path = same.0 ∙ same_path first other is;
+      class = same.1 ∙ same_class first other is;
     }
 named_at (leaf ∷ leaves) (first ∷ others) same (suc k) other at =
     let more = named_at leaves others same.2 k other at in
@@ -354,8 +360,8 @@ module _ {X Y : Type 0} (related : ℕ → X → Y → Type 0) (allowed : Allowe
       BeginsNone (λ over. going (over_back reached other fellows over)) front byte more is fits begins
   rest_fails_too reached other rest longer why fellows (IsOfNoTable going line text more is spells of_none) =
       IsOfNoTable (λ over. going (over_back reached other fellows over)) line text more is spells of_none
-  rest_fails_too reached other rest longer why fellows (MayNotCome line why text more is spells of_table fails) =
-      MayNotCome line why text more is spells of_table (line_fails_too reached other text line why fellows fails)
+  rest_fails_too reached other rest longer why fellows (MayNotCome line cause text more is spells of_table fails) =
+      MayNotCome line cause text more is spells of_table (line_fails_too reached other text line cause fellows fails)
   rest_fails_too reached other rest longer why fellows (IsBehindEnd over some_left) = IsBehindEnd (over_too reached other fellows over) some_left
   rest_fails_too reached other rest longer why fellows (IsCutOff going front whole) = IsCutOff (λ over. going (over_back reached other fellows over)) front whole
   rest_fails_too reached other rest longer why fellows (GoesPast going front more) = GoesPast (λ over. going (over_back reached other fellows over)) front more
@@ -424,41 +430,28 @@ module _ {X Y : Type 0} (related : ℕ → X → Y → Type 0) (allowed : Allowe
 
 module _ {X Y : Type 0} (related : ℕ → X → Y → Type 0) (allowed : Allowed) (net : Network X) (other : Network Y) (alike : AreAlike related allowed net other) (grow : ℕ) (s : State X) (that : State Y)
     (states : StatesAlike related allowed net s that) where
-  abbrev one_trial : Trial X
-  one_trial = record { net = net; grow = grow; start = s }
-
-  abbrev other_trial : Trial Y
-  other_trial = record { net = other; grow = grow; start = that }
-
-  -- what isn't a run of the one isn't one of the other
-  pub not_run_alike : (text : List ℕ) (n : ℕ) (why : Why) → IsNotRun (record { net = net; grow = grow; start = s }) text n why → IsNotRun (record { net = other; grow = grow; start = that }) text n why
+  pub not_run_alike : (text : List ℕ) (n : ℕ) (why : Why) → IsNotRun (trial net grow s) text n why → IsNotRun (trial other grow that) text n why
   not_run_alike text n why told =
-      carried related allowed net other alike (λ m w. IsNotRun (record { net = m; grow = grow; start = w }) text n why) s that states
-      (not_run_too related allowed one_trial other.leaves that.actors (nets related allowed net other alike) (twins_of related allowed net other alike s that states) text n why told)
+      carried related allowed net other alike (λ m w. IsNotRun (trial m grow w) text n why) s that states
+      (not_run_too related allowed (trial net grow s) other.leaves that.actors (nets related allowed net other alike) (twins_of related allowed net other alike s that states) text n why told)
 
-  pub unjudged_alike : (text : List ℕ) (n : ℕ) (why : Why) → IsUnjudged (record { net = net; grow = grow; start = s }) text n why → IsUnjudged (record { net = other; grow = grow; start = that }) text n why
+  pub unjudged_alike : (text : List ℕ) (n : ℕ) (why : Why) → IsUnjudged (trial net grow s) text n why → IsUnjudged (trial other grow that) text n why
   unjudged_alike text n why told =
-      carried related allowed net other alike (λ m w. IsUnjudged (record { net = m; grow = grow; start = w }) text n why) s that states
-      (unjudged_too related allowed one_trial other.leaves that.actors (nets related allowed net other alike) (twins_of related allowed net other alike s that states) text n why told)
+      carried related allowed net other alike (λ m w. IsUnjudged (trial m grow w) text n why) s that states
+      (unjudged_too related allowed (trial net grow s) other.leaves that.actors (nets related allowed net other alike) (twins_of related allowed net other alike s that states) text n why told)
 
-  -- a trace of the one is one of the other, and leads to a state that is alike
-  pub record TracedToo (text : List ℕ) (lines : List Line) (end : Line) (last : State X) : Type 0 where
-    pub there : State Y
-    pub is_trace : IsTrace (record { net = other; grow = grow; start = that }) text lines end there
-    pub states_there : StatesAlike related allowed net last there
-
-  pub trace_alike : (text : List ℕ) (lines : List Line) (end : Line) (last : State X) → IsTrace (record { net = net; grow = grow; start = s }) text lines end last → TracedToo text lines end last
+  pub trace_alike : (text : List ℕ) (lines : List Line) (end : Line) (last : State X) → IsTrace (trial net grow s) text lines end last
+      → (there : State Y) × IsTrace (trial other grow that) text lines end there × StatesAlike related allowed net last there
   trace_alike text lines end last is_trace =
-      let too = plays_too related allowed net other.leaves (nets related allowed net other alike) grow lines s last that.actors (twins_of related allowed net other alike s that states) is_trace.plays in
-      record {
-        there = twin last too.0;
-        is_trace = record {
+      let too = plays_too related allowed net other.leaves (nets related allowed net other alike) grow lines s last that.actors (twins_of related allowed net other alike s that states) is_trace.plays in (
+        twin last too.0,
+        record {
           is_text = is_trace.is_text ∙ texts_alike related allowed net other alike grow lines;
-          of_table = carried related allowed net other alike (λ m w. AreOfTable (record { net = m; grow = grow; start = w }) lines) s that states
-              (of_table_too related allowed one_trial other.leaves that.actors (nets related allowed net other alike) (twins_of related allowed net other alike s that states) lines is_trace.of_table);
+          of_table = carried related allowed net other alike (λ m w. AreOfTable (trial m grow w) lines) s that states
+              (of_table_too related allowed (trial net grow s) other.leaves that.actors (nets related allowed net other alike) (twins_of related allowed net other alike s that states) lines is_trace.of_table);
           plays = carried related allowed net other alike (λ m w. PlaysFrom m grow w lines (twin last too.0)) s that states too.1;
           keeps = keep_alike related allowed net other alike s that lines states is_trace.keeps;
           ends = is_trace.ends;
-        };
-        states_there = record { actors = too.2.actors; flows = refl; trapped = refl; holds = too.2.holds };
-      }
+        },
+        record { actors = too.2.actors; flows = refl; trapped = refl; holds = too.2.holds },
+      )
