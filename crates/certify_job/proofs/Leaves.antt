@@ -19,7 +19,8 @@ use Rattle.leaf_actors.specs.declared.found.LeafActors.{LeafActors}
 use Rattle.run_report.specs.declared.status.Status.{Status}
 use Rattle.rvc_engine.specs.Built.{AreJudged, IsJudged}
 use Rattle.certify_job.specs.Ends.{SoManyCertified, no_actor, not_one, one_more}
-use Rattle.certify_job.specs.Steps.{IsVerdict, count_none, said_at, status_from}
+use Rattle.network_commands.specs.Commands.{count_none}
+use Rattle.certify_job.specs.Steps.{IsVerdict, said_at, status_from}
 
 -- ---- all of them
 

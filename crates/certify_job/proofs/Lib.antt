@@ -1,4 +1,3 @@
-mod Putting
 mod Leaves
 mod Deciding
 mod Ending

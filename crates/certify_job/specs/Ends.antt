@@ -1,23 +1,21 @@
 -- To what a command comes that certifies the actors of a job, and what it reports: a case for each status.
 -- Trusted: part of what a promise means.
 use Rattle.std.specs.Prelude.{◌≡◌, ◌+◌, ℕ, List, [], ◌∷◌, take, slice_get, Some}
-use Rattle.rvc_io.specs.Channels.{Appends}
-use Rattle.rvc_io.specs.Count.{HasRisen}
 use Rattle.cal_model.specs.Actor.{Actor}
 use Rattle.cal_model.specs.Certified.{IsCertified}
 use Rattle.cal_model.specs.Selection.{Priorities, State}
 use Rattle.cal_model.specs.Sound.{Each}
-use Rattle.channel_writer.specs.Held.{AppendsFront}
+use Rattle.conforming_jobs.specs.Conforming.{no_ports}
 use Rattle.determinacy_cert.specs.Failing.{failures, first}
 use Rattle.determinacy_cert.specs.declared.fault.Reason.{Reason}
 use Rattle.net_model.specs.Network.{Network}
 use Rattle.run_report.specs.About.{About}
-use Rattle.run_report.specs.Report.{certified_line, report}
+use Rattle.run_report.specs.Report.{certified_line}
 use Rattle.run_report.specs.declared.status.ReadAt.TheVariants.{File, Feed}
 use Rattle.run_report.specs.declared.status.Status.{Status}
 use Rattle.run_report.specs.declared.status.Status.TheVariants as status
-use Rattle.check_job.specs.Commands.{Command, IsOfJob}
-use Rattle.check_job.specs.Ends.{FileUnread, IsRefused}
+use Rattle.network_commands.specs.Answers.{BreaksJob, FileUnread}
+use Rattle.network_commands.specs.Commands.{Command, IsOfCommand, OpenedNothing}
 
 -- ---- which actors are certified
 
@@ -41,17 +39,18 @@ pub record FailsFirst (actors : List Actor) (place state a b : ℕ) (reason : Re
 
 -- ---- what a command comes to
 
--- The files and the words conform. The report has how many of the actors at the leaves are certified.
+-- The files conform, and there is no port word, since no port is opened. The report has how many of the actors at the
+-- leaves are certified.
 pub record Judged (cmd : Command) (lines : List ℕ) : Type 0 where
   pub net : Network State
-  pub is_of_job : IsOfJob cmd net
+  pub is_of_command : IsOfCommand no_ports cmd net
   pub count : ℕ
-  pub counted : SoManyCertified is_of_job.files.means.actors count
+  pub counted : SoManyCertified is_of_command.files.means.actors count
   pub lines_are : lines ≡ certified_line count
 
 -- the actors at the leaves of the network of a command
 abbrev pub actors_of : {cmd : Command} {lines : List ℕ} → Judged cmd lines → List Actor
-actors_of judged = judged.is_of_job.files.means.actors
+actors_of judged = judged.is_of_command.files.means.actors
 
 -- .. and each is certified
 pub record AllCertified (cmd : Command) (lines : List ℕ) : Type 0 where
@@ -65,16 +64,17 @@ pub record OneUncertified (cmd : Command) (lines : List ℕ) (inst state a b : �
 
 -- ---- each status
 
--- What a command has come to, but for its report: with these lines of the verb, and speaking of this. It never ends by
--- another status, nor by a feed or a channel that it opened, for it opens none.
+-- What a command has come to, but for its report: with these lines of the verb, and speaking of this. It opened nothing,
+-- and never ends by another status.
 abbrev pub Comes : Command → Status → (lines : List ℕ) → About → Type 0
-Comes cmd status.Done lines about = AllCertified cmd lines
+Comes cmd status.Done lines about = AllCertified cmd lines × OpenedNothing cmd
 Comes cmd (status.Uncertified inst state a b reason) lines about =
-    OneUncertified cmd lines inst.0 state a.0 b.0 reason
-Comes cmd (status.Refused r) lines about = IsRefused cmd r about
-Comes cmd (status.ReadFault (File file)) lines about = FileUnread cmd file about
+    OneUncertified cmd lines inst.0 state a.0 b.0 reason × OpenedNothing cmd
+Comes cmd (status.Refused r) lines about = BreaksJob no_ports cmd r about × OpenedNothing cmd
+Comes cmd (status.ReadFault (File file)) lines about =
+    FileUnread cmd file about × OpenedNothing cmd
 Comes cmd (status.ReadFault (Feed feed)) lines about = ⊥
-Comes cmd status.OutOfMemory lines about = Unit {0}
+Comes cmd status.OutOfMemory lines about = OpenedNothing cmd
 Comes cmd (status.WriteFault channel) lines about = ⊥
 Comes cmd status.Quiet lines about = ⊥
 Comes cmd (status.Trapped inst action trap) lines about = ⊥
@@ -83,22 +83,10 @@ Comes cmd (status.Budget firings) lines about = ⊥
 Comes cmd (status.Usage cause) lines about = ⊥
 Comes cmd (status.NotRun number why) lines about = ⊥
 
--- How a command is answered. Its report was put behind what channel 0 held, which is what the status says; or a put of it
--- failed, which was counted, and channel 0 got a prefix of it: then the status is that of channel 0, whatever the command
--- had come to.
-pub data IsAnswered (cmd : Command) : Status → Type 0 where
-  is_reported : {said : Status} (lines : List ℕ) (about : About) → Comes cmd said lines about
-      → Appends 0 cmd.channels cmd.channels_after (report lines about said)
-      → IsAnswered cmd said
-  is_unreported : (said : Status) (lines : List ℕ) (about : About) → Comes cmd said lines about
-      → AppendsFront 0 cmd.channels cmd.channels_after (report lines about said)
-      → HasRisen cmd.channels.faults cmd.channels_after.faults
-      → IsAnswered cmd (status.WriteFault 0)
-
 -- ---- completeness
 
--- The files and the words conform to a network of these actors: the answer is that each is certified, or the lowest that
--- isn't; but memory may run out, or reading or writing fail.
+-- The files conform to a network of these actors, and there is no port word: the answer is that each is certified, or the
+-- lowest that isn't; but memory may run out, or reading or writing fail.
 abbrev pub IsDecided : List Actor → Status → Type 0
 IsDecided actors status.Done = Each IsCertified actors
 IsDecided actors (status.Uncertified inst state a b reason) =

@@ -4,25 +4,15 @@ use Rattle.std.specs.Prelude.{◌≡◌, ◌+◌, ℕ, List, [], ◌∷◌, map,
 use Rattle.cal_model.specs.Actor.{Actor}
 use Rattle.determinacy_cert.specs.declared.fault.CertFault.{CertFault}
 use Rattle.determinacy_cert.specs.declared.fault.CertFault.TheVariants.{Uncertified, Memory}
-use Rattle.run_report.specs.About.{About}
-use Rattle.run_report.specs.Report.{report}
 use Rattle.run_report.specs.declared.status.Status.{Status}
 use Rattle.run_report.specs.declared.status.Status.TheVariants as status
 use Rattle.rvc_engine.specs.Built.{AreJudged}
-use Rattle.check_job.specs.Commands.{Command}
-use Rattle.check_job.specs.Steps.{IsPut}
-use Rattle.certify_job.specs.Ends.{Comes}
+use Rattle.network_commands.specs.Commands.{count_none}
 use Rattle.certify_job.specs.declared.judging.Verdict.{Verdict}
 
 -- what is said of the actors at these places
 abbrev pub said_at : List (Option CertFault) → List ℕ → List (Option CertFault)
 said_at all places = map (λ p. slice_index_or all p None) places
-
--- how many of these are nothing
-abbrev pub count_none : List (Option CertFault) → ℕ
-count_none [] = 0
-count_none (None ∷ said) = count_none said + 1
-count_none (Some fault ∷ said) = count_none said
 
 -- the status that the first of these gives which isn't nothing; the first has this number
 abbrev pub status_at : ℕ → CertFault → Status
@@ -41,11 +31,3 @@ pub record IsVerdict (actors : List Actor) (v : Verdict) : Type 0 where
   pub judged : AreJudged actors all
   pub certified : v.certified ≡ count_none all
   pub said : v.said ≡ status_from 0 all
-
--- a command came to a status, and its report was put or couldn't be
-pub record IsEnded (cmd : Command) (answer : Status) : Type 0 where
-  pub said : Status
-  pub lines : List ℕ
-  pub about : About
-  pub comes : Comes cmd said lines about
-  pub is_put : IsPut said (report lines about said) cmd.channels cmd.channels_after answer

@@ -1,29 +1,29 @@
-//! Files are checked, port words matched, and actors judged.
+//! Files are checked, port words refused, and actors judged.
 
-ghost use Rattle.std.specs.Prelude.{◌≡◌, ◌≤◌, ℕ, true, List};
+ghost use Rattle.std.specs.Prelude.{◌≡◌, ◌≤◌, ℕ, true, List, string_bytes};
+ghost use Rattle.rvc_io.specs.Feeds.{Inputs};
 ghost use Rattle.rvc_io.specs.Told.{Told};
 ghost use Rattle.actor_files.specs.Loading.{Counts};
 ghost use Rattle.actor_files.specs.Views.{file_names};
 ghost use Rattle.rvc_engine.specs.Checked.{IsChecked, StandAtLeaves};
-ghost use Rattle.check_job.specs.Commands.{top_of};
-ghost use Rattle.check_job.specs.Steps.{status_of};
-ghost use Rattle.certify_job.specs.Steps.{IsEnded};
+ghost use Rattle.rvc_engine.specs.Top.{top_asked};
+ghost use Rattle.network_commands.specs.Answers.{IsAnswered};
+ghost use Rattle.network_commands.specs.Commands.{command, met_by};
+ghost use Rattle.certify_job.specs.Ends.{Comes};
 
 use crate::judging::judge_leaves;
 use crate::reporting::report_certified;
 use actor_files::Names;
 use cal_model::sound_actors_have_priorities;
 use determinacy_cert::no_failure_where_certified;
+use network_commands::{report_unbuilt, status_of_build};
 use port_words::match_words;
-use run_report::{REPORT_CHANNEL, ReadAt, Status};
+use run_report::{REPORT_CHANNEL, Status};
 use rvc_base::Memory;
-use rvc_engine::{BuildFault, Checked, check_network};
+use rvc_engine::{Checked, check_network};
 use rvc_io::{Drains, Library};
 use rvc_words::Job;
 use std::alloc::Global;
-
-/// The most inputs, and the most outputs, of a network. There is no memory for so many.
-const MAX_PORTS: usize = 2_147_483_647;
 
 /// Certifies the actors of a job, without what a library that tells of each name decides.
 pub(crate) fn certify_files<L: Library, D: Drains>(
@@ -33,14 +33,9 @@ pub(crate) fn certify_files<L: Library, D: Drains>(
     drains: &mut D,
 ) -> Status
     requires open { (D.channels drains.old).is_open REPORT_CHANNEL ≡ true }
-    ensures ended { IsEnded (record {
-      job = job.now;
-      library = L.file library.old;
-      misses = record { old = L.misses library.old; new = L.misses library.new };
-      faults = record { old = L.faults library.old; new = L.faults library.new };
-      channels = D.channels drains.old;
-      channels_after = D.channels drains.new;
-    }) result }
+    ensures answered { (feeds : Inputs) → IsAnswered Comes
+        (command (met_by L.file L.misses L.faults (λ seen. seen) D.channels library.old library.new
+        feeds feeds drains.old drains.new) job.now) result }
     ensures same_files { (other : List ℕ) → L.file library.new other ≡ L.file library.old other }
     ensures faults_stay { L.faults library.old ≤ L.faults library.new }
     ensures misses_stay { L.misses library.old ≤ L.misses library.new }
@@ -48,11 +43,12 @@ pub(crate) fn certify_files<L: Library, D: Drains>(
     let mut names = Names::new(alloc);
     match check_network(alloc, library, job.top.as_str(), &mut names) {
         Ok(checked) => end_of(alloc, &checked, &names, job, drains),
-        Err(fault) => report_certified(status_of(fault), 0, &names, job, drains),
+        Err(fault) => report_unbuilt(status_of_build(fault), &names, job, drains),
     }
 }
 
-/// Matches the port words of a job with the ports of a network that was checked, judges its actors, and puts the report.
+/// Refuses the port words of a job whose network was checked, if there are any, for no port is opened; judges its actors,
+/// and puts the report.
 fn end_of<D: Drains>(
     alloc: Global,
     checked: &Checked,
@@ -62,40 +58,26 @@ fn end_of<D: Drains>(
 ) -> Status
     requires open { (D.channels drains.old).is_open REPORT_CHANNEL ≡ true }
     requires stand { StandAtLeaves checked.now.actors }
-    ensures { (library : List ℕ → Told) (misses faults : Counts)
-        → IsChecked library (top_of job.now) (file_names names.now) checked.now
-        → IsEnded (record {
+    ensures { (library : List ℕ → Told) (misses faults : Counts) (feeds : Inputs)
+        → IsChecked library (top_asked (string_bytes job.now.top)) (file_names names.now) checked.now
+        → IsAnswered Comes (record {
           job = job.now;
           library = library;
           misses = misses;
           faults = faults;
+          feeds = feeds;
+          feeds_after = feeds;
           channels = D.channels drains.old;
           channels_after = D.channels drains.new;
         }) result }
 {
-    let ins = checked.wiring().ins.as_slice();
-    let outs = checked.wiring().outs.as_slice();
-    if ins.len() > MAX_PORTS || outs.len() > MAX_PORTS {
-        return report_certified(Status::OutOfMemory, 0, names, job, drains);
-    }
     sound_actors_have_priorities();
     no_failure_where_certified();
-    match match_words(job.ports.as_slice(), ins, outs) {
+    match match_words(job.ports.as_slice(), &[], &[]) {
         Ok(()) => match judge_leaves(alloc, &checked.actors) {
             Ok(verdict) => report_certified(verdict.said, verdict.certified, names, job, drains),
-            Err(Memory) => report_certified(Status::OutOfMemory, 0, names, job, drains),
+            Err(Memory) => report_unbuilt(Status::OutOfMemory, names, job, drains),
         },
-        Err(refusal) => report_certified(Status::Refused(refusal), 0, names, job, drains),
-    }
-}
-
-/// The status of a network that isn't given.
-fn status_of(fault: BuildFault) -> Status
-    ensures { result ≡ status_of fault }
-{
-    match fault {
-        BuildFault::Refused(refusal) => Status::Refused(refusal),
-        BuildFault::ReadFault { file } => Status::ReadFault(ReadAt::File(file)),
-        BuildFault::Memory => Status::OutOfMemory,
+        Err(refusal) => report_unbuilt(Status::Refused(refusal), names, job, drains),
     }
 }

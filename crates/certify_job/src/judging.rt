@@ -6,7 +6,8 @@ ghost use Rattle.cal_model.specs.View.{actor_of};
 ghost use Rattle.rvc_engine.specs.Built.{AreJudged, IsJudged};
 ghost use Rattle.rvc_engine.specs.Checked.{StandAtLeaves};
 ghost use Rattle.leaf_actors.specs.Leaves.{actors_at_leaves};
-ghost use Rattle.certify_job.specs.Steps.{IsVerdict, count_none, said_at, status_at, status_from};
+ghost use Rattle.network_commands.specs.Commands.{count_none};
+ghost use Rattle.certify_job.specs.Steps.{IsVerdict, said_at, status_at, status_from};
 
 use cal_model::Bound;
 use determinacy_cert::{CertFault, certify};

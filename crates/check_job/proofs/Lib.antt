@@ -1,3 +1,2 @@
-mod Putting
 mod Ending
 mod Answering

@@ -1,24 +1,25 @@
-//! Files are checked, and port words matched.
+//! Files are checked, and port words refused.
 
-ghost use Rattle.std.specs.Prelude.{◌≡◌, ◌≤◌, ℕ, true, List};
+ghost use Rattle.std.specs.Prelude.{◌≡◌, ◌≤◌, ℕ, true, List, map, string_bytes};
+ghost use Rattle.rvc_io.specs.Feeds.{Inputs};
 ghost use Rattle.rvc_io.specs.Told.{Told};
 ghost use Rattle.actor_files.specs.Loading.{Counts};
 ghost use Rattle.actor_files.specs.Views.{file_names};
 ghost use Rattle.rvc_engine.specs.Checked.{IsChecked};
-ghost use Rattle.check_job.specs.Commands.{top_of};
-ghost use Rattle.check_job.specs.Steps.{IsEnded, status_of};
+ghost use Rattle.rvc_engine.specs.Top.{top_asked};
+ghost use Rattle.network_commands.specs.Answers.{IsAnswered};
+ghost use Rattle.network_commands.specs.Commands.{command, met_by};
+ghost use Rattle.check_job.specs.Ends.{Comes};
 
-use crate::reporting::{report_checked, report_unchecked};
+use crate::reporting::report_checked;
 use actor_files::Names;
+use network_commands::{report_unbuilt, status_of_build};
 use port_words::match_words;
-use run_report::{REPORT_CHANNEL, ReadAt, Status};
-use rvc_engine::{BuildFault, Checked, check_network};
+use run_report::{REPORT_CHANNEL, Status};
+use rvc_engine::{Checked, check_network};
 use rvc_io::{Drains, Library};
 use rvc_words::Job;
 use std::alloc::Global;
-
-/// The most inputs, and the most outputs, of a network. There is no memory for so many.
-const MAX_PORTS: usize = 2_147_483_647;
 
 /// Checks a job, without what a library that tells of each name decides.
 pub(crate) fn check_files<L: Library, D: Drains>(
@@ -28,14 +29,9 @@ pub(crate) fn check_files<L: Library, D: Drains>(
     drains: &mut D,
 ) -> Status
     requires open { (D.channels drains.old).is_open REPORT_CHANNEL ≡ true }
-    ensures ended { IsEnded (record {
-      job = job.now;
-      library = L.file library.old;
-      misses = record { old = L.misses library.old; new = L.misses library.new };
-      faults = record { old = L.faults library.old; new = L.faults library.new };
-      channels = D.channels drains.old;
-      channels_after = D.channels drains.new;
-    }) result }
+    ensures answered { (feeds : Inputs) → IsAnswered Comes
+        (command (met_by L.file L.misses L.faults (λ seen. seen) D.channels library.old library.new
+        feeds feeds drains.old drains.new) job.now) result }
     ensures same_files { (other : List ℕ) → L.file library.new other ≡ L.file library.old other }
     ensures faults_stay { L.faults library.old ≤ L.faults library.new }
     ensures misses_stay { L.misses library.old ≤ L.misses library.new }
@@ -43,42 +39,28 @@ pub(crate) fn check_files<L: Library, D: Drains>(
     let mut names = Names::new(alloc);
     match check_network(alloc, library, job.top.as_str(), &mut names) {
         Ok(checked) => end_of(&checked, &names, job, drains),
-        Err(fault) => report_unchecked(status_of(fault), &names, job, drains),
+        Err(fault) => report_unbuilt(status_of_build(fault), &names, job, drains),
     }
 }
 
-/// Matches the port words of a job with the ports of a network that was checked, and puts the report.
+/// Refuses the port words of a job whose network was checked, if there are any, for no port is opened; and puts the report.
 fn end_of<D: Drains>(checked: &Checked, names: &Names, job: &Job, drains: &mut D) -> Status
     requires { (D.channels drains.old).is_open REPORT_CHANNEL ≡ true }
-    ensures { (library : List ℕ → Told) (misses faults : Counts)
-        → IsChecked library (top_of job.now) (file_names names.now) checked.now
-        → IsEnded (record {
+    ensures { (library : List ℕ → Told) (misses faults : Counts) (feeds : Inputs)
+        → IsChecked library (top_asked (string_bytes job.now.top)) (file_names names.now) checked.now
+        → IsAnswered Comes (record {
           job = job.now;
           library = library;
           misses = misses;
           faults = faults;
+          feeds = feeds;
+          feeds_after = feeds;
           channels = D.channels drains.old;
           channels_after = D.channels drains.new;
         }) result }
 {
-    let ins = checked.wiring().ins.as_slice();
-    let outs = checked.wiring().outs.as_slice();
-    if ins.len() > MAX_PORTS || outs.len() > MAX_PORTS {
-        return report_unchecked(Status::OutOfMemory, names, job, drains);
-    }
-    match match_words(job.ports.as_slice(), ins, outs) {
+    match match_words(job.ports.as_slice(), &[], &[]) {
         Ok(()) => report_checked(checked, names, job, drains),
-        Err(refusal) => report_unchecked(Status::Refused(refusal), names, job, drains),
-    }
-}
-
-/// The status of a network that isn't given.
-fn status_of(fault: BuildFault) -> Status
-    ensures { result ≡ status_of fault }
-{
-    match fault {
-        BuildFault::Refused(refusal) => Status::Refused(refusal),
-        BuildFault::ReadFault { file } => Status::ReadFault(ReadAt::File(file)),
-        BuildFault::Memory => Status::OutOfMemory,
+        Err(refusal) => report_unbuilt(Status::Refused(refusal), names, job, drains),
     }
 }

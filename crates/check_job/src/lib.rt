@@ -1,10 +1,9 @@
-//! The verb `check`: whether the files of a top and the port words of a job conform.
+//! The verb `check`: whether the files of a top conform, and no word names a port.
 //!
-//! [`check_job`] reads and checks the network that the top names, matches the port words with its ports, and puts the
-//! report on channel 0. It opens nothing.
+//! [`check_job`] reads and checks the network that the top names, refuses port words, and puts the report on channel 0. It
+//! opens nothing.
 //!
-//! `specs/Commands.antt` says which network a command is about, and `specs/Ends.antt` to what it comes and what it reports,
-//! with a case for each status.
+//! `specs/Ends.antt` says to what a command comes and what it reports, with a case for each status.
 #![tactic(auto)]
 
 mod checking;

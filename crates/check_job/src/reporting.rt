@@ -1,33 +1,17 @@
 //! The report of a check.
 
 ghost use Rattle.std.specs.Prelude.{◌≡◌, true};
-ghost use Rattle.actor_files.specs.Views.{file_names};
 ghost use Rattle.run_report.specs.About.{about};
-ghost use Rattle.run_report.specs.Report.{last_line, report, size_lines};
-ghost use Rattle.run_report.specs.declared.status.Status.TheVariants as status;
-ghost use Rattle.check_job.specs.Commands.{about_files};
-ghost use Rattle.check_job.specs.Steps.{IsPut, about_checked};
+ghost use Rattle.run_report.specs.Report.{report, size_lines};
+ghost use Rattle.network_commands.specs.Steps.{IsPut};
+ghost use Rattle.check_job.specs.Steps.{about_checked};
 
 use actor_files::Names;
-use run_report::{REPORT_CHANNEL, Status, Subject, report_check, report_end};
+use network_commands::answered;
+use run_report::{REPORT_CHANNEL, Status, Subject, report_check};
 use rvc_engine::Checked;
-use rvc_io::{Drains, Failed};
+use rvc_io::Drains;
 use rvc_words::Job;
-
-/// What the report speaks of, if there is no network.
-fn files_subject<'a>(names: &'a Names, job: &'a Job) -> Subject<'a>
-    ensures { about result ≡ about_files job.entry.now (file_names names.entry.now) }
-{
-    Subject {
-        files: names.files.as_slice(),
-        trace: job.trace.as_str(),
-        words: job.ports.as_slice(),
-        instances: 0,
-        links: &[],
-        ins: &[],
-        outs: &[],
-    }
-}
 
 /// What the report speaks of, with a network that was checked.
 fn checked_subject<'a>(checked: &'a Checked, names: &'a Names, job: &'a Job) -> Subject<'a>
@@ -45,25 +29,6 @@ fn checked_subject<'a>(checked: &'a Checked, names: &'a Names, job: &'a Job) -> 
     }
 }
 
-/// Puts the last line alone, and gives the status.
-pub(crate) fn report_unchecked<D: Drains>(
-    said: Status,
-    names: &Names,
-    job: &Job,
-    drains: &mut D,
-) -> Status
-    requires { (D.channels drains.old).is_open REPORT_CHANNEL ≡ true }
-    ensures { IsPut said (last_line (about_files job.now (file_names names.now)) said)
-        (D.channels drains.old) (D.channels drains.new) result }
-{
-    match report_end(&said, &files_subject(names, job), drains) {
-        Ok(()) => said,
-        Err(Failed) => Status::WriteFault {
-            channel: REPORT_CHANNEL,
-        },
-    }
-}
-
 /// Puts the report of a network that was checked, and gives the status.
 pub(crate) fn report_checked<D: Drains>(
     checked: &Checked,
@@ -77,10 +42,7 @@ pub(crate) fn report_checked<D: Drains>(
         (about_checked checked.now names.now job.now) Status.Done)
         (D.channels drains.old) (D.channels drains.new) result }
 {
-    match report_check(&Status::Done, &checked_subject(checked, names, job), drains) {
-        Ok(()) => Status::Done,
-        Err(Failed) => Status::WriteFault {
-            channel: REPORT_CHANNEL,
-        },
-    }
+    let subject = checked_subject(checked, names, job);
+    let put = report_check(&Status::Done, &subject, drains);
+    answered(Status::Done, put)
 }

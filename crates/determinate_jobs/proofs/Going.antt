@@ -21,7 +21,7 @@ use Rattle.network_job.specs.Leaving.{HasEnded, setting_of}
 use Rattle.source_network.specs.Files.{files_of}
 use Rattle.run_report.specs.About.{About}
 use Rattle.rvc_words.specs.declared.job.Job.{Job}
-use Rattle.run_job.specs.Commands.{Command}
+use Rattle.network_commands.specs.Commands.{Command}
 use Rattle.run_job.specs.Ends.{Ran}
 use Rattle.determinate_jobs.specs.QuietRuns.{GoesOn, TellsQuietRuns, actors_of}
 use Rattle.determinate_jobs.proofs.Bared.{bytes_grow, each_other, quiet_alike, sent_alike, settled_alike}

@@ -12,7 +12,7 @@ use Rattle.determinacy_cert.specs.declared.fault.CertFault.{CertFault}
 use Rattle.determinacy_cert.specs.declared.fault.CertFault.TheVariants.{Uncertified, Memory}
 use Rattle.fnl_tree.specs.Tree.{Leaf as TreeLeaf}
 use Rattle.rvc_engine.specs.Built.{AreJudged, IsJudged}
-use Rattle.run_job.specs.Commands.{count_none}
+use Rattle.network_commands.specs.Commands.{count_none}
 use Rattle.source_network.specs.Source.{AreActors, Files, IsLeaf}
 
 -- ---- counts

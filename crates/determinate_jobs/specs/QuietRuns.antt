@@ -19,8 +19,8 @@ use Rattle.network_job.specs.Leaving.{HasEnded, Setting, file_out}
 use Rattle.run_report.specs.About.{About}
 use Rattle.run_report.specs.declared.status.Status.{Status}
 use Rattle.run_report.specs.declared.status.Status.TheVariants as status
-use Rattle.run_job.specs.Commands.{AreGiven, Command, run_over}
-use Rattle.run_job.specs.Ends.{Ran}
+use Rattle.network_commands.specs.Commands.{AreGiven, Command, run_over}
+use Rattle.run_job.specs.Ends.{Comes, Ran}
 
 -- ---- a run and a quiet one
 
@@ -83,3 +83,7 @@ QuietRunsGoOn cmd said lines about = (end : Line) → line_of said ≡ Some end 
 abbrev pub RunsTellQuietRuns : Type 0
 RunsTellQuietRuns = (cmd : Command) (said : Status) (lines : List ℕ) (about : About)
     → QuietRunsGoOn cmd said lines about
+
+-- A command came to this status, and tells what every quiet run gives.
+abbrev pub ComesDeterminate : Command → Status → (lines : List ℕ) → About → Type 0
+ComesDeterminate cmd said lines about = Comes cmd said lines about × QuietRunsGoOn cmd said lines about

@@ -58,8 +58,12 @@ network_text instances = ports_text ++ instances_text instances ++ connections_t
 
 -- Its files.
 
+-- the name of the network's file
+abbrev pub top_name : List ℕ
+top_name = codes "gen/Top.xdf"
+
 unfoldable pub top_file : ℕ → File
-top_file instances = record { name = codes "gen/Top.xdf"; bytes = network_text instances }
+top_file instances = record { name = top_name; bytes = network_text instances }
 
 unfoldable pub add_file : File
 add_file = record { name = codes "gen/Add.cal"; bytes = add_text }
@@ -69,7 +73,3 @@ flip_file = record { name = codes "gen/Flip.cal"; bytes = flip_text }
 
 abbrev pub files_of : ℕ → List File
 files_of instances = top_file instances ∷ add_file ∷ flip_file ∷ []
-
--- the file of its input
-abbrev pub input_file : List ℕ → File
-input_file bytes = record { name = codes "In"; bytes = bytes }

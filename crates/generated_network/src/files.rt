@@ -82,7 +82,7 @@ fn flip_file(alloc: Global) -> Result<(String, Vec<u8>), Memory>
 }
 
 /// A file of this name.
-pub(crate) fn named(alloc: Global, name: &str, bytes: Vec<u8>) -> Result<(String, Vec<u8>), Memory>
+fn named(alloc: Global, name: &str, bytes: Vec<u8>) -> Result<(String, Vec<u8>), Memory>
     ensures { IfOk result (λ file. named file
         ≡ record { name = name.now; bytes = bytes.items }) }
 {

@@ -1,3 +1,3 @@
 pub mod Words
-mod Refused
-pub mod Answered
+pub mod Refused
+pub mod Putting

@@ -1,9 +1,14 @@
 -- A job that conforms isn't refused.
-use Rattle.std.proofs.Common.{subst}
+use Rattle.std.proofs.Common.{ℕ, List, subst}
+use Rattle.rvc_base.specs.declared.refusal.Refusal.{Refusal}
+use Rattle.actor_files.specs.Loading.{TellsAll}
+use Rattle.conforming_jobs.specs.Conforming.{Opened}
 use Rattle.port_words.specs.Matching.{IsWrongWord}
 use Rattle.rvc_engine.specs.Laws.{NetworksAreNotRefused}
 use Rattle.source_network.specs.Library.{LibraryNetworksAreOne}
-use Rattle.network_commands.specs.Commands.{ConformingAreNotRefused, RefusesJob, in_files, in_words}
+use Rattle.run_report.specs.About.{About}
+use Rattle.network_commands.specs.Answers.{BreaksJob, by_files, by_words}
+use Rattle.network_commands.specs.Commands.{Command, ConformingAreNotRefused, RefusesJob, in_files, in_words, top_of, words_of}
 use Rattle.network_commands.proofs.Words.{none_wrong}
 
 pub conforming : NetworksAreNotRefused → LibraryNetworksAreOne → ConformingAreNotRefused
@@ -11,3 +16,10 @@ conforming law one opened library top words net misses names r tells conforms (i
 conforming law one opened library top words net misses names r tells conforms (in_words other is wrong) =
     none_wrong (opened net) words r conforms.matched
     (subst (λ n. IsWrongWord (opened n) words r) (one library top other net tells is conforms.means) wrong)
+
+-- what a command names as the cause refuses its job
+pub broken_is_refused : (opened : Opened) (cmd : Command) (r : Refusal) (about : About) → TellsAll cmd.library → BreaksJob opened cmd r about
+    → (names : List (List ℕ)) × RefusesJob opened cmd.library (top_of cmd) (words_of cmd) cmd.misses names r
+broken_is_refused opened cmd r _ tells (by_files names h) = (names, in_files (h.why tells))
+broken_is_refused opened cmd r _ tells (by_words names net h) =
+    (names, in_words net (record { reads = h.files.reads; are_loaded = h.files.are_read.are_loaded tells; means = h.files.means }) h.wrong)

@@ -30,6 +30,13 @@ pub record HasWrongWord (opened : Opened) (cmd : Command) (names : List (List �
   pub names_are : names ≡ files.names
   pub wrong : IsWrongWord (opened net) (words_of cmd) r
 
+-- Why a job is refused that needs no code: its files break a rule, or they mean a network, and a port word is wrong.
+pub data BreaksJob (opened : Opened) (cmd : Command) (r : Refusal) : About → Type 0 where
+  by_files : (names : List (List ℕ)) → BreaksFiles cmd names r
+      → BreaksJob opened cmd r (about_files cmd names)
+  by_words : (names : List (List ℕ)) (net : Network State) → HasWrongWord opened cmd names net r
+      → BreaksJob opened cmd r (about_files cmd names)
+
 -- the reading of a file failed, which was counted; the file is one of these names
 pub record FileUnread (cmd : Command) (file : ℕ) (about : About) : Type 0 where
   pub counted : HasRisen cmd.faults.old cmd.faults.new

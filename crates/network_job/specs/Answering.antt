@@ -1,20 +1,36 @@
 -- How a job is answered: what each answer says, and when it comes.
 -- Trusted: part of what a promise means.
-use Rattle.std.specs.Prelude.{◌≡◌, ◌⊎◌, ℕ, List, Result, Ok, Err}
+use Rattle.std.specs.Prelude.{◌≡◌, ◌⊎◌, ℕ, List, ◌++◌, Result, Ok, Err}
 use Rattle.rvc_base.specs.declared.refusal.Refusal.{Refusal}
 use Rattle.rvc_io.specs.Channels.{Channels, WritesOnlyAt}
 use Rattle.rvc_io.specs.Count.{HasRisen}
 use Rattle.rvc_io.specs.Feeds.{Inputs}
 use Rattle.rvc_words.specs.Words.{PortText}
+use Rattle.rvc_words.specs.declared.job.Job.{Job}
+use Rattle.fnl_flatten.specs.declared.flat.Flat.{Flat}
+use Rattle.grown_links.specs.Growth.{GrowTooFar, IsGrownTooMuch}
 use Rattle.net_model.specs.declared.wiring.Link.{Link}
 use Rattle.round_runner.specs.declared.outcome.RunEnd.{RunEnd}
 use Rattle.round_runner.specs.declared.outcome.RunEnd.TheVariants as end
+use Rattle.port_words.specs.Matching.{AreMatched, IsWrongWord}
 use Rattle.port_words.specs.Opening.{ChannelFails, ChannelsAreOpened, FeedFails, FeedsAreOpened, Opening, channels_of, feeds_of}
 use Rattle.network_job.specs.declared.outcome.JobFault.{JobFault}
 use Rattle.network_job.specs.declared.outcome.JobFault.TheVariants.{Refused, Memory, ReadFault, WriteFault}
 use Rattle.network_job.specs.declared.outcome.Outcome.{Outcome}
 use Rattle.network_job.specs.Files.{IsChannelOf, IsFeedOf}
 use Rattle.network_job.specs.Leaving.{LeavesRun, Setting, WasBroken, ending_of}
+use Rattle.network_job.specs.Network.{in_names, out_names, words_of}
+
+-- Why a job is refused: one of its port words is wrong; or each names a port of its own, and the links may grow too far.
+pub data IsRefused (flat : Flat) (job : Job) (r : Refusal) : Type 0 where
+  by_word : IsWrongWord (in_names flat ++ out_names flat) (words_of job) r → IsRefused flat job r
+  by_growth : AreMatched (in_names flat ++ out_names flat) (words_of job)
+      → GrowTooFar flat.links.items job.grow → IsGrownTooMuch r → IsRefused flat job r
+
+-- It isn't: each port word names a port of its own, and the links don't grow too far.
+pub record IsPermitted (flat : Flat) (job : Job) : Type 0 where
+  pub matched : AreMatched (in_names flat ++ out_names flat) (words_of job)
+  pub fits : GrowTooFar flat.links.items job.grow → ⊥
 
 -- this holds of the refusal, if it is refused; of the feed, and of the channel, that kept the rounds from going
 abbrev pub OnRefused : {A : Type 0} → Result A JobFault → (Refusal → Type 0) → Type 0

@@ -1,6 +1,6 @@
 //! The feeds and channels of a job are opened, and what stands before the first event of the trace is written.
 
-ghost use Rattle.std.specs.Prelude.{◌≡◌, ◌≢◌, ◌<◌, ℕ, false, length, string_bytes};
+ghost use Rattle.std.specs.Prelude.{◌≡◌, ◌≢◌, ◌<◌, ◌≤◌, ℕ, false, length, string_bytes};
 ghost use Rattle.network_job.specs.Network.{words_of};
 ghost use Rattle.network_job.specs.Preparing.{Opens, Starts};
 
@@ -19,7 +19,8 @@ fn open_all<F: Feeds, D: Drains>(
     feeds: &mut F,
     drains: &mut D,
 ) -> Result<(), JobFault>
-    requires feeds_closed { (n : ℕ) → (F.feeds feeds.old).is_open n ≡ false }
+    requires feeds_closed { (n : ℕ) → 1 ≤ n → n ≤ length flat.now.links.items
+        → (F.feeds feeds.old).is_open n ≡ false }
     requires channels_closed { (n : ℕ) → n ≢ 0 → (D.channels drains.old).is_open n ≡ false }
     requires few_links { length flat.now.links.items < 4294967295 }
     requires few_outs { length flat.now.outs.items < 4294967294 }
@@ -44,7 +45,8 @@ pub(crate) fn start<F: Feeds, D: Drains>(
     feeds: &mut F,
     drains: &mut D,
 ) -> Result<(), JobFault>
-    requires feeds_closed { (n : ℕ) → (F.feeds feeds.old).is_open n ≡ false }
+    requires feeds_closed { (n : ℕ) → 1 ≤ n → n ≤ length flat.now.links.items
+        → (F.feeds feeds.old).is_open n ≡ false }
     requires channels_closed { (n : ℕ) → n ≢ 0 → (D.channels drains.old).is_open n ≡ false }
     requires few_links { length flat.now.links.items < 4294967295 }
     requires few_outs { length flat.now.outs.items < 4294967294 }

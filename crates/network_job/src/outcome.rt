@@ -15,7 +15,7 @@ pub struct Outcome {
 /// Why no round was made.
 #[derive(Clone, Copy, Debug, PartialEq, Eq)]
 pub enum JobFault {
-    /// A port word names no port, or one that a word before it names. Nothing was opened.
+    /// A port word names no port, or one that a word before it names; or the links may grow too far. Nothing was opened.
     Refused(Refusal),
     /// Memory ran out. Nothing was opened.
     Memory,

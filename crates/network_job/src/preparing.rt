@@ -1,22 +1,22 @@
 //! What is made for a job before anything is opened.
 
-ghost use Rattle.std.specs.Prelude.{◌≡◌, ◌+◌, ◌++◌, ◌<◌, IfOk, OnOk, length, map};
+ghost use Rattle.std.specs.Prelude.{◌≡◌, ◌+◌, ◌<◌, IfErr, IfOk, OnOk, length, map};
 ghost use Rattle.network_runner.specs.Asking.{seen_run};
-ghost use Rattle.port_words.specs.Matching.{AreMatched, IsWrongWord};
-ghost use Rattle.network_job.specs.Answering.{NeverOpens, OnRefused};
-ghost use Rattle.network_job.specs.Network.{CanRunAll, in_names, out_names, plan_of, words_of};
+ghost use Rattle.network_job.specs.Answering.{IsPermitted, IsRefused, NeverOpens, OnRefused};
+ghost use Rattle.network_job.specs.Network.{CanRunAll, plan_of, words_of};
 ghost use Rattle.network_job.specs.Preparing.{IsPrepared};
 
 use crate::head::head_of;
 use crate::outcome::JobFault;
 use crate::wiring::wiring_of;
 use fnl_flatten::Flat;
+use grown_links::fits_grown;
 use net_model::{Counts, Firing};
 use network_runner::{Runner, no_counts};
 use port_words::match_words;
 use round_plan::Policy;
 use round_runner::Plan;
-use rvc_base::Memory;
+use rvc_base::{Memory, Refusal};
 use rvc_words::Job;
 use std::alloc::Global;
 
@@ -74,11 +74,32 @@ fn make_ready<A: Firing + Send, P: Policy>(
     })
 }
 
-/// Matches the port words of a job with the ports of its network, and takes the memory for its run.
+/// Whether a job may be run: its port words are matched with the ports of its network, and then it is tested how far the
+/// links may grow.
 ///
 /// # Errors
 ///
-/// `Refused` if a port word names no port, or one that a word before it names; `Memory` if memory runs out.
+/// The refusal of the first port word that names no port, or one that a word before it names; and then that of links which
+/// may grow too far.
+fn permit(flat: &Flat, job: &Job) -> Result<(), Refusal>
+    requires few { length flat.now.ins.items + length flat.now.outs.items < 4294967296 }
+    ensures permitted { OnOk result (IsPermitted flat.now job.now) }
+    ensures refused { IfErr result (IsRefused flat.now job.now) }
+{
+    let ins = flat.ins.as_slice();
+    let outs = flat.outs.as_slice();
+    if let Err(refusal) = match_words(job.ports.as_slice(), ins, outs) {
+        return Err(refusal);
+    }
+    fits_grown(flat.links.as_slice(), job.grow)
+}
+
+/// Tests whether a job may be run, and takes the memory for its run.
+///
+/// # Errors
+///
+/// `Refused` if a port word names no port, or one that a word before it names, or the links may grow too far; `Memory` if
+/// memory runs out.
 pub(crate) fn prepare<A: Firing + Send, P: Policy>(
     alloc: Global,
     cells: Vec<A>,
@@ -91,18 +112,14 @@ pub(crate) fn prepare<A: Firing + Send, P: Policy>(
     ensures prepared { IfOk result (λ p. IsPrepared (map A.cell cells.items) flat.now
         (words_of job.now) (plan_of job.now) (P.kind policy) (seen_run A.cell p.runner)
         p.head.items p.counts) }
-    ensures matched { OnOk result (AreMatched (in_names flat.now
-        ++ out_names flat.now) (words_of job.now)) }
-    ensures refused { OnRefused result (IsWrongWord (in_names flat.now
-        ++ out_names flat.now) (words_of job.now)) }
+    ensures permitted { OnOk result (IsPermitted flat.now job.now) }
+    ensures refused { OnRefused result (IsRefused flat.now job.now) }
     ensures only { NeverOpens result }
 {
-    let ins = flat.ins.as_slice();
-    let outs = flat.outs.as_slice();
-    if ins.len() > MAX_PORTS / 2 || outs.len() > MAX_PORTS / 2 {
+    if flat.ins.len() > MAX_PORTS / 2 || flat.outs.len() > MAX_PORTS / 2 {
         return Err(JobFault::Memory);
     }
-    if let Err(refusal) = match_words(job.ports.as_slice(), ins, outs) {
+    if let Err(refusal) = permit(flat, job) {
         return Err(JobFault::Refused(refusal));
     }
     match make_ready(alloc, cells, flat, job, policy) {

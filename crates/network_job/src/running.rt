@@ -1,10 +1,9 @@
 //! One run of a network, from port words to its end.
 
-ghost use Rattle.std.specs.Prelude.{◌≡◌, ◌≢◌, ◌≤◌, ◌++◌, ℕ, List, false, IfOk, map, string_bytes};
+ghost use Rattle.std.specs.Prelude.{◌≡◌, ◌≢◌, ◌≤◌, ℕ, List, false, IfOk, length, map, string_bytes};
 ghost use Rattle.net_model.specs.Network.{Network};
 ghost use Rattle.net_model.specs.Ready.{given_state};
-ghost use Rattle.port_words.specs.Matching.{AreMatched, IsWrongWord};
-ghost use Rattle.network_job.specs.Answering.{EndIsCaused, IfStarted, IfUnstarted, IsUnread, IsUnwritten, LeavesJob, OnRefused, OnUnread, OnUnwritten};
+ghost use Rattle.network_job.specs.Answering.{EndIsCaused, IfStarted, IfUnstarted, IsPermitted, IsRefused, IsUnread, IsUnwritten, LeavesJob, OnRefused, OnUnread, OnUnwritten};
 ghost use Rattle.network_job.specs.Files.{AreInputs, Keeps, OpensOnly, WritesOnly};
 ghost use Rattle.network_job.specs.Leaving.{setting_of};
 ghost use Rattle.network_job.specs.Network.{CanRunAll, IsNetworkOf, in_names, out_names, plan_of, words_of};
@@ -38,7 +37,8 @@ fn run_by<R: Threads + Sync, A: Firing + Send, P: Policy, F: Feeds, D: Drains, G
 ) -> Result<Outcome, JobFault>
     requires can_run { CanRunAll (map A.cell cells.items) flat.now (plan_of job.now) }
     requires budget { job.now.budget ≤ MAX_BUDGET }
-    requires feeds_closed { (n : ℕ) → (F.feeds feeds.old).is_open n ≡ false }
+    requires feeds_closed { (n : ℕ) → 1 ≤ n → n ≤ length flat.now.links.items
+        → (F.feeds feeds.old).is_open n ≡ false }
     requires channels_closed { (n : ℕ) → n ≢ 0 → (D.channels drains.old).is_open n ≡ false }
     requires kind { P.kind policy ≡ job.now.round }
     requires not_asked { P.rounds policy ≡ 0 }
@@ -53,10 +53,8 @@ fn run_by<R: Threads + Sync, A: Firing + Send, P: Policy, F: Feeds, D: Drains, G
     ensures within { IfOk result (λ outcome. outcome.counts.firings ≤ job.now.budget) }
 
     // When each answer comes, and what it says.
-    ensures matched { IfStarted result (AreMatched (in_names flat.now ++ out_names flat.now)
-        (words_of job.now)) }
-    ensures refused { OnRefused result (IsWrongWord (in_names flat.now ++ out_names flat.now)
-        (words_of job.now)) }
+    ensures permitted { IfStarted result (IsPermitted flat.now job.now) }
+    ensures refused { OnRefused result (IsRefused flat.now job.now) }
     ensures unstarted { IfUnstarted result ((feeds.new ≡ feeds.old) × (drains.new ≡ drains.old)) }
     ensures unread { OnUnread result (λ feed. IsUnread flat.now.links.items (in_names flat.now)
         (words_of job.now) (F.feeds feeds.old) (F.feeds feeds.new) feed
@@ -95,17 +93,17 @@ fn run_by<R: Threads + Sync, A: Firing + Send, P: Policy, F: Feeds, D: Drains, G
 
 /// Runs a network, whose cells are joined as `flat` says, as a job asks.
 ///
-/// The port words are matched with the network's ports, and all memory is taken. Then the feeds are opened, in the order of
-/// links, and the channels: the trace's, and those of outputs in their order. What stands in the trace before its first
-/// event is written, and the rounds go until one ends the run. `rt` is for the threads of more workers than one; `gate` is
-/// told when a worker starts.
+/// The port words are matched with the network's ports, it is tested how far the links may grow, and all memory is taken.
+/// Then the feeds are opened, in the order of links, and the channels: the trace's, and those of outputs in their order.
+/// What stands in the trace before its first event is written, and the rounds go until one ends the run. `rt` is for the
+/// threads of more workers than one; `gate` is told when a worker starts.
 ///
 /// - `leaves`: for each network of these cells, and over the bytes that feeds tell under the files of its inputs (an input
 ///   that no word names has none): if the run came to its end, the trace's channel holds the text of paced lines, the last
 ///   of which is that end, the channel of each output that has a file holds the bytes of what was sent to it, the numbers
 ///   count these lines, and no channel of another output was opened. If a feed couldn't be read the lines are begun. If a
 ///   channel couldn't be opened or written, each that was opened has a prefix of what begun or paced lines give.
-/// - `matched`: if anything was opened, each port word names a port of its own.
+/// - `permitted`: if anything was opened, each port word names a port of its own, and the links don't grow too far.
 /// - `within`: no more firings were made than the job permits.
 /// - `faults`: a run ends by a feed or a channel only if that was counted, and only by one that was opened.
 /// - `other_feeds`, `other_channels` and `report`: no other feed was opened, and no other channel was opened or written; so
@@ -113,7 +111,8 @@ fn run_by<R: Threads + Sync, A: Firing + Send, P: Policy, F: Feeds, D: Drains, G
 ///
 /// # Errors
 ///
-/// - `Refused` for the first port word that names no port, or one that a word before it names (`refused`).
+/// - `Refused` for the first port word that names no port, or one that a word before it names; and for links that may grow
+///   to hold too much (`refused`).
 /// - `Memory` if memory runs out; more than 2,147,483,647 inputs or outputs count as that. With these two nothing is opened
 ///   or written (`unstarted`).
 /// - `ReadFault` with the number of the first feed that couldn't be opened: the failure was counted, the feeds before it are
@@ -134,7 +133,8 @@ pub fn run_network<R: Threads + Sync, A: Firing + Send, F: Feeds, D: Drains, G: 
 ) -> Result<Outcome, JobFault>
     requires can_run { CanRunAll (map A.cell cells.items) flat.now (plan_of job.now) }
     requires budget { job.now.budget ≤ MAX_BUDGET }
-    requires feeds_closed { (n : ℕ) → (F.feeds feeds.old).is_open n ≡ false }
+    requires feeds_closed { (n : ℕ) → 1 ≤ n → n ≤ length flat.now.links.items
+        → (F.feeds feeds.old).is_open n ≡ false }
     requires channels_closed { (n : ℕ) → n ≢ 0 → (D.channels drains.old).is_open n ≡ false }
 
     // What the job leaves.
@@ -147,10 +147,8 @@ pub fn run_network<R: Threads + Sync, A: Firing + Send, F: Feeds, D: Drains, G: 
     ensures within { IfOk result (λ outcome. outcome.counts.firings ≤ job.now.budget) }
 
     // When each answer comes, and what it says.
-    ensures matched { IfStarted result (AreMatched (in_names flat.now ++ out_names flat.now)
-        (words_of job.now)) }
-    ensures refused { OnRefused result (IsWrongWord (in_names flat.now ++ out_names flat.now)
-        (words_of job.now)) }
+    ensures permitted { IfStarted result (IsPermitted flat.now job.now) }
+    ensures refused { OnRefused result (IsRefused flat.now job.now) }
     ensures unstarted { IfUnstarted result ((feeds.new ≡ feeds.old) × (drains.new ≡ drains.old)) }
     ensures unread { OnUnread result (λ feed. IsUnread flat.now.links.items (in_names flat.now)
         (words_of job.now) (F.feeds feeds.old) (F.feeds feeds.new) feed

@@ -1,14 +1,12 @@
 -- To what a command comes, by what a run of its image comes to.
-use Rattle.std.proofs.Common.{◌≡◌, ◌⊎◌, inl, inr, ℕ, ◌≤◌, true, false, List, ◌∷◌, ◌++◌, length, refl, sym, ap, subst, ◌∙◌, arith, Contains}
-use Rattle.std.specs.Prelude.{string_bytes, take}
+use Rattle.std.proofs.Common.{◌≡◌, ◌⊎◌, inl, inr, ℕ, ◌≤◌, List, ◌∷◌, ◌++◌, length, refl, sym, ap, subst, ◌∙◌, arith, Contains}
+use Rattle.std.specs.Prelude.{string_bytes}
 use Rattle.std.specs.Arc.{arc_value}
 use Rattle.std.specs.declared.result.Result.{Result}
 use Rattle.std.specs.declared.result.Result.TheVariants.{Ok, Err}
 use Rattle.std.proofs.lemmas.List.{length-map}
 use Rattle.std.proofs.lemmas.List.Elements.{Contains-append_right}
-use Rattle.std.proofs.lemmas.Option.{slice_get_within}
 use Rattle.rvc_base.specs.declared.refusal.Refusal.{Refusal}
-use Rattle.rvc_base.specs.declared.refusal.Rule.{Rule}
 use Rattle.rvc_io.specs.Channels.{Channels, WritesOnlyAt}
 use Rattle.rvc_io.specs.Count.{HasRisen}
 use Rattle.rvc_io.specs.Feeds.{Inputs}
@@ -21,12 +19,11 @@ use Rattle.cal_model.specs.Selection.{State as ActorState}
 use Rattle.net_model.specs.declared.wiring.Counts.{Counts}
 use Rattle.net_model.specs.declared.wiring.Link.{Link}
 use Rattle.net_model.specs.Network.{Network}
-use Rattle.net_state.proofs.Gaining.{some_is}
 use Rattle.actor_files.specs.Loading as loading
 use Rattle.actor_files.specs.Views.{file_names}
 use Rattle.actor_files.specs.declared.names.Names.{Names}
 use Rattle.source_network.specs.Files.{class_asked, files_of}
-use Rattle.port_words.specs.Matching.{AreMatched, BreaksRule, IsWrong, IsWrongWord, is_named, is_port}
+use Rattle.port_words.specs.Matching.{AreMatched, IsWrongWord}
 use Rattle.port_words.specs.Opening.{ChannelFails, channels_of}
 use Rattle.conforming_jobs.specs.Conforming.{names_of_ports}
 use Rattle.round_runner.specs.declared.outcome.RunEnd.{RunEnd}
@@ -36,7 +33,9 @@ use Rattle.network_cells.specs.Sources.{IsActorNetwork}
 use Rattle.rvc_engine.specs.Built.{HasImage, IsBuilt}
 use Rattle.rvc_engine.specs.Top.{top_asked}
 use Rattle.rvc_engine.specs.declared.image.Image.{Image}
-use Rattle.network_job.specs.Answering.{EndIsCaused, HeadFails, IsUnread, LeavesJob}
+use Rattle.grown_links.specs.Growth.{GrowTooFar, IsGrownTooMuch}
+use Rattle.network_job.specs.Answering.{EndIsCaused, HeadFails, IsPermitted, IsUnread, LeavesJob}
+use Rattle.network_job.specs.Answering as answering
 use Rattle.network_job.specs.Files.{IsChannelOf, IsFeedOf, OpensOnly, WritesOnly}
 use Rattle.network_job.specs.Leaving.{Came, LeavesRun, ending_of}
 use Rattle.network_job.specs.Network as asks
@@ -45,30 +44,12 @@ use Rattle.network_job.specs.declared.outcome.JobFault.TheVariants as fault
 use Rattle.network_job.specs.declared.outcome.Outcome.{Outcome}
 use Rattle.network_job.proofs.Numbered.{is_channel}
 use Rattle.run_report.specs.About.{About}
-use Rattle.run_job.specs.Commands.{AreCertified, AreGiven, Command, HasFiles, IsToRun, OpenedNothing, TouchesOnly, about_net, count_none, port_names, run_over}
-use Rattle.run_job.specs.Ends.{Comes, IsRefused, Ran, by_words}
+use Rattle.network_commands.specs.Commands.{AreCertified, AreGiven, Command, HasFiles, IsToRun, OpenedNothing, TouchesOnly, about_net, count_none, port_names, run_over}
+use Rattle.run_job.specs.Ends.{Comes, IsRefused, Ran, WouldGrowTooFar, by_growth, by_words}
 use Rattle.run_job.specs.Steps.{CellsRan, about_image, lines_at, status_at, status_of}
 use Rattle.run_job.proofs.Cells.{many_leaves}
 use Rattle.run_job.proofs.Leaving.{same_names}
 use Rattle.run_job.proofs.Reported.{broken, cut, ended, risen_from, risen_to}
-
--- ---- words that match aren't wrong
-
-module _ (ports : List (List ℕ)) (words : List PortText) where
-  not_wrong : (rule : Rule) (k : ℕ) → AreMatched ports words → IsWrong ports words rule k → ⊥
-  not_wrong rule k matched wrong =
-      let fits = matched k (slice_get_within words k wrong.word wrong.is_there) in
-      let same : fits.word ≡ wrong.word = some_is fits.word wrong.word (sym fits.is_there ∙ wrong.is_there) in
-      clash fits.word wrong.word same fits.known fits.first wrong.breaks
-    where
-      clash : (one other : PortText) → one ≡ other → is_port one.name ports ≡ true
-          → is_named one.name (take k words) ≡ false
-          → BreaksRule ports (take k words) other rule → ⊥
-      clash one other same known first (inl unknown) = (let a = sym known ∙ (ap (λ w. is_port w.name ports) same ∙ unknown.1) in cc)
-      clash one other same known first (inr twice) = (let a = sym first ∙ (ap (λ w. is_named w.name (take k words)) same ∙ twice.2) in cc)
-
-  pub none_wrong : (r : Refusal) → AreMatched ports words → IsWrongWord ports words r → ⊥
-  none_wrong r matched wrong = not_wrong r.rule r.place.offset matched wrong.1
 
 -- ---- channels that fail
 
@@ -132,17 +113,21 @@ module _ (job : Job) (library : loading.Library) (misses faults : loading.Counts
   links_are : net.links ≡ image.flat.links.items
   links_are = (has.is_net).wiring.links
 
+  fitting : AreMatched (asks.in_names image.flat ++ asks.out_names image.flat) (asks.words_of job) → AreMatched (names_of_ports net) (asks.words_of job)
+  fitting matched = subst (λ ps. AreMatched ps (asks.words_of job)) (sym (ports_are image actors net has)) matched
+
   to_run : AreMatched (asks.in_names image.flat ++ asks.out_names image.flat) (asks.words_of job) → IsToRun cmd net
-  to_run matched =
-      let fits : AreMatched (names_of_ports net) (asks.words_of job) = subst (λ ps. AreMatched ps (asks.words_of job)) (sym (ports_are image actors net has)) matched in
-      record {
-        files = files;
-        matched = fits;
-        conforms = λ tells. record {
-          means = record { reads = built.reads; are_loaded = built.are_read.are_loaded tells; means = built.is_image.means };
-          matched = fits;
-        };
-      }
+  to_run matched = record {
+    files = files;
+    matched = fitting matched;
+    conforms = λ tells. record {
+      means = record { reads = built.reads; are_loaded = built.are_read.are_loaded tells; means = built.is_image.means };
+      matched = fitting matched;
+    };
+  }
+
+  within_growth : (GrowTooFar image.flat.links.items job.grow → ⊥) → WouldGrowTooFar cmd net → ⊥
+  within_growth fits far = fits (subst (λ links. GrowTooFar links job.grow) links_are far)
 
   about_is : about_image image names job ≡ about_net cmd (file_names names) net
   about_is =
@@ -174,13 +159,13 @@ module _ (job : Job) (library : loading.Library) (misses faults : loading.Counts
       }
 
   -- a run that came to its end
-  some_ran : (line : Line) (counts : Counts) → AreMatched (asks.in_names image.flat ++ asks.out_names image.flat) (asks.words_of job) → counts.firings ≤ job.budget → TouchesOnly cmd net
+  some_ran : (line : Line) (counts : Counts) → IsPermitted image.flat job → counts.firings ≤ job.budget → TouchesOnly cmd net
       → ((inputs : List (List ℕ)) → AreGiven cmd net inputs → LeavesRun (run_over cmd net inputs) (Came line) counts between)
-      → Ran cmd line counts (lines_at image names job (Ok (record { end = end.Quiet; counts = counts }))) (about_image image names job)
+      → Ran cmd net line counts (lines_at image names job (Ok (record { end = end.Quiet; counts = counts }))) (about_image image names job)
   unfolding to_run files
-  some_ran line counts matched within touches leaves = record {
-    net = net;
-    is_to_run = to_run matched;
+  some_ran line counts permitted within touches leaves = record {
+    is_to_run = to_run permitted.matched;
+    fits = within_growth permitted.fits;
     leaves = λ inputs given. ended (run_over cmd net inputs) between new only line counts (leaves inputs given);
     within = within;
     touches = touches;
@@ -191,18 +176,18 @@ module _ (job : Job) (library : loading.Library) (misses faults : loading.Counts
     lines_are = refl;
   }
 
-  how_ended : (how : RunEnd) (counts : Counts) → AreMatched (asks.in_names image.flat ++ asks.out_names image.flat) (asks.words_of job) → counts.firings ≤ job.budget → TouchesOnly cmd net
+  how_ended : (how : RunEnd) (counts : Counts) → IsPermitted image.flat job → counts.firings ≤ job.budget → TouchesOnly cmd net
       → EndIsCaused image.flat.links.items (asks.in_names image.flat) (asks.out_names image.flat) (asks.words_of job) feeds feeds_new old between how
       → ((inputs : List (List ℕ)) → AreGiven cmd net inputs → LeavesRun (run_over cmd net inputs) (ending_of how) counts between)
       → Comes cmd (status_at how counts.firings) (lines_at image names job (Ok (record { end = end.Quiet; counts = counts }))) (about_image image names job)
   unfolding to_run files
-  how_ended end.Quiet counts matched within touches caused leaves = record { counts = counts; ran = some_ran _ counts matched within touches leaves }
-  how_ended (end.Trapped inst action trap) counts matched within touches caused leaves = record { counts = counts; ran = some_ran _ counts matched within touches leaves }
-  how_ended (end.Stalled inst action link) counts matched within touches caused leaves = record { counts = counts; ran = some_ran _ counts matched within touches leaves }
-  how_ended end.Budget counts matched within touches caused leaves = record { counts = counts; ran = some_ran BudgetLine counts matched within touches leaves; firings_are = refl }
-  how_ended (end.ReadFault feed) counts matched within touches caused leaves = record {
-    net = net;
-    is_to_run = to_run matched;
+  how_ended end.Quiet counts permitted within touches caused leaves = (net, record { counts = counts; ran = some_ran _ counts permitted within touches leaves })
+  how_ended (end.Trapped inst action trap) counts permitted within touches caused leaves = (net, record { counts = counts; ran = some_ran _ counts permitted within touches leaves })
+  how_ended (end.Stalled inst action link) counts permitted within touches caused leaves = (net, record { counts = counts; ran = some_ran _ counts permitted within touches leaves })
+  how_ended end.Budget counts permitted within touches caused leaves = (net, record { counts = counts; ran = some_ran BudgetLine counts permitted within touches leaves; firings_are = refl })
+  how_ended (end.ReadFault feed) counts permitted within touches caused leaves = (net, record {
+    is_to_run = to_run permitted.matched;
+    fits = within_growth permitted.fits;
     how = inr (record {
       counted = caused.0;
       is_feed = subst (λ ls. IsFeedOf ls (port_names net.ins) (asks.words_of job) feed) (sym links_are)
@@ -213,49 +198,57 @@ module _ (job : Job) (library : loading.Library) (misses faults : loading.Counts
       touches = touches;
     });
     about_is = about_is;
-  }
-  how_ended (end.WriteFault channel) counts matched within touches caused leaves = record {
-    net = net;
-    is_to_run = to_run matched;
+  })
+  how_ended (end.WriteFault channel) counts permitted within touches caused leaves = (net, record {
+    is_to_run = to_run permitted.matched;
+    fits = within_growth permitted.fits;
     counted = risen_to old.faults between.faults new.faults caused.0 only.faults_stay;
     is_channel = subst (λ ps. IsChannelOf ps (asks.words_of job) channel) (sym outs_are) caused.1;
     leaves = λ inputs given. broken (run_over cmd net inputs) between new only (leaves inputs given);
     touches = touches;
-  }
+  })
 
   -- nothing was opened
   nothing : (feeds_new ≡ feeds) × (between ≡ old) → OpenedNothing cmd
   nothing same = record { same_feeds = same.0; only_report = subst (λ cs. WritesOnlyAt 0 cs new) same.1 only }
 
+  refused : (r : Refusal) → answering.IsRefused image.flat job r → IsRefused cmd r (about_image image names job)
+  unfolding to_run files
+  refused r (answering.by_word wrong) = subst (IsRefused cmd r) (sym about_is) (by_words (file_names names) net (record {
+    files = files;
+    names_are = refl;
+    wrong = subst (λ ps. IsWrongWord ps (asks.words_of job) r) (sym (ports_are image actors net has)) wrong;
+  }))
+  refused r (answering.by_growth matched too_far is) = subst (IsRefused cmd r) (sym about_is) (by_growth (file_names names) net (record {
+    files = files;
+    names_are = refl;
+    matched = fitting matched;
+    too_far = subst (λ links. GrowTooFar links job.grow) (sym links_are) too_far;
+    refusal = is;
+  }))
+
   pub comes : (came : Result Outcome JobFault) → CellsRan image job feeds feeds_new old between came → Comes cmd (status_of came) (lines_at image names job came) (about_image image names job)
   unfolding to_run files
-  comes (Ok outcome) ran = how_ended outcome.end outcome.counts ran.matched ran.within (touched ran.only_feeds ran.others) ran.faults (leaves_of (Ok outcome) ran)
-  comes (Err (fault.Refused r)) ran = (
-    subst (IsRefused cmd r) (sym about_is) (by_words (file_names names) net (record {
-      files = files;
-      names_are = refl;
-      wrong = subst (λ ps. IsWrongWord ps (asks.words_of job) r) (sym (ports_are image actors net has)) ran.refused;
-    })),
-    nothing ran.unstarted,
-  )
+  comes (Ok outcome) ran = how_ended outcome.end outcome.counts ran.permitted ran.within (touched ran.only_feeds ran.others) ran.faults (leaves_of (Ok outcome) ran)
+  comes (Err (fault.Refused r)) ran = (refused r ran.refused, nothing ran.unstarted)
   comes (Err fault.Memory) ran = nothing ran.unstarted
-  comes (Err (fault.ReadFault feed)) ran = record {
-    net = net;
-    is_to_run = to_run ran.matched;
+  comes (Err (fault.ReadFault feed)) ran = (net, record {
+    is_to_run = to_run ran.permitted.matched;
+    fits = within_growth ran.permitted.fits;
     how = inl (record {
       fails = subst (λ ls. IsUnread ls (port_names net.ins) (asks.words_of job) feeds feeds_new feed) (sym links_are)
           (subst (λ ps. IsUnread image.flat.links.items ps (asks.words_of job) feeds feeds_new feed) (sym ins_are) ran.unread.0);
       only_report = subst (λ cs. WritesOnlyAt 0 cs new) ran.unread.1 only;
     });
     about_is = about_is;
-  }
-  comes (Err (fault.WriteFault channel)) ran = record {
-    net = net;
-    is_to_run = to_run ran.matched;
+  })
+  comes (Err (fault.WriteFault channel)) ran = (net, record {
+    is_to_run = to_run ran.permitted.matched;
+    fits = within_growth ran.permitted.fits;
     counted = risen_to old.faults between.faults new.faults
         (is_counted (string_bytes job.trace) (asks.out_names image.flat) (asks.words_of job) channel old between ran.unwritten.fails) only.faults_stay;
     is_channel = subst (λ ps. IsChannelOf ps (asks.words_of job) channel) (sym outs_are)
         (is_one_of (string_bytes job.trace) (asks.out_names image.flat) (asks.words_of job) channel old between ran.unwritten.fails);
     leaves = λ inputs given. broken (run_over cmd net inputs) between new only (leaves_of (Err (fault.WriteFault channel)) ran inputs given);
     touches = touched ran.only_feeds ran.others;
-  }
+  })

@@ -28,7 +28,7 @@ use Rattle.network_job.specs.Network as asks
 use Rattle.network_job.specs.declared.outcome.JobFault.{JobFault}
 use Rattle.network_job.specs.declared.outcome.JobFault.TheVariants as fault
 use Rattle.network_job.specs.declared.outcome.Outcome.{Outcome}
-use Rattle.run_job.specs.Commands.{port_names}
+use Rattle.network_commands.specs.Commands.{port_names}
 use Rattle.run_job.proofs.Cells.{is_network, stand, starts}
 use Rattle.run_job.proofs.Sourced.{job_too}
 

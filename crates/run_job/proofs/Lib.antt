@@ -4,3 +4,4 @@ pub mod Leaving
 pub mod Reported
 pub mod Answering
 pub mod Answered
+pub mod Deciding

@@ -1,11 +1,10 @@
 -- To what a command comes that runs the network of a library, and what it leaves: a case for each status.
 -- Trusted: part of what a promise means.
-use Rattle.std.specs.Prelude.{◌≡◌, ◌⊎◌, ℕ, ◌≤◌, List, [], Some, string_bytes}
+use Rattle.std.specs.Prelude.{◌≡◌, ◌⊎◌, ℕ, ◌≤◌, List, [], Some}
 use Rattle.rvc_base.specs.Rules.{not_built}
 use Rattle.rvc_base.specs.declared.refusal.Refusal.{Refusal}
-use Rattle.rvc_io.specs.Channels.{Appends, WritesOnlyAt}
+use Rattle.rvc_io.specs.Channels.{WritesOnlyAt}
 use Rattle.rvc_io.specs.Count.{HasRisen}
-use Rattle.channel_writer.specs.Held.{AppendsFront}
 use Rattle.rvc_words.specs.declared.job.Job.{Job}
 use Rattle.trace_text.specs.declared.line.Line.{Line}
 use Rattle.trace_text.specs.declared.line.Line.TheVariants.{Quiet as QuietLine, Trap as TrapLine, Stall as StallLine, Budget as BudgetLine}
@@ -13,31 +12,37 @@ use Rattle.cal_model.specs.Selection.{State}
 use Rattle.cal_model.specs.Sound.{Each, IsSound}
 use Rattle.net_model.specs.declared.wiring.Counts.{Counts}
 use Rattle.net_model.specs.Network.{Network}
-use Rattle.actor_files.specs.Loading.{Library, TellsAll}
-use Rattle.network_files.specs.Loading.{IsFaulted}
-use Rattle.port_words.specs.Matching.{IsWrongWord}
+use Rattle.actor_files.specs.Loading.{TellsAll}
+use Rattle.grown_links.specs.Growth.{GrowTooFar, IsGrownTooMuch}
+use Rattle.port_words.specs.Matching.{AreMatched}
 use Rattle.port_words.specs.Opening.{FeedFails, feeds_of}
 use Rattle.conforming_jobs.specs.Conforming.{names_of_ports}
 use Rattle.rvc_engine.specs.NotBuilt.{LacksForm}
 use Rattle.rvc_engine.specs.Refused.{RefusesTop}
-use Rattle.rvc_engine.specs.Top.{top_asked}
 use Rattle.network_job.specs.Files.{IsChannelOf, IsFeedOf}
 use Rattle.network_job.specs.Leaving.{HasEnded, WasBroken, WasCut}
 use Rattle.run_report.specs.About.{About}
-use Rattle.run_report.specs.Report.{report, run_lines}
+use Rattle.run_report.specs.Report.{run_lines}
 use Rattle.run_report.specs.declared.status.ReadAt.TheVariants.{File, Feed}
 use Rattle.run_report.specs.declared.status.Status.{Status}
 use Rattle.run_report.specs.declared.status.Status.TheVariants as status
-use Rattle.run_job.specs.Commands.{AreCertified, AreGiven, Command, HasFiles, IsToRun, OpenedNothing, TouchesOnly, about_files, about_net, port_names, run_over, top_of, words_of}
+use Rattle.network_commands.specs.Answers.{FileUnread, HasWrongWord}
+use Rattle.network_commands.specs.Commands.{AreCertified, AreGiven, Command, HasFiles, IsToRun, OpenedNothing, TouchesOnly, about_files, about_net, port_names, run_over, top_of, words_of}
+
+-- ---- the network that is run
+
+-- the links of a network would hold too much, if they grew as far as the job asks
+abbrev pub WouldGrowTooFar : Command → Network State → Type 0
+WouldGrowTooFar cmd net = GrowTooFar net.links cmd.job.grow
 
 -- ---- a run that came to its end
 
--- The network was run until this line. Whatever bytes the inputs have: the trace is the text of its paced lines, of which
+-- This network was run until this line. Whatever bytes its inputs have: the trace is the text of its paced lines, of which
 -- this is the last, each output that has a file has the bytes of what was sent to it, and the numbers count these lines. No
 -- more firings were made than the budget permits. The report has these numbers, and how many actors are certified.
-pub record Ran (cmd : Command) (end : Line) (counts : Counts) (lines : List ℕ) (about : About) : Type 0 where
-  pub net : Network State
+pub record Ran (cmd : Command) (net : Network State) (end : Line) (counts : Counts) (lines : List ℕ) (about : About) : Type 0 where
   pub is_to_run : IsToRun cmd net
+  pub fits : WouldGrowTooFar cmd net → ⊥
   pub leaves : (inputs : List (List ℕ)) → AreGiven cmd net inputs
       → HasEnded (run_over cmd net inputs) end counts cmd.channels_after
   pub within : counts.firings ≤ cmd.job.budget
@@ -49,14 +54,14 @@ pub record Ran (cmd : Command) (end : Line) (counts : Counts) (lines : List ℕ)
   pub lines_are : lines ≡ run_lines about (Some certified) counts
 
 -- .. if its numbers are some
-pub record RanSome (cmd : Command) (end : Line) (lines : List ℕ) (about : About) : Type 0 where
+pub record RanSome (cmd : Command) (net : Network State) (end : Line) (lines : List ℕ) (about : About) : Type 0 where
   pub counts : Counts
-  pub ran : Ran cmd end counts lines about
+  pub ran : Ran cmd net end counts lines about
 
 -- .. to its budget: so many firings were made
-pub record RanOut (cmd : Command) (firings : ℕ) (lines : List ℕ) (about : About) : Type 0 where
+pub record RanOut (cmd : Command) (net : Network State) (firings : ℕ) (lines : List ℕ) (about : About) : Type 0 where
   pub counts : Counts
-  pub ran : Ran cmd BudgetLine counts lines about
+  pub ran : Ran cmd net BudgetLine counts lines about
   pub firings_are : firings ≡ counts.firings
 
 -- ---- a run that didn't
@@ -77,17 +82,17 @@ pub record FeedBroke (cmd : Command) (net : Network State) (feed : ℕ) : Type 0
   pub within : counts.firings ≤ cmd.job.budget
   pub touches : TouchesOnly cmd net
 
-pub record WasUnread (cmd : Command) (feed : ℕ) (about : About) : Type 0 where
-  pub net : Network State
+pub record WasUnread (cmd : Command) (net : Network State) (feed : ℕ) (about : About) : Type 0 where
   pub is_to_run : IsToRun cmd net
+  pub fits : WouldGrowTooFar cmd net → ⊥
   pub how : FeedUnopened cmd net feed ⊎ FeedBroke cmd net feed
   pub about_is : about ≡ about_net cmd is_to_run.files.names net
 
 -- The trace's channel or that of an output couldn't be opened or written, which was counted: each that was opened has a
 -- prefix of what begun or paced lines give.
-pub record WasUnwritten (cmd : Command) (channel : ℕ) : Type 0 where
-  pub net : Network State
+pub record WasUnwritten (cmd : Command) (net : Network State) (channel : ℕ) : Type 0 where
   pub is_to_run : IsToRun cmd net
+  pub fits : WouldGrowTooFar cmd net → ⊥
   pub counted : HasRisen cmd.channels.faults cmd.channels_after.faults
   pub is_channel : IsChannelOf (port_names net.outs) (words_of cmd) channel
   pub leaves : (inputs : List (List ℕ)) → AreGiven cmd net inputs
@@ -105,46 +110,46 @@ pub record AsksForWorkers (job : Job) (r : Refusal) : Type 0 where
 
 -- The files that the top needs break a rule, or mean a network of which an actor has a form without code. The file of the
 -- refusal is one of these names.
-pub record BreaksFiles (cmd : Command) (names : List (List ℕ)) (r : Refusal) : Type 0 where
+pub record BreaksOrLacks (cmd : Command) (names : List (List ℕ)) (r : Refusal) : Type 0 where
   pub why : TellsAll cmd.library
       → RefusesTop cmd.library (top_of cmd) cmd.misses names r ⊎ LacksForm cmd.library (top_of cmd) names r
 
--- the first port word that names no port of the network, or one that a word before it names
-pub record HasWrongWord (cmd : Command) (names : List (List ℕ)) (net : Network State) (r : Refusal) : Type 0 where
+-- each port word names a port of its own, and the links of the network would grow too far
+pub record GrowsTooMuch (cmd : Command) (names : List (List ℕ)) (net : Network State) (r : Refusal) : Type 0 where
   pub files : HasFiles cmd net
   pub names_are : names ≡ files.names
-  pub wrong : IsWrongWord (names_of_ports net) (words_of cmd) r
+  pub matched : AreMatched (names_of_ports net) (words_of cmd)
+  pub too_far : WouldGrowTooFar cmd net
+  pub refusal : IsGrownTooMuch r
 
 -- Why the job is refused.
 pub data IsRefused (cmd : Command) (r : Refusal) : About → Type 0 where
   by_workers : AsksForWorkers cmd.job r → IsRefused cmd r (about_files cmd [])
-  by_files : (names : List (List ℕ)) → BreaksFiles cmd names r
+  by_files : (names : List (List ℕ)) → BreaksOrLacks cmd names r
       → IsRefused cmd r (about_files cmd names)
-  by_words : (names : List (List ℕ)) (net : Network State) → HasWrongWord cmd names net r
+  by_words : (names : List (List ℕ)) (net : Network State)
+      → HasWrongWord names_of_ports cmd names net r → IsRefused cmd r (about_net cmd names net)
+  by_growth : (names : List (List ℕ)) (net : Network State) → GrowsTooMuch cmd names net r
       → IsRefused cmd r (about_net cmd names net)
-
--- the reading of a file failed, which was counted
-pub record FileUnread (cmd : Command) (file : ℕ) (about : About) : Type 0 where
-  pub counted : HasRisen cmd.faults.old cmd.faults.new
-  pub names : List (List ℕ)
-  pub told : TellsAll cmd.library → IsFaulted cmd.library (top_of cmd) file names
-  pub about_is : about ≡ about_files cmd names
 
 -- ---- each status
 
 -- What a command has come to, but for its report: with these lines of the verb, and speaking of this. It never ends by a
 -- status that isn't of runs.
 abbrev pub Comes : Command → Status → (lines : List ℕ) → About → Type 0
-Comes cmd status.Quiet lines about = RanSome cmd QuietLine lines about
+Comes cmd status.Quiet lines about = (net : Network State) × RanSome cmd net QuietLine lines about
 Comes cmd (status.Trapped inst action trap) lines about =
-    RanSome cmd (TrapLine inst.0 action.0 trap) lines about
+    (net : Network State) × RanSome cmd net (TrapLine inst.0 action.0 trap) lines about
 Comes cmd (status.Stalled inst action link) lines about =
-    RanSome cmd (StallLine inst.0 action.0 link.0) lines about
-Comes cmd (status.Budget firings) lines about = RanOut cmd firings lines about
-Comes cmd (status.ReadFault (Feed feed)) lines about = WasUnread cmd feed about
+    (net : Network State) × RanSome cmd net (StallLine inst.0 action.0 link.0) lines about
+Comes cmd (status.Budget firings) lines about =
+    (net : Network State) × RanOut cmd net firings lines about
+Comes cmd (status.ReadFault (Feed feed)) lines about =
+    (net : Network State) × WasUnread cmd net feed about
 Comes cmd (status.ReadFault (File file)) lines about =
     FileUnread cmd file about × OpenedNothing cmd
-Comes cmd (status.WriteFault channel) lines about = WasUnwritten cmd channel
+Comes cmd (status.WriteFault channel) lines about =
+    (net : Network State) × WasUnwritten cmd net channel
 Comes cmd (status.Refused r) lines about = IsRefused cmd r about × OpenedNothing cmd
 Comes cmd status.OutOfMemory lines about = OpenedNothing cmd
 Comes cmd status.Done lines about = ⊥
@@ -152,37 +157,47 @@ Comes cmd (status.Usage cause) lines about = ⊥
 Comes cmd (status.NotRun number why) lines about = ⊥
 Comes cmd (status.Uncertified inst state first second reason) lines about = ⊥
 
--- How a command is answered. Its report was put behind what channel 0 held, which is what the status says; or a put of it
--- failed, which was counted, and channel 0 got a prefix of it: then the status is that of channel 0, whatever the command
--- had come to.
-pub data IsAnswered (cmd : Command) : Status → Type 0 where
-  is_reported : {said : Status} (lines : List ℕ) (about : About) → Comes cmd said lines about
-      → Appends 0 cmd.channels cmd.channels_after (report lines about said)
-      → IsAnswered cmd said
-  is_unreported : (said : Status) (lines : List ℕ) (about : About) → Comes cmd said lines about
-      → AppendsFront 0 cmd.channels cmd.channels_after (report lines about said)
-      → HasRisen cmd.channels.faults cmd.channels_after.faults
-      → IsAnswered cmd (status.WriteFault 0)
-
 -- ---- completeness
 
--- The job asks for what isn't built yet: for more workers than one, or for an actor of a form for which there is no code.
-pub data IsUnbuilt (library : Library) (job : Job) (r : Refusal) : Type 0 where
-  of_workers : AsksForWorkers job r → IsUnbuilt library job r
-  of_actor : (names : List (List ℕ)) → LacksForm library (top_asked (string_bytes job.top)) names r
-      → IsUnbuilt library job r
+-- Why a job is refused whose files and words conform to this network: it asks for what isn't built yet, for more workers than
+-- one or for an actor of a form for which there is no code; or the links would grow too far.
+pub data IsStillRefused (cmd : Command) (net : Network State) (r : Refusal) : Type 0 where
+  of_workers : AsksForWorkers cmd.job r → IsStillRefused cmd net r
+  of_actor : (names : List (List ℕ)) → LacksForm cmd.library (top_of cmd) names r
+      → IsStillRefused cmd net r
+  of_growth : WouldGrowTooFar cmd net → IsGrownTooMuch r → IsStillRefused cmd net r
 
--- this holds of the refusal, if the job is refused
-abbrev pub OnRefusal : Status → (Refusal → Type 0) → Type 0
-OnRefusal (status.Refused r) P = P r
-OnRefusal status.Quiet P = Unit {0}
-OnRefusal status.Done P = Unit {0}
-OnRefusal (status.Usage cause) P = Unit {0}
-OnRefusal (status.ReadFault at) P = Unit {0}
-OnRefusal (status.WriteFault channel) P = Unit {0}
-OnRefusal (status.Trapped inst action trap) P = Unit {0}
-OnRefusal (status.Stalled inst action link) P = Unit {0}
-OnRefusal (status.Budget firings) P = Unit {0}
-OnRefusal status.OutOfMemory P = Unit {0}
-OnRefusal (status.NotRun number why) P = Unit {0}
-OnRefusal (status.Uncertified inst state first second reason) P = Unit {0}
+-- To what a command comes whose files and words conform to this network: it is run. If it isn't, then the job is refused for
+-- one of these reasons, or reading or writing failed, or memory ran out.
+abbrev pub ComesFor : Network State → Command → Status → (lines : List ℕ) → About → Type 0
+ComesFor net cmd status.Quiet lines about = RanSome cmd net QuietLine lines about
+ComesFor net cmd (status.Trapped inst action trap) lines about =
+    RanSome cmd net (TrapLine inst.0 action.0 trap) lines about
+ComesFor net cmd (status.Stalled inst action link) lines about =
+    RanSome cmd net (StallLine inst.0 action.0 link.0) lines about
+ComesFor net cmd (status.Budget firings) lines about = RanOut cmd net firings lines about
+ComesFor net cmd (status.ReadFault (Feed feed)) lines about = WasUnread cmd net feed about
+ComesFor net cmd (status.ReadFault (File file)) lines about =
+    FileUnread cmd file about × OpenedNothing cmd
+ComesFor net cmd (status.WriteFault channel) lines about = WasUnwritten cmd net channel
+ComesFor net cmd (status.Refused r) lines about = IsStillRefused cmd net r × OpenedNothing cmd
+ComesFor net cmd status.OutOfMemory lines about = OpenedNothing cmd
+ComesFor net cmd status.Done lines about = ⊥
+ComesFor net cmd (status.Usage cause) lines about = ⊥
+ComesFor net cmd (status.NotRun number why) lines about = ⊥
+ComesFor net cmd (status.Uncertified inst state first second reason) lines about = ⊥
+
+-- no run came to its end
+abbrev pub IsNoEnd : Status → Type 0
+IsNoEnd status.Quiet = ⊥
+IsNoEnd (status.Trapped inst action trap) = ⊥
+IsNoEnd (status.Stalled inst action link) = ⊥
+IsNoEnd (status.Budget firings) = ⊥
+IsNoEnd (status.ReadFault at) = Unit {0}
+IsNoEnd (status.WriteFault channel) = Unit {0}
+IsNoEnd (status.Refused r) = Unit {0}
+IsNoEnd status.OutOfMemory = Unit {0}
+IsNoEnd status.Done = Unit {0}
+IsNoEnd (status.Usage cause) = Unit {0}
+IsNoEnd (status.NotRun number why) = Unit {0}
+IsNoEnd (status.Uncertified inst state first second reason) = Unit {0}

@@ -1,9 +1,8 @@
 -- The steps from an image to an answer.
--- Not trusted: no promise is read with it.
-use Rattle.std.specs.Prelude.{◌≡◌, ◌⊎◌, ℕ, ◌≤◌, List, [], ◌++◌, length, map, string_bytes, Some, IfOk}
+-- Not trusted but for images: no other promise is read with it.
+use Rattle.std.specs.Prelude.{◌≡◌, ℕ, ◌≤◌, List, [], ◌++◌, length, map, string_bytes, Some, IfOk}
 use Rattle.std.specs.declared.result.Result.{Result}
 use Rattle.std.specs.declared.result.Result.TheVariants.{Ok, Err}
-use Rattle.rvc_io.specs.declared.Failed.{Failed}
 use Rattle.rvc_io.specs.Channels.{Channels}
 use Rattle.rvc_io.specs.Feeds.{Inputs}
 use Rattle.rvc_words.specs.Words.{port_text}
@@ -12,17 +11,17 @@ use Rattle.cal_model.specs.Actor.{Actor}
 use Rattle.cal_model.specs.Selection.{State}
 use Rattle.net_model.specs.Network.{Network}
 use Rattle.net_model.specs.State.{start_of}
+use Rattle.actor_files.specs.Loading.{Library}
 use Rattle.actor_files.specs.Views.{file_names}
 use Rattle.actor_files.specs.declared.names.Names.{Names}
-use Rattle.port_words.specs.Matching.{AreMatched, IsWrongWord, names_of}
+use Rattle.source_network.specs.Files.{Asked}
+use Rattle.port_words.specs.Matching.{names_of}
 use Rattle.round_runner.specs.declared.outcome.RunEnd.{RunEnd}
 use Rattle.round_runner.specs.declared.outcome.RunEnd.TheVariants as end
 use Rattle.network_cells.specs.Sources.{IsActorNetwork}
-use Rattle.rvc_engine.specs.Built.{HasImage}
-use Rattle.rvc_engine.specs.declared.fault.BuildFault.{BuildFault}
-use Rattle.rvc_engine.specs.declared.fault.BuildFault.TheVariants as build
+use Rattle.rvc_engine.specs.Built.{HasImage, IsBuilt}
 use Rattle.rvc_engine.specs.declared.image.Image.{Image}
-use Rattle.network_job.specs.Answering.{EndIsCaused, IfStarted, IfUnstarted, IsUnread, IsUnwritten, LeavesJob, OnRefused, OnUnread, OnUnwritten}
+use Rattle.network_job.specs.Answering.{EndIsCaused, IfStarted, IfUnstarted, IsPermitted, IsRefused, IsUnread, IsUnwritten, LeavesJob, OnRefused, OnUnread, OnUnwritten}
 use Rattle.network_job.specs.Files.{AreInputs, Keeps, OpensOnly, WritesOnly}
 use Rattle.network_job.specs.Leaving.{setting_of}
 use Rattle.network_job.specs.Network as asks
@@ -30,12 +29,26 @@ use Rattle.network_job.specs.declared.outcome.JobFault.{JobFault}
 use Rattle.network_job.specs.declared.outcome.JobFault.TheVariants as fault
 use Rattle.network_job.specs.declared.outcome.Outcome.{Outcome}
 use Rattle.run_report.specs.About.{About}
-use Rattle.run_report.specs.Puts.{GetsLess, GetsText}
 use Rattle.run_report.specs.Report.{report, run_lines}
-use Rattle.run_report.specs.declared.status.ReadAt.TheVariants.{File, Feed}
+use Rattle.run_report.specs.declared.status.ReadAt.TheVariants.{Feed}
 use Rattle.run_report.specs.declared.status.Status.{Status}
 use Rattle.run_report.specs.declared.status.Status.TheVariants as status
-use Rattle.run_job.specs.Commands.{count_none, port_names}
+use Rattle.network_commands.specs.Commands.{count_none, port_names}
+use Rattle.network_commands.specs.Steps.{IsPut}
+
+-- ---- images
+
+-- the image of a network of sound actors
+pub record IsSourceImage (image : Image) : Type 0 where
+  pub actors : List Actor
+  pub net : Network State
+  pub has : HasImage image actors net
+  pub is : IsActorNetwork actors net
+
+-- what is built of a library is one
+abbrev pub BuiltAreSourceImages : Type 0
+BuiltAreSourceImages = (library : Library) (top : Asked) (names : List (List ℕ)) (image : Image)
+    → IsBuilt library top names image → IsSourceImage image
 
 -- ---- statuses
 
@@ -59,36 +72,9 @@ abbrev pub status_of : Result Outcome JobFault → Status
 status_of (Ok outcome) = status_at outcome.end outcome.counts.firings
 status_of (Err fault) = status_of_fault fault
 
--- that of an image that isn't given
-abbrev pub status_of_build : BuildFault → Status
-status_of_build (build.Refused refusal) = status.Refused refusal
-status_of_build (build.ReadFault file) = status.ReadFault (File file)
-status_of_build build.Memory = status.OutOfMemory
-
 -- ---- reports
 
--- the status, if the report is put
-abbrev pub answered : Status → Result (Unit {0}) Failed → Status
-answered said (Ok done) = said
-answered said (Err failed) = status.WriteFault 0
-
--- it was put, or it wasn't, and the status says that
-abbrev pub IsPut : (said : Status) → (text : List ℕ) → (old new : Channels) → Status → Type 0
-IsPut said text old new answer = ((answer ≡ said) × GetsText text old new)
-    ⊎ ((answer ≡ status.WriteFault 0) × GetsLess text old new)
-
--- what the report speaks of, before there is an image and with one
-abbrev pub about_words : Names → Job → About
-about_words names job = record {
-  files = file_names names;
-  trace = string_bytes job.trace;
-  words = map port_text job.ports.items;
-  instances = 0;
-  links = [];
-  ins = [];
-  outs = [];
-}
-
+-- what the report speaks of, with an image
 abbrev pub about_image : Image → Names → Job → About
 about_image image names job = record {
   files = file_names names;
@@ -108,13 +94,6 @@ lines_at image names job (Err fault) = []
 
 -- ---- runs
 
--- an image of sound actors
-pub record IsSourceImage (image : Image) : Type 0 where
-  pub actors : List Actor
-  pub net : Network State
-  pub has : HasImage image actors net
-  pub is : IsActorNetwork actors net
-
 -- a run of cells leaves what one of the sources would, and comes to this
 pub record CellsRan (image : Image) (job : Job) (feeds feeds_new : Inputs) (old new : Channels) (came : Result Outcome JobFault) : Type 0 where
   pub leaves : (actors : List Actor) (net : Network State) (inputs : List (List ℕ))
@@ -122,8 +101,8 @@ pub record CellsRan (image : Image) (job : Job) (feeds feeds_new : Inputs) (old 
       → AreInputs inputs net.links (port_names net.ins) (asks.words_of job) feeds
       → LeavesJob (setting_of net inputs (start_of net inputs) job) came new
   pub within : IfOk came (λ outcome. outcome.counts.firings ≤ job.budget)
-  pub matched : IfStarted came (AreMatched (asks.in_names image.flat ++ asks.out_names image.flat) (asks.words_of job))
-  pub refused : OnRefused came (IsWrongWord (asks.in_names image.flat ++ asks.out_names image.flat) (asks.words_of job))
+  pub permitted : IfStarted came (IsPermitted image.flat job)
+  pub refused : OnRefused came (IsRefused image.flat job)
   pub unstarted : IfUnstarted came ((feeds_new ≡ feeds) × (new ≡ old))
   pub unread : OnUnread came (λ feed. IsUnread image.flat.links.items (asks.in_names image.flat) (asks.words_of job) feeds feeds_new feed × (new ≡ old))
   pub unwritten : OnUnwritten came (IsUnwritten image.flat.links.items (asks.in_names image.flat) (asks.out_names image.flat) (asks.words_of job) (string_bytes job.trace) feeds feeds_new old new)

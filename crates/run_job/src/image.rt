@@ -1,7 +1,13 @@
-//! An image is run.
+//! A network that was compiled is run.
 
-ghost use Rattle.std.specs.Prelude.{◌≡◌, ◌≢◌, ℕ, false, true};
+ghost use Rattle.std.specs.Prelude.{◌≡◌, ◌≢◌, ◌≤◌, ℕ, false, length, string_bytes, true};
 ghost use Rattle.rvc_words.specs.Words.{IsWithin, job_text};
+ghost use Rattle.actor_files.specs.Loading as loading;
+ghost use Rattle.actor_files.specs.Views.{file_names};
+ghost use Rattle.rvc_engine.specs.Built.{IsBuilt};
+ghost use Rattle.rvc_engine.specs.Top.{top_asked};
+ghost use Rattle.network_commands.specs.Answers.{IsAnswered};
+ghost use Rattle.run_job.specs.Ends.{Comes};
 ghost use Rattle.run_job.specs.Steps.{CellsRan, ImageRan, IsSourceImage};
 
 use crate::reporting::report_came;
@@ -28,7 +34,8 @@ fn run_cells<R: Threads + Sync, F: Feeds, D: Drains, G: Gate>(
 ) -> Result<Outcome, JobFault>
     requires source { IsSourceImage image.now }
     requires within { IsWithin (job_text job.now) }
-    requires feeds_closed { (n : ℕ) → (F.feeds feeds.old).is_open n ≡ false }
+    requires feeds_closed { (n : ℕ) → 1 ≤ n → n ≤ length image.now.flat.links.items
+        → (F.feeds feeds.old).is_open n ≡ false }
     requires channels_closed { (n : ℕ) → n ≢ 0 → (D.channels drains.old).is_open n ≡ false }
     ensures { CellsRan image.now job.now (F.feeds feeds.old) (F.feeds feeds.new)
         (D.channels drains.old) (D.channels drains.new) result }
@@ -48,7 +55,7 @@ fn run_cells<R: Threads + Sync, F: Feeds, D: Drains, G: Gate>(
 }
 
 /// Runs an image, and puts the report.
-pub(crate) fn run_image<R: Threads + Sync, F: Feeds, D: Drains, G: Gate>(
+fn run_and_report<R: Threads + Sync, F: Feeds, D: Drains, G: Gate>(
     rt: &R,
     alloc: Global,
     image: &Image,
@@ -60,7 +67,8 @@ pub(crate) fn run_image<R: Threads + Sync, F: Feeds, D: Drains, G: Gate>(
 ) -> Status
     requires source { IsSourceImage image.now }
     requires within { IsWithin (job_text job.now) }
-    requires feeds_closed { (n : ℕ) → (F.feeds feeds.old).is_open n ≡ false }
+    requires feeds_closed { (n : ℕ) → 1 ≤ n → n ≤ length image.now.flat.links.items
+        → (F.feeds feeds.old).is_open n ≡ false }
     requires channels_closed { (n : ℕ) → n ≢ 0 → (D.channels drains.old).is_open n ≡ false }
     requires report_open { (D.channels drains.old).is_open 0 ≡ true }
     ensures { ImageRan image.now names.now job.now (F.feeds feeds.old) (F.feeds feeds.new)
@@ -68,4 +76,51 @@ pub(crate) fn run_image<R: Threads + Sync, F: Feeds, D: Drains, G: Gate>(
 {
     let came = run_cells(rt, alloc, image, job, feeds, drains, gate);
     report_came(image, names, job, came, drains)
+}
+
+/// Runs the network of an image as a job asks, and puts the report on channel 0. `names` are those of the files of which the
+/// image was built.
+///
+/// The port words are matched with the network's ports, and it is tested how far the links may grow. All memory is taken
+/// before anything is opened. Then the feeds of inputs that have a file are opened, in the order of links, and the channels.
+/// The rounds go to an end, and the report is written last. `rt` is for the threads of more workers than one, and `gate` is
+/// told when a worker starts.
+///
+/// - `answered`: whatever library the image was built of for the job's top, the answer is that of a command that runs its
+///   network (`Comes`). Nothing else of the library matters.
+///
+/// # Errors
+///
+/// Those of [`run_job`](crate::run_job) that aren't of files.
+pub fn run_image<R: Threads + Sync, F: Feeds, D: Drains, G: Gate>(
+    rt: &R,
+    alloc: Global,
+    image: &Image,
+    names: &Names,
+    job: &Job,
+    feeds: &mut F,
+    drains: &mut D,
+    gate: &G,
+) -> Status
+    requires source { IsSourceImage image.now }
+    requires within { IsWithin (job_text job.now) }
+    requires feeds_closed { (n : ℕ) → 1 ≤ n → n ≤ length image.now.flat.links.items
+        → (F.feeds feeds.old).is_open n ≡ false }
+    requires channels_closed { (n : ℕ) → n ≢ 0 → (D.channels drains.old).is_open n ≡ false }
+    requires report_open { (D.channels drains.old).is_open 0 ≡ true }
+    ensures answered { (library : loading.Library) (misses faults : loading.Counts)
+        → IsBuilt library (top_asked (string_bytes job.now.top)) (file_names names.now) image.now
+        → IsAnswered Comes (record {
+          job = job.now;
+          library = library;
+          misses = misses;
+          faults = faults;
+          feeds = F.feeds feeds.old;
+          feeds_after = F.feeds feeds.new;
+          channels = D.channels drains.old;
+          channels_after = D.channels drains.new;
+        }) result }
+{
+    cells_run_as_sources();
+    run_and_report(rt, alloc, image, names, job, feeds, drains, gate)
 }

@@ -1,33 +1,19 @@
-//! Reports of commands that run a network, or tried to.
+//! Reports of commands that ran a network, or tried to.
 
 ghost use Rattle.std.specs.Prelude.{◌≡◌, true};
 ghost use Rattle.run_report.specs.About.{about};
-ghost use Rattle.run_report.specs.Report.{last_line, report};
-ghost use Rattle.run_job.specs.Steps.{IsPut, about_image, about_words, lines_at, status_of};
+ghost use Rattle.run_report.specs.Report.{report};
+ghost use Rattle.network_commands.specs.Steps.{IsPut};
+ghost use Rattle.run_job.specs.Steps.{about_image, lines_at, status_of};
 
-use crate::counting::count_none;
-use crate::status::{answered, status_of};
+use crate::status::status_of;
 use actor_files::Names;
+use network_commands::{answered, count_none};
 use network_job::{JobFault, Outcome};
 use run_report::{REPORT_CHANNEL, Status, Subject, report_end, report_run};
 use rvc_engine::Image;
 use rvc_io::Drains;
 use rvc_words::Job;
-
-/// What the report speaks of, before there is an image.
-fn files_subject<'a>(names: &'a Names, job: &'a Job) -> Subject<'a>
-    ensures { about result ≡ about_words names.entry.now job.entry.now }
-{
-    Subject {
-        files: names.files.as_slice(),
-        trace: job.trace.as_str(),
-        words: job.ports.as_slice(),
-        instances: 0,
-        links: &[],
-        ins: &[],
-        outs: &[],
-    }
-}
 
 /// What the report speaks of, with an image.
 fn image_subject<'a>(image: &'a Image, names: &'a Names, job: &'a Job) -> Subject<'a>
@@ -42,22 +28,6 @@ fn image_subject<'a>(image: &'a Image, names: &'a Names, job: &'a Job) -> Subjec
         ins: image.flat.ins.as_slice(),
         outs: image.flat.outs.as_slice(),
     }
-}
-
-/// Puts the last line of a command that has no image, and gives the status.
-pub(crate) fn report_unbuilt<D: Drains>(
-    said: Status,
-    names: &Names,
-    job: &Job,
-    drains: &mut D,
-) -> Status
-    requires { (D.channels drains.old).is_open REPORT_CHANNEL ≡ true }
-    ensures { IsPut said (last_line (about_words names.now job.now) said) (D.channels drains.old)
-        (D.channels drains.new) result }
-{
-    let subject = files_subject(names, job);
-    let put = report_end(&said, &subject, drains);
-    answered(said, put)
 }
 
 /// Puts the report of a run, or of what kept its rounds from going, and gives the status.

@@ -1,13 +1,11 @@
-//! Statuses, from how runs end and from why nothing is run.
+//! Statuses, from how runs end and from what kept them from going.
 
 ghost use Rattle.std.specs.Prelude.{◌≡◌};
-ghost use Rattle.run_job.specs.Steps.{answered, status_at, status_of, status_of_build, status_of_fault};
+ghost use Rattle.run_job.specs.Steps.{status_at, status_of, status_of_fault};
 
 use network_job::{JobFault, Outcome};
 use round_runner::RunEnd;
-use run_report::{REPORT_CHANNEL, ReadAt, Status};
-use rvc_engine::BuildFault;
-use rvc_io::Failed;
+use run_report::{ReadAt, Status};
 
 /// The status of a run's end, after so many firings.
 fn status_at(end: RunEnd, firings: u64) -> Status
@@ -42,28 +40,5 @@ pub(crate) fn status_of(came: &Result<Outcome, JobFault>) -> Status
     match came {
         Ok(outcome) => status_at(outcome.end, outcome.counts.firings),
         Err(fault) => status_of_fault(*fault),
-    }
-}
-
-/// The status of an image that isn't given.
-pub(crate) fn status_of_build(fault: BuildFault) -> Status
-    ensures { result ≡ status_of_build fault }
-{
-    match fault {
-        BuildFault::Refused(refusal) => Status::Refused(refusal),
-        BuildFault::ReadFault { file } => Status::ReadFault(ReadAt::File(file)),
-        BuildFault::Memory => Status::OutOfMemory,
-    }
-}
-
-/// The status, by whether the report could be put.
-pub(crate) fn answered(said: Status, put: Result<(), Failed>) -> Status
-    ensures { result ≡ answered said put }
-{
-    match put {
-        Ok(()) => said,
-        Err(Failed) => Status::WriteFault {
-            channel: REPORT_CHANNEL,
-        },
     }
 }

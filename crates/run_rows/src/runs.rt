@@ -165,6 +165,12 @@ const SPREAD: &str =
 const PRINTED: &str =
     "actor Inc ( ) uint ( size = 8 ) In ==> uint ( size = 8 ) Out : action In : [ a ] ==> Out : [ a + 1 ] end\nend\n";
 
+/// What `check` and `certify` write of the actor.
+const VERDICTS: &[(&str, &str)] = &[
+    ("rvc check Inc.cal", "instances 1\nlinks 2\ndone\n"),
+    ("rvc certify Inc.cal", "certified 1\ndone\n"),
+];
+
 /// What `fmt` writes of these sources.
 const PRINTS: &[(&str, &str, &str)] = &[
     ("rvc fmt Inc.cal", SPREAD, PRINTED),
@@ -196,9 +202,9 @@ const REFUSALS: &[(&str, &str, &str)] = &[
     ),
     (RUN, " unit U : end", "refused S5 Inc.cal 0\n"),
     ("rvc gen 1 --trace t", INC, "refused Y1 words 0\n"),
-    ("rvc certify Inc.cal", INC, "refused Y1 words 0\n"),
     ("rvc replay Inc.cal --trace t", INC, "refused Y1 words 0\n"),
-    ("rvc check Inc.cal X=in", INC, "refused P1 words 0\n"),
+    ("rvc check Inc.cal In=in", INC, "refused P1 words 0\n"),
+    ("rvc certify Inc.cal Out=out", INC, "refused P1 words 0\n"),
     (
         "rvc run Inc.xdf In=in Out=out --trace t",
         INC,
@@ -370,6 +376,15 @@ fn fmt_prints_the_canonical_text(rt: HostRuntime) -> Result<(), Fail> {
     for &(words, source, printed) in PRINTS {
         let left = ("0 Done", printed, "", NO_BYTES);
         leaves_by_steps(&rt, rt.alloc(), words, source, BYTES, &left)?;
+    }
+    Ok(())
+}
+
+#[test]
+fn what_conforms_is_done(rt: HostRuntime) -> Result<(), Fail> {
+    for &(words, report) in VERDICTS {
+        let left = ("0 Done", report, "", NO_BYTES);
+        leaves_by_steps(&rt, rt.alloc(), words, INC, BYTES, &left)?;
     }
     Ok(())
 }

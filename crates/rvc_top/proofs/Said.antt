@@ -1,41 +1,128 @@
--- What the answer of a run says of the outside.
+-- What the answers of verbs say of the outside.
 use Rattle.std.proofs.Common.{◌≡◌, inl, inr, ◌⊎◌, ℕ, List, ◌++◌, true}
 use Rattle.rvc_io.specs.Count.{HasRisen}
+use Rattle.rvc_words.specs.declared.fault.UsageCause.{UsageCause}
 use Rattle.cal_model.specs.Selection.{State}
 use Rattle.net_model.specs.Network.{Network}
-use Rattle.run_job.specs.Commands as run
-use Rattle.run_job.specs.Ends as ran
+use Rattle.network_commands.specs.Answers.{IsAnswered, is_reported, is_unreported}
+use Rattle.network_commands.specs.Commands.{Command}
+use Rattle.certify_job.specs.Ends as certify
+use Rattle.check_job.specs.Ends as check
+use Rattle.determinate_jobs.specs.QuietRuns.{ComesDeterminate, RunsTellQuietRuns}
+use Rattle.run_job.specs.Ends as run
 use Rattle.run_report.specs.About.{About}
 use Rattle.run_report.specs.Report.{report}
 use Rattle.run_report.specs.declared.status.ReadAt.TheVariants.{File, Feed}
 use Rattle.run_report.specs.declared.status.Status.{Status}
 use Rattle.run_report.specs.declared.status.Status.TheVariants.{Quiet, Done, Usage, ReadFault, WriteFault, Refused, Trapped, Stalled, Budget, OutOfMemory, NotRun, Uncertified}
-use Rattle.rvc_top.specs.Steps.{IsSaid}
+use Rattle.rvc_top.specs.Steps.{IsNoUsage, IsSaid}
 
-module _ (cmd : run.Command) where
-  abbrev RunSaid : Status → Type 0
-  RunSaid answer = IsSaid cmd.faults.old cmd.faults.new cmd.feeds.faults cmd.feeds_after.faults cmd.channels cmd.channels_after answer
+-- ---- any verb
 
-  unread-counted : (net : Network State) (feed : ℕ) → (ran.FeedUnopened cmd net feed ⊎ ran.FeedBroke cmd net feed) → HasRisen cmd.feeds.faults cmd.feeds_after.faults
+-- what an answer says of the outside
+abbrev pub CommandSaid : Command → Status → Type 0
+CommandSaid cmd answer = IsSaid cmd.faults.old cmd.faults.new cmd.feeds.faults cmd.feeds_after.faults cmd.channels cmd.channels_after answer
+
+-- the report was put, if that is told
+abbrev Put : Command → List ℕ → Type 0
+Put cmd text = cmd.channels.tells ≡ true → cmd.channels_after.held 0 ≡ cmd.channels.held 0 ++ text
+
+module _ (Comes : Command → Status → List ℕ → About → Type 0) (cmd : Command) where
+  said_of : ((said : Status) (lines : List ℕ) (about : About) → Comes cmd said lines about → Put cmd (report lines about said) → CommandSaid cmd said)
+      → (answer : Status) → IsAnswered Comes cmd answer → CommandSaid cmd answer
+  said_of each _ (is_reported {said = said} lines about comes put) = each said lines about comes put
+  said_of each _ (is_unreported said lines about comes put risen) = record { caused = risen; alone = λ b. absurd b; plain = λ t. tt }
+
+  no_usage_of : ((cause : UsageCause) (lines : List ℕ) (about : About) → Comes cmd (Usage cause) lines about → ⊥) → (answer : Status) → IsAnswered Comes cmd answer → IsNoUsage answer
+  no_usage_of none _ (is_reported {said = Usage c} lines about comes put) cause e = none c lines about comes
+  no_usage_of none _ (is_reported {said = Quiet} lines about comes put) cause e = cc
+  no_usage_of none _ (is_reported {said = Done} lines about comes put) cause e = cc
+  no_usage_of none _ (is_reported {said = ReadFault at} lines about comes put) cause e = cc
+  no_usage_of none _ (is_reported {said = WriteFault channel} lines about comes put) cause e = cc
+  no_usage_of none _ (is_reported {said = Refused r} lines about comes put) cause e = cc
+  no_usage_of none _ (is_reported {said = Trapped inst action trap} lines about comes put) cause e = cc
+  no_usage_of none _ (is_reported {said = Stalled inst action link} lines about comes put) cause e = cc
+  no_usage_of none _ (is_reported {said = Budget firings} lines about comes put) cause e = cc
+  no_usage_of none _ (is_reported {said = OutOfMemory} lines about comes put) cause e = cc
+  no_usage_of none _ (is_reported {said = NotRun number why} lines about comes put) cause e = cc
+  no_usage_of none _ (is_reported {said = Uncertified inst state first second reason} lines about comes put) cause e = cc
+  no_usage_of none _ (is_unreported said lines about comes put risen) cause e = cc
+
+-- ---- `run`
+
+module _ (cmd : Command) where
+  unread-counted : (net : Network State) (feed : ℕ) → (run.FeedUnopened cmd net feed ⊎ run.FeedBroke cmd net feed) → HasRisen cmd.feeds.faults cmd.feeds_after.faults
   unread-counted net feed (inl un) = un.fails.counted
   unread-counted net feed (inr broke) = broke.counted
 
-  came-said : (said : Status) (lines : List ℕ) (about : About) → ran.Comes cmd said lines about
-      → (cmd.channels.tells ≡ true → cmd.channels_after.held 0 ≡ cmd.channels.held 0 ++ report lines about said) → RunSaid said
-  came-said Quiet lines about comes put = record { caused = tt; alone = λ b. absurd b; plain = λ t. tt }
-  came-said Done lines about comes put = absurd comes
-  came-said (Usage cause) lines about comes put = absurd comes
-  came-said (ReadFault (File file)) lines about comes put = record { caused = comes.0.counted; alone = λ b. comes.1.only_report; plain = λ t. tt }
-  came-said (ReadFault (Feed feed)) lines about comes put = record { caused = unread-counted comes.net feed comes.how; alone = λ b. absurd b; plain = λ t. tt }
-  came-said (WriteFault channel) lines about comes put = record { caused = comes.counted; alone = λ b. absurd b; plain = λ t. tt }
-  came-said (Refused r) lines about comes put = record { caused = tt; alone = λ b. comes.1.only_report; plain = λ t. tt }
-  came-said (Trapped inst action trap) lines about comes put = record { caused = tt; alone = λ b. absurd b; plain = λ t. tt }
-  came-said (Stalled inst action link) lines about comes put = record { caused = tt; alone = λ b. absurd b; plain = λ t. tt }
-  came-said (Budget firings) lines about comes put = record { caused = tt; alone = λ b. absurd b; plain = λ t. tt }
-  came-said OutOfMemory lines about comes put = record { caused = tt; alone = λ b. comes.only_report; plain = put }
-  came-said (NotRun number why) lines about comes put = absurd comes
-  came-said (Uncertified inst state first second reason) lines about comes put = absurd comes
+  run_came : (said : Status) (lines : List ℕ) (about : About) → run.Comes cmd said lines about → Put cmd (report lines about said) → CommandSaid cmd said
+  run_came Quiet lines about comes put = record { caused = tt; alone = λ b. absurd b; plain = λ t. tt }
+  run_came Done lines about comes put = absurd comes
+  run_came (Usage cause) lines about comes put = absurd comes
+  run_came (ReadFault (File file)) lines about comes put = record { caused = comes.0.counted; alone = λ b. comes.1.only_report; plain = λ t. tt }
+  run_came (ReadFault (Feed feed)) lines about comes put = record { caused = unread-counted comes.net feed comes.how; alone = λ b. absurd b; plain = λ t. tt }
+  run_came (WriteFault channel) lines about comes put = record { caused = comes.counted; alone = λ b. absurd b; plain = λ t. tt }
+  run_came (Refused r) lines about comes put = record { caused = tt; alone = λ b. comes.1.only_report; plain = λ t. tt }
+  run_came (Trapped inst action trap) lines about comes put = record { caused = tt; alone = λ b. absurd b; plain = λ t. tt }
+  run_came (Stalled inst action link) lines about comes put = record { caused = tt; alone = λ b. absurd b; plain = λ t. tt }
+  run_came (Budget firings) lines about comes put = record { caused = tt; alone = λ b. absurd b; plain = λ t. tt }
+  run_came OutOfMemory lines about comes put = record { caused = tt; alone = λ b. comes.only_report; plain = put }
+  run_came (NotRun number why) lines about comes put = absurd comes
+  run_came (Uncertified inst state first second reason) lines about comes put = absurd comes
 
-  pub run-said : (answer : Status) → ran.IsAnswered cmd answer → RunSaid answer
-  run-said _ (ran.is_reported {said = said} lines about comes put) = came-said said lines about comes put
-  run-said _ (ran.is_unreported said lines about comes put risen) = record { caused = risen; alone = λ b. absurd b; plain = λ t. tt }
+  pub run_said : (answer : Status) → IsAnswered run.Comes cmd answer → CommandSaid cmd answer
+  run_said = said_of run.Comes cmd run_came
+
+  pub run_no_usage : (answer : Status) → IsAnswered run.Comes cmd answer → IsNoUsage answer
+  run_no_usage = no_usage_of run.Comes cmd (λ cause lines about comes. comes)
+
+  -- what was answered tells of quiet runs
+  pub run_tells : RunsTellQuietRuns → (answer : Status) → IsAnswered run.Comes cmd answer → IsAnswered ComesDeterminate cmd answer
+  run_tells law _ (is_reported {said = said} lines about comes put) = is_reported lines about (comes, law cmd said lines about) put
+  run_tells law _ (is_unreported said lines about comes put risen) = is_unreported said lines about (comes, law cmd said lines about) put risen
+
+-- ---- `check`
+
+  check_came : (said : Status) (lines : List ℕ) (about : About) → check.Comes cmd said lines about → Put cmd (report lines about said) → CommandSaid cmd said
+  check_came Quiet lines about comes put = absurd comes
+  check_came Done lines about comes put = record { caused = tt; alone = λ b. comes.1.only_report; plain = λ t. tt }
+  check_came (Usage cause) lines about comes put = absurd comes
+  check_came (ReadFault (File file)) lines about comes put = record { caused = comes.0.counted; alone = λ b. comes.1.only_report; plain = λ t. tt }
+  check_came (ReadFault (Feed feed)) lines about comes put = absurd comes
+  check_came (WriteFault channel) lines about comes put = absurd comes
+  check_came (Refused r) lines about comes put = record { caused = tt; alone = λ b. comes.1.only_report; plain = λ t. tt }
+  check_came (Trapped inst action trap) lines about comes put = absurd comes
+  check_came (Stalled inst action link) lines about comes put = absurd comes
+  check_came (Budget firings) lines about comes put = absurd comes
+  check_came OutOfMemory lines about comes put = record { caused = tt; alone = λ b. comes.only_report; plain = put }
+  check_came (NotRun number why) lines about comes put = absurd comes
+  check_came (Uncertified inst state first second reason) lines about comes put = absurd comes
+
+  pub check_said : (answer : Status) → IsAnswered check.Comes cmd answer → CommandSaid cmd answer
+  check_said = said_of check.Comes cmd check_came
+
+  pub check_no_usage : (answer : Status) → IsAnswered check.Comes cmd answer → IsNoUsage answer
+  check_no_usage = no_usage_of check.Comes cmd (λ cause lines about comes. comes)
+
+-- ---- `certify`
+
+  certify_came : (said : Status) (lines : List ℕ) (about : About) → certify.Comes cmd said lines about → Put cmd (report lines about said) → CommandSaid cmd said
+  certify_came Quiet lines about comes put = absurd comes
+  certify_came Done lines about comes put = record { caused = tt; alone = λ b. comes.1.only_report; plain = λ t. tt }
+  certify_came (Usage cause) lines about comes put = absurd comes
+  certify_came (ReadFault (File file)) lines about comes put = record { caused = comes.0.counted; alone = λ b. comes.1.only_report; plain = λ t. tt }
+  certify_came (ReadFault (Feed feed)) lines about comes put = absurd comes
+  certify_came (WriteFault channel) lines about comes put = absurd comes
+  certify_came (Refused r) lines about comes put = record { caused = tt; alone = λ b. comes.1.only_report; plain = λ t. tt }
+  certify_came (Trapped inst action trap) lines about comes put = absurd comes
+  certify_came (Stalled inst action link) lines about comes put = absurd comes
+  certify_came (Budget firings) lines about comes put = absurd comes
+  certify_came OutOfMemory lines about comes put = record { caused = tt; alone = λ b. comes.only_report; plain = put }
+  certify_came (NotRun number why) lines about comes put = absurd comes
+  certify_came (Uncertified inst state first second reason) lines about comes put = record { caused = tt; alone = λ b. comes.1.only_report; plain = λ t. tt }
+
+  pub certify_said : (answer : Status) → IsAnswered certify.Comes cmd answer → CommandSaid cmd answer
+  certify_said = said_of certify.Comes cmd certify_came
+
+  pub certify_no_usage : (answer : Status) → IsAnswered certify.Comes cmd answer → IsNoUsage answer
+  certify_no_usage = no_usage_of certify.Comes cmd (λ cause lines about comes. comes)

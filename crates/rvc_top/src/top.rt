@@ -5,22 +5,24 @@ ghost use Rattle.rvc_base.specs.declared.refusal.Refusal.{Refusal as Denial};
 ghost use Rattle.rvc_io.specs.Channels.{WriteFails, WritesOnly};
 ghost use Rattle.rvc_io.specs.Count.{HasRisen};
 ghost use Rattle.rvc_io.specs.Elsewhere.{SameElsewhere};
-ghost use Rattle.rvc_words.specs.Words.{JobText, job, job_text, texts};
+ghost use Rattle.rvc_words.specs.Words.{JobText, job, texts};
 ghost use Rattle.rvc_words.specs.declared.fault.UsageCause.{UsageCause};
-ghost use Rattle.rvc_words.specs.declared.job.Job.{Job as Read};
 ghost use Rattle.rvc_words.specs.declared.job.Verb.TheVariants as verb;
 ghost use Rattle.actor_files.specs.Loading.{Counts, TellsAll};
 ghost use Rattle.cal_ast.specs.Tree.{Tree};
 ghost use Rattle.cal_model.specs.Selection.{State};
 ghost use Rattle.net_model.specs.Network.{Network};
-ghost use Rattle.conforming_jobs.specs.Conforming.{Conforms};
+ghost use Rattle.conforming_jobs.specs.Conforming.{Conforms, ConformsWith, no_ports};
 ghost use Rattle.rvc_engine.specs.Top.{top_asked};
-ghost use Rattle.check_job.specs.Commands.{RefusesJob};
-ghost use Rattle.check_job.specs.Ends.{IsDoneOrOutside};
+ghost use Rattle.network_commands.specs.Answers.{OnRefusal};
+ghost use Rattle.network_commands.specs.Commands.{RefusesJob, met_by};
+ghost use Rattle.certify_job.specs.Ends.{Comes as CertifyComes, IsDecided, IsUndecided};
+ghost use Rattle.check_job.specs.Ends.{Comes as CheckComes, IsDoneOrOutside};
+ghost use Rattle.determinate_jobs.specs.QuietRuns.{ComesDeterminate};
 ghost use Rattle.format_job.specs.Formatting.{HasFile, IsDoneOrMemory, IsPrinting, IsUnprinted, PrintsFile};
 ghost use Rattle.format_job.specs.Reports.{ReportIs, about_file};
-ghost use Rattle.run_job.specs.Ends.{IsUnbuilt, OnRefusal};
-ghost use Rattle.rvc_top.specs.Jobs.{IsAnsweredAlone, IsChecked, IsRun, OfJob, is_built, not_built_here};
+ghost use Rattle.run_job.specs.Ends.{Comes as RunComes, IsUnbuilt};
+ghost use Rattle.rvc_top.specs.Jobs.{IsAnsweredAlone, IsDoneBy, OfJob, is_built, not_built_here};
 ghost use Rattle.rvc_top.specs.Status.{IsBeforeAll, IsCaused, IsOfJob, PlainReportIs};
 
 use crate::reporting::report;
@@ -31,19 +33,24 @@ use rvc_words::{WordFault, read_words};
 use std::alloc::Global;
 use std::thread::Threads;
 
-/// Does what the words ask for, the program's name first: `run`, `check` and `fmt` are built. `rt` is for the threads of
-/// more workers than one, and `gate` is told when a worker starts.
+/// Does what the words ask for, the program's name first: `run`, `check`, `certify` and `fmt` are built. `rt` is for the
+/// threads of more workers than one, and `gate` is told when a worker starts.
 ///
 /// **If the answer of `run` is `Quiet`, `Trapped`, `Stalled` or `Budget`, there is a network that the files of the library
 /// mean. The trace is the text of a run of it over the bytes of the feeds, the channels of its outputs have the bytes of
-/// that run, the status names how it ended, and the report counts it** (`run`, which says
-/// [`IsAnswered`](run_job::run_job) of the job that the words are: `Ran` for these four answers, and a case for each other
-/// one). If the library tells of each name, and the files and the words conform, nothing is refused but what isn't built yet
-/// (`run_complete`).
+/// that run, the status names how it ended, and the report counts it** (`run`, which says of the job that the words are to
+/// what [`run_job`](run_job::run_job) comes: `Ran` for these four answers, and a case for each other one). **If every actor
+/// is certified, which the report's count shows, the outputs of every quiet run over these inputs are those bytes, or
+/// continue them if this run ended otherwise** (`determinate`: `TellsQuietRuns` of [`determinate_jobs`]). If the library
+/// tells of each name, and the files and the words conform, nothing is refused but what isn't built yet (`run_complete`).
 ///
-/// - `check`: the job was checked as [`check_job`](check_job::check_job) says: `Done` if files and words conform. Nothing is
-///   opened. What conforms is `Done`, unless memory runs out or reading or writing fails (`check_complete`); what is refused
-///   never is (`check_incomplete`).
+/// - `check`: the job was checked as [`check_job`](check_job::check_job) says: `Done` if the files conform and there is no
+///   port word. Nothing is opened. What conforms is `Done`, unless memory runs out or reading or writing fails
+///   (`check_complete`); what is refused never is (`check_incomplete`).
+/// - `certify`: the actors of the job were judged as [`certify_job`](certify_job::certify_job) says: `Done` if the files
+///   conform, there is no port word, and each actor is certified, and `Uncertified` at the lowest one that isn't. Nothing is
+///   opened. What conforms is decided so, unless memory runs out or reading or writing fails (`certify_complete`); what is
+///   refused never is (`certify_incomplete`).
 /// - `formatted`: `fmt` is `Done` only if the file's text spells a tree and no words name ports, and channel 0 got the
 ///   canonical text of that tree alone. A file that is told to hold such a text is `Done`, unless memory runs out, a read
 ///   failed or the text couldn't be written (`complete`). The other answers of `fmt` are its report; nothing is opened, and
@@ -58,7 +65,7 @@ use std::thread::Threads;
 ///
 /// - `Usage` if the words are no job, with the first cause (`usage`). Words that are no job are answered so, unless memory
 ///   runs out or the report couldn't be put (`no_job`).
-/// - `Refused` if a rule is broken, at its place, by what `run`, `check` and `format_refused` say. `certify`, `replay` and
+/// - `Refused` if a rule is broken, at its place, by what `run`, `check`, `certify` and `format_refused` say. `replay` and
 ///   `gen` aren't built, and answered so, unless memory runs out or the report couldn't be put (`not_built`).
 /// - `ReadFault` if a file or a feed couldn't be read, and `WriteFault` if a channel couldn't be written: the count of faults
 ///   of what it names rose in this call (`faults`).
@@ -79,15 +86,11 @@ pub fn rvc<R: Threads + Sync, L: Library, F: Feeds, D: Drains, G: Gate>(
 
     // `run`.
     ensures run { (j : JobText) → job (texts words.now) ≡ Ok j → j.verb ≡ verb.Run
-        → IsRun j (record {
-          library = L.file library.old;
-          misses = record { old = L.misses library.old; new = L.misses library.new };
-          faults = record { old = L.faults library.old; new = L.faults library.new };
-          feeds = F.feeds feeds.old;
-          feeds_after = F.feeds feeds.new;
-          channels = D.channels drains.old;
-          channels_after = D.channels drains.new;
-        }) result }
+        → IsDoneBy RunComes j (met_by L.file L.misses L.faults F.feeds D.channels
+        library.old library.new feeds.old feeds.new drains.old drains.new) result }
+    ensures determinate { (j : JobText) → job (texts words.now) ≡ Ok j → j.verb ≡ verb.Run
+        → IsDoneBy ComesDeterminate j (met_by L.file L.misses L.faults F.feeds D.channels
+        library.old library.new feeds.old feeds.new drains.old drains.new) result }
     ensures run_complete { (j : JobText) (net : Network State) → job (texts words.now) ≡ Ok j
         → j.verb ≡ verb.Run → TellsAll (L.file library.old)
         → Conforms (L.file library.old) (top_asked j.top) j.ports net
@@ -95,23 +98,31 @@ pub fn rvc<R: Threads + Sync, L: Library, F: Feeds, D: Drains, G: Gate>(
 
     // `check`.
     ensures check { (j : JobText) → job (texts words.now) ≡ Ok j → j.verb ≡ verb.Check
-        → IsChecked j (record {
-          library = L.file library.old;
-          misses = record { old = L.misses library.old; new = L.misses library.new };
-          faults = record { old = L.faults library.old; new = L.faults library.new };
-          feeds = F.feeds feeds.old;
-          feeds_after = F.feeds feeds.new;
-          channels = D.channels drains.old;
-          channels_after = D.channels drains.new;
-        }) result }
+        → IsDoneBy CheckComes j (met_by L.file L.misses L.faults F.feeds D.channels
+        library.old library.new feeds.old feeds.new drains.old drains.new) result }
     ensures check_complete { (j : JobText) (net : Network State) → job (texts words.now) ≡ Ok j
         → j.verb ≡ verb.Check → TellsAll (L.file library.old)
-        → Conforms (L.file library.old) (top_asked j.top) j.ports net
+        → ConformsWith no_ports (L.file library.old) (top_asked j.top) j.ports net
         → IsDoneOrOutside (D.channels drains.old) (D.channels drains.new) net result }
-    ensures check_incomplete { (read : Read) (misses : Counts) (names : List (List ℕ))
-        (refusal : Denial) → job (texts words.now) ≡ Ok (job_text read) → read.verb ≡ verb.Check
+    ensures check_incomplete { (j : JobText) (misses : Counts) (names : List (List ℕ))
+        (refusal : Denial) → job (texts words.now) ≡ Ok j → j.verb ≡ verb.Check
         → TellsAll (L.file library.old)
-        → RefusesJob (L.file library.old) read misses names refusal → result ≢ Status.Done }
+        → RefusesJob no_ports (L.file library.old) (top_asked j.top) j.ports misses names refusal
+        → result ≢ Status.Done }
+
+    // `certify`.
+    ensures certify { (j : JobText) → job (texts words.now) ≡ Ok j → j.verb ≡ verb.Certify
+        → IsDoneBy CertifyComes j (met_by L.file L.misses L.faults F.feeds D.channels
+        library.old library.new feeds.old feeds.new drains.old drains.new) result }
+    ensures certify_complete { (j : JobText) (net : Network State) → job (texts words.now) ≡ Ok j
+        → j.verb ≡ verb.Certify → TellsAll (L.file library.old)
+        → (conforms : ConformsWith no_ports (L.file library.old) (top_asked j.top) j.ports net)
+        → IsDecided conforms.means.means.actors result }
+    ensures certify_incomplete { (j : JobText) (misses : Counts) (names : List (List ℕ))
+        (refusal : Denial) → job (texts words.now) ≡ Ok j → j.verb ≡ verb.Certify
+        → TellsAll (L.file library.old)
+        → RefusesJob no_ports (L.file library.old) (top_asked j.top) j.ports misses names refusal
+        → IsUndecided result }
 
     // `fmt`.
     ensures formatted { (j : JobText) → job (texts words.now) ≡ Ok j → j.verb ≡ verb.Fmt
@@ -138,27 +149,13 @@ pub fn rvc<R: Threads + Sync, L: Library, F: Feeds, D: Drains, G: Gate>(
 
     // Other words.
     ensures not_built { (j : JobText) → job (texts words.now) ≡ Ok j → is_built j.verb ≡ false
-        → IsAnsweredAlone (record {
-          library = L.file library.old;
-          misses = record { old = L.misses library.old; new = L.misses library.new };
-          faults = record { old = L.faults library.old; new = L.faults library.new };
-          feeds = F.feeds feeds.old;
-          feeds_after = F.feeds feeds.new;
-          channels = D.channels drains.old;
-          channels_after = D.channels drains.new;
-        }) (Status.Refused not_built_here) result }
+        → IsAnsweredAlone (met_by L.file L.misses L.faults F.feeds D.channels
+        library.old library.new feeds.old feeds.new drains.old drains.new) (Status.Refused not_built_here) result }
     ensures usage { (cause : UsageCause) → result ≡ Status.Usage cause
         → job (texts words.now) ≡ Err cause }
     ensures no_job { (cause : UsageCause) → job (texts words.now) ≡ Err cause
-        → IsAnsweredAlone (record {
-          library = L.file library.old;
-          misses = record { old = L.misses library.old; new = L.misses library.new };
-          faults = record { old = L.faults library.old; new = L.faults library.new };
-          feeds = F.feeds feeds.old;
-          feeds_after = F.feeds feeds.new;
-          channels = D.channels drains.old;
-          channels_after = D.channels drains.new;
-        }) (Status.Usage cause) result }
+        → IsAnsweredAlone (met_by L.file L.misses L.faults F.feeds D.channels
+        library.old library.new feeds.old feeds.new drains.old drains.new) (Status.Usage cause) result }
     ensures planned { IsOfJob result → IsOk (job (texts words.now)) }
 
     // Whatever the words are.

@@ -9,18 +9,23 @@ ghost use Rattle.actor_files.specs.Loading.{Counts, TellsAll};
 ghost use Rattle.cal_ast.specs.Tree.{Tree};
 ghost use Rattle.cal_model.specs.Selection.{State};
 ghost use Rattle.net_model.specs.Network.{Network};
-ghost use Rattle.conforming_jobs.specs.Conforming.{Conforms};
+ghost use Rattle.conforming_jobs.specs.Conforming.{Conforms, ConformsWith, no_ports};
 ghost use Rattle.rvc_engine.specs.Top.{top_asked};
-ghost use Rattle.check_job.specs.Commands.{RefusesJob};
-ghost use Rattle.check_job.specs.Ends.{IsDoneOrOutside};
+ghost use Rattle.network_commands.specs.Answers.{IsAnswered, OnRefusal};
+ghost use Rattle.network_commands.specs.Commands.{RefusesJob, command, met_by};
+ghost use Rattle.certify_job.specs.Ends.{Comes as CertifyComes, IsDecided, IsUndecided};
+ghost use Rattle.check_job.specs.Ends.{Comes as CheckComes, IsDoneOrOutside};
+ghost use Rattle.determinate_jobs.specs.QuietRuns.{ComesDeterminate};
 ghost use Rattle.format_job.specs.Formatting.{HasFile, IsDoneOrMemory, IsPrinting, IsUnprinted, PrintsFile};
 ghost use Rattle.format_job.specs.Reports.{ReportIs, about_file};
-ghost use Rattle.run_job.specs.Ends.{IsAnswered, IsUnbuilt, OnRefusal};
-ghost use Rattle.rvc_top.specs.Jobs.{IsToldAlone, WasChecked, is_built, not_built_here, run_command};
+ghost use Rattle.run_job.specs.Ends.{Comes as RunComes, IsUnbuilt};
+ghost use Rattle.rvc_top.specs.Jobs.{IsToldAlone, is_built, not_built_here};
 ghost use Rattle.rvc_top.specs.Steps.{IsNoUsage, IsSaid};
 
 use crate::reporting::report;
+use certify_job::certify_job;
 use check_job::check_job;
+use determinate_jobs::runs_tell_quiet_runs;
 use format_job::format_job;
 use run_job::run_job;
 use run_report::Status;
@@ -51,39 +56,49 @@ pub(crate) fn do_job<R: Threads + Sync, L: Library, F: Feeds, D: Drains, G: Gate
     requires channels_closed { (n : ℕ) → n ≢ 0 → (D.channels drains.old).is_open n ≡ false }
     requires report_open { (D.channels drains.old).is_open 0 ≡ true }
 
-    ensures run { job.now.verb ≡ Verb.Run → IsAnswered (run_command (record {
-      library = L.file library.old;
-      misses = record { old = L.misses library.old; new = L.misses library.new };
-      faults = record { old = L.faults library.old; new = L.faults library.new };
-      feeds = F.feeds feeds.old;
-      feeds_after = F.feeds feeds.new;
-      channels = D.channels drains.old;
-      channels_after = D.channels drains.new;
-    }) job.now) result }
+    ensures run { job.now.verb ≡ Verb.Run → IsAnswered RunComes (command
+        (met_by L.file L.misses L.faults F.feeds D.channels library.old library.new
+        feeds.old feeds.new drains.old drains.new) job.now)
+        result }
+    ensures determinate { job.now.verb ≡ Verb.Run → IsAnswered ComesDeterminate (command
+        (met_by L.file L.misses L.faults F.feeds D.channels library.old library.new
+        feeds.old feeds.new drains.old drains.new) job.now)
+        result }
     ensures run_complete { (net : Network State) → job.now.verb ≡ Verb.Run
         → TellsAll (L.file library.old)
         → Conforms (L.file library.old) (top_asked (string_bytes job.now.top))
         (map port_text job.now.ports.items) net
         → OnRefusal result (IsUnbuilt (L.file library.old) job.now) }
 
-    ensures check { job.now.verb ≡ Verb.Check → WasChecked (record {
-      library = L.file library.old;
-      misses = record { old = L.misses library.old; new = L.misses library.new };
-      faults = record { old = L.faults library.old; new = L.faults library.new };
-      feeds = F.feeds feeds.old;
-      feeds_after = F.feeds feeds.new;
-      channels = D.channels drains.old;
-      channels_after = D.channels drains.new;
-    }) result job.now }
+    ensures check { job.now.verb ≡ Verb.Check → IsAnswered CheckComes (command
+        (met_by L.file L.misses L.faults F.feeds D.channels library.old library.new
+        feeds.old feeds.new drains.old drains.new) job.now)
+        result }
     ensures check_complete { (net : Network State) → job.now.verb ≡ Verb.Check
         → TellsAll (L.file library.old)
-        → Conforms (L.file library.old) (top_asked (string_bytes job.now.top))
+        → ConformsWith no_ports (L.file library.old) (top_asked (string_bytes job.now.top))
         (map port_text job.now.ports.items) net
         → IsDoneOrOutside (D.channels drains.old) (D.channels drains.new) net result }
     ensures check_incomplete { (misses : Counts) (names : List (List ℕ)) (refusal : Denial)
         → job.now.verb ≡ Verb.Check → TellsAll (L.file library.old)
-        → RefusesJob (L.file library.old) job.now misses names refusal
+        → RefusesJob no_ports (L.file library.old) (top_asked (string_bytes job.now.top))
+        (map port_text job.now.ports.items) misses names refusal
         → result ≢ Status.Done }
+
+    ensures certify { job.now.verb ≡ Verb.Certify → IsAnswered CertifyComes (command
+        (met_by L.file L.misses L.faults F.feeds D.channels library.old library.new
+        feeds.old feeds.new drains.old drains.new) job.now)
+        result }
+    ensures certify_complete { (net : Network State) → job.now.verb ≡ Verb.Certify
+        → TellsAll (L.file library.old)
+        → (conforms : ConformsWith no_ports (L.file library.old)
+        (top_asked (string_bytes job.now.top)) (map port_text job.now.ports.items) net)
+        → IsDecided conforms.means.means.actors result }
+    ensures certify_incomplete { (misses : Counts) (names : List (List ℕ)) (refusal : Denial)
+        → job.now.verb ≡ Verb.Certify → TellsAll (L.file library.old)
+        → RefusesJob no_ports (L.file library.old) (top_asked (string_bytes job.now.top))
+        (map port_text job.now.ports.items) misses names refusal
+        → IsUndecided result }
 
     ensures formatted { job.now.verb ≡ Verb.Fmt → result ≡ Status.Done
         → PrintsFile (L.file library.old (string_bytes job.now.top))
@@ -107,24 +122,22 @@ pub(crate) fn do_job<R: Threads + Sync, L: Library, F: Feeds, D: Drains, G: Gate
     ensures format_alone { job.now.verb ≡ Verb.Fmt → WritesOnly D.channels drains.old drains.new 0 }
     ensures format_opens_no_feed { job.now.verb ≡ Verb.Fmt → feeds.new ≡ feeds.old }
 
-    ensures not_built { is_built job.now.verb ≡ false → IsToldAlone (record {
-      library = L.file library.old;
-      misses = record { old = L.misses library.old; new = L.misses library.new };
-      faults = record { old = L.faults library.old; new = L.faults library.new };
-      feeds = F.feeds feeds.old;
-      feeds_after = F.feeds feeds.new;
-      channels = D.channels drains.old;
-      channels_after = D.channels drains.new;
-    }) (Status.Refused not_built_here) result }
+    ensures not_built { is_built job.now.verb ≡ false → IsToldAlone
+        (met_by L.file L.misses L.faults F.feeds D.channels library.old library.new
+        feeds.old feeds.new drains.old drains.new) (Status.Refused not_built_here) result }
 
     ensures said { IsSaid (L.faults library.old) (L.faults library.new) (F.feeds feeds.old).faults
         (F.feeds feeds.new).faults (D.channels drains.old) (D.channels drains.new) result }
     ensures no_usage { IsNoUsage result }
 {
     match job.verb {
-        Verb::Run => run_job(rt, alloc, job, library, feeds, drains, gate),
+        Verb::Run => {
+            runs_tell_quiet_runs();
+            run_job(rt, alloc, job, library, feeds, drains, gate)
+        }
         Verb::Check => check_job(alloc, job, library, drains),
+        Verb::Certify => certify_job(alloc, job, library, drains),
         Verb::Fmt => format_job(alloc, job, library, drains),
-        Verb::Certify | Verb::Replay | Verb::Gen => report(Status::Refused(NOT_BUILT), drains),
+        Verb::Replay | Verb::Gen => report(Status::Refused(NOT_BUILT), drains),
     }
 }

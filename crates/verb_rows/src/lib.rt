@@ -1,5 +1,7 @@
-//! Rows of the verb `run`, from words and files as text to status, report, trace and outputs.
+//! Rows of the verbs `run` and `gen`, from words and files as text to status, report, trace and outputs.
 #![tactic(auto)]
 
+#[cfg(test)]
+mod generated;
 #[cfg(test)]
 mod rows;

@@ -1,29 +1,31 @@
-use Rattle.std.proofs.Common.{rules, ◌≡◌}
+use Rattle.std.proofs.Common.{rules, [], map, refl}
 use Rattle.actor_files.specs.Views.{file_names}
 use Rattle.port_words.specs.Matching.{AreMatched, IsWrongWord}
 use Rattle.run_report.specs.Report.{certified_line}
 use Rattle.run_report.specs.declared.status.Status.TheVariants as status
-use Rattle.check_job.specs.Commands.{about_files}
-use Rattle.certify_job.proofs.Ending.{comes, ended, moved, wrong}
+use Rattle.rvc_words.specs.Words.{port_text}
+use Rattle.network_commands.specs.Steps.{about_words}
+use Rattle.network_commands.proofs.Putting.{line_answered, put_answered}
+use Rattle.certify_job.specs.Ends.{Comes}
+use Rattle.certify_job.proofs.Ending.{comes, wrong}
 use Rattle.certify_job.proofs.certifying.end_of.Goals as goal
 
 pub returns-in-Ok-judge_leaves : goal.returns-in-Ok-judge_leaves
-returns-in-Ok-judge_leaves g c = λ library misses faults is.
-    let ins : c.as_slice-ins.result.now ≡ c.args.checked.now.flat.ins.items = search rules in
-    let outs : c.as_slice-outs.result.now ≡ c.args.checked.now.flat.outs.items = search rules in
-    let words : c.as_slice.result.now ≡ c.args.job.now.ports.items = search rules in
-    ended _ c.in-Ok-judge_leaves.verdict.said c.report_certified-in-Ok-judge_leaves.result (certified_line c.in-Ok-judge_leaves.verdict.certified) (about_files c.args.job.now (file_names c.args.names.now))
-    (comes c.sound_actors_have_priorities.ensures c.no_failure_where_certified.ensures _ (file_names c.args.names.now) c.args.checked.now
-    c.in-Ok-judge_leaves.verdict (about_files c.args.job.now (file_names c.args.names.now))
-    (moved AreMatched c.as_slice-ins.result.now _ c.as_slice-outs.result.now _ c.as_slice.result.now _ ins outs words c.in-Ok.ensures.matched) is c.in-Ok-judge_leaves.ensures)
-    c.report_certified-in-Ok-judge_leaves.ensures
+returns-in-Ok-judge_leaves g c = λ library misses faults feeds is.
+    let none : AreMatched [] (map port_text c.args.job.now.ports.items) = search rules in
+    put_answered Comes _ c.in-Ok-judge_leaves.verdict.said c.report_certified.result (certified_line c.in-Ok-judge_leaves.verdict.certified) (about_words c.args.names.now c.args.job.now)
+    (λ only. comes c.sound_actors_have_priorities.ensures c.no_failure_where_certified.ensures _ (file_names c.args.names.now) c.args.checked.now
+    c.in-Ok-judge_leaves.verdict (about_words c.args.names.now c.args.job.now) none is c.in-Ok-judge_leaves.ensures (record { same_feeds = refl; only_report = only }))
+    c.report_certified.ensures
+
+pub returns-in-Ok-judge_leaves-in-Err : goal.returns-in-Err-judge_leaves
+returns-in-Ok-judge_leaves-in-Err g c = λ library misses faults feeds is.
+    line_answered Comes _ status.OutOfMemory c.report_unbuilt.result [] (about_words c.args.names.now c.args.job.now) refl
+    (λ only. record { same_feeds = refl; only_report = only }) c.report_unbuilt.ensures
 
 pub returns-in-Err : goal.returns-in-Err
-returns-in-Err g c = λ library misses faults is.
-    let ins : c.as_slice-ins.result.now ≡ c.args.checked.now.flat.ins.items = search rules in
-    let outs : c.as_slice-outs.result.now ≡ c.args.checked.now.flat.outs.items = search rules in
-    let words : c.as_slice.result.now ≡ c.args.job.now.ports.items = search rules in
-    ended _ (status.Refused c.in-Err.refusal) c.report_certified-in-Err.result (certified_line 0) (about_files c.args.job.now (file_names c.args.names.now))
-    (wrong _ (file_names c.args.names.now) c.args.checked.now c.in-Err.refusal (certified_line 0)
-    (moved (λ ports words. IsWrongWord ports words c.in-Err.refusal) c.as_slice-ins.result.now _ c.as_slice-outs.result.now _ c.as_slice.result.now _ ins outs words c.in-Err.ensures.wrong) is)
-    c.report_certified-in-Err.ensures
+returns-in-Err g c = λ library misses faults feeds is.
+    let is_wrong : IsWrongWord [] (map port_text c.args.job.now.ports.items) c.in-Err.refusal = search rules in
+    line_answered Comes _ (status.Refused c.in-Err.refusal) c.report_unbuilt-in-Err.result [] (about_words c.args.names.now c.args.job.now) refl
+    (λ only. wrong _ (file_names c.args.names.now) c.args.checked.now c.in-Err.refusal [] is_wrong is (record { same_feeds = refl; only_report = only }))
+    c.report_unbuilt-in-Err.ensures

@@ -1,6 +1,7 @@
 use Rattle.std.proofs.Common.{◌≡◌, ◌+◌, ◌≤◌, ◌<◌, length}
 use Rattle.std.specs.Prelude.{All}
-use Rattle.certify_job.specs.Steps.{count_none, said_at}
+use Rattle.network_commands.specs.Commands.{count_none}
+use Rattle.certify_job.specs.Steps.{said_at}
 use Rattle.certify_job.proofs.judging.count_certified.Given as goal
 
 abbrev pub invariant-places : goal.invariant-places

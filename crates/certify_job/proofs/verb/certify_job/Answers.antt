@@ -1,16 +1,13 @@
 use Rattle.certify_job.proofs.Answering as says
 use Rattle.certify_job.proofs.verb.certify_job.Goals as goal
 
-pub returns-clause-answered : goal.returns-clause-answered
-returns-clause-answered g c = says.answered _ c.certify_files.result c.certify_files.ensures.ended
-
 pub returns-clause-complete : goal.returns-clause-complete
-returns-clause-complete g c = says.complete _ c.certify_files.result c.certify_files.ensures.ended
-    c.networks_are_not_refused.ensures.library c.one_library_network.ensures.network c.one_library_network.ensures.files c.one_network.ensures.actor
+returns-clause-complete g c = says.complete _ c.certify_files.result (c.certify_files.ensures.answered _)
+    c.conforming_jobs_are_not_refused.ensures c.one_library_network.ensures.files c.one_network.ensures.actor
 
 pub returns-clause-incomplete : goal.returns-clause-incomplete
-returns-clause-incomplete g c = says.incomplete _ c.certify_files.result c.certify_files.ensures.ended
-    c.networks_are_not_refused.ensures.library c.one_library_network.ensures.network
+returns-clause-incomplete g c = says.incomplete _ c.certify_files.result (c.certify_files.ensures.answered _)
+    c.conforming_jobs_are_not_refused.ensures
 
 pub returns-clause-only_report : goal.returns-clause-only_report
-returns-clause-only_report g c = says.only_report _ c.certify_files.result c.certify_files.ensures.ended
+returns-clause-only_report g c = says.only_report _ c.certify_files.result (c.certify_files.ensures.answered _)

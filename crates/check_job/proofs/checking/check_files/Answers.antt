@@ -1,19 +1,17 @@
-use Rattle.std.proofs.Common.{rules, [], subst}
+use Rattle.std.proofs.Common.{[], refl, subst}
 use Rattle.actor_files.specs.Views.{file_names}
-use Rattle.run_report.specs.Report.{last_line}
 use Rattle.rvc_engine.specs.Refused.{IsFault}
 use Rattle.rvc_engine.specs.Top.{top_asked}
-use Rattle.check_job.specs.Commands.{about_files, top_of}
-use Rattle.check_job.specs.Steps.{IsPut, status_of}
-use Rattle.check_job.proofs.Ending.{ended, failed}
-use Rattle.check_job.proofs.Putting.{line_alone}
+use Rattle.network_commands.specs.Steps.{about_words, status_of_build}
+use Rattle.network_commands.proofs.Putting.{last_alone, line_answered}
+use Rattle.std.specs.Prelude.{string_bytes}
+use Rattle.check_job.specs.Ends.{Comes}
+use Rattle.check_job.proofs.Ending.{failed}
 use Rattle.check_job.proofs.checking.check_files.Goals as goal
 
-pub returns-clause-ended : goal.returns-clause-ended
-returns-clause-ended g c =
-    let put : IsPut (status_of c.in-Err.fault) (last_line (about_files c.args.job.now (file_names c.check_network.new.names)) (status_of c.in-Err.fault))
-    (g.D.Drains.channels c.args.drains.now) (g.D.Drains.channels c.report_unchecked.new.drains) c.report_unchecked.result = search rules in
-    let fault : IsFault (g.L.Library.file c.args.library.now) (top_of c.args.job.now)
+pub returns-clause-answered : goal.returns-clause-answered
+returns-clause-answered g c = λ feeds.
+    let why : IsFault (g.L.Library.file c.args.library.now) (top_asked (string_bytes c.args.job.now.top))
     (record { old = g.L.Library.misses c.args.library.now; new = g.L.Library.misses c.check_network.new.library })
     (record { old = g.L.Library.faults c.args.library.now; new = g.L.Library.faults c.check_network.new.library })
     (file_names c.check_network.new.names) c.in-Err.fault =
@@ -22,7 +20,7 @@ returns-clause-ended g c =
     (record { old = g.L.Library.faults c.args.library.now; new = g.L.Library.faults c.check_network.new.library })
     (file_names c.check_network.new.names) c.in-Err.fault)
     c.as_str.ensures.value c.in-Err.ensures.fault in
-    ended _ (status_of c.in-Err.fault) c.report_unchecked.result [] (about_files c.args.job.now (file_names c.check_network.new.names))
-    (failed _ (file_names c.check_network.new.names) c.in-Err.fault [] fault)
-    (subst (λ text. IsPut (status_of c.in-Err.fault) text (g.D.Drains.channels c.args.drains.now) (g.D.Drains.channels c.report_unchecked.new.drains) c.report_unchecked.result)
-    (line_alone [] (about_files c.args.job.now (file_names c.check_network.new.names)) c.in-Err.fault) put)
+    line_answered Comes _ (status_of_build c.in-Err.fault) c.report_unbuilt.result [] (about_words c.check_network.new.names c.args.job.now)
+    (last_alone [] (about_words c.check_network.new.names c.args.job.now) c.in-Err.fault)
+    (λ only. failed _ (file_names c.check_network.new.names) c.in-Err.fault [] why (record { same_feeds = refl; only_report = only }))
+    c.report_unbuilt.ensures

@@ -1,16 +1,13 @@
 use Rattle.check_job.proofs.Answering as says
 use Rattle.check_job.proofs.verb.check_job.Goals as goal
 
-pub returns-clause-answered : goal.returns-clause-answered
-returns-clause-answered g c = says.answered _ c.check_files.result c.check_files.ensures.ended
-
 pub returns-clause-complete : goal.returns-clause-complete
-returns-clause-complete g c = says.complete _ c.check_files.result c.check_files.ensures.ended
-    c.networks_are_not_refused.ensures.library c.one_library_network.ensures.network c.one_network_conforms.ensures
+returns-clause-complete g c = says.complete _ c.check_files.result (c.check_files.ensures.answered _)
+    c.conforming_jobs_are_not_refused.ensures c.one_network_conforms.ensures
 
 pub returns-clause-incomplete : goal.returns-clause-incomplete
-returns-clause-incomplete g c = says.incomplete _ c.check_files.result c.check_files.ensures.ended
-    c.networks_are_not_refused.ensures.library c.one_library_network.ensures.network
+returns-clause-incomplete g c = says.incomplete _ c.check_files.result (c.check_files.ensures.answered _)
+    c.conforming_jobs_are_not_refused.ensures
 
 pub returns-clause-only_report : goal.returns-clause-only_report
-returns-clause-only_report g c = says.only_report _ c.check_files.result c.check_files.ensures.ended
+returns-clause-only_report g c = says.only_report _ c.check_files.result (c.check_files.ensures.answered _)

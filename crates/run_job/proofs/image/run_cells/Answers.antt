@@ -34,7 +34,7 @@ returns g c =
       leaves = λ actors net inputs has is given. source_leaves image actors net has is job c.requires.within cells are
           (g.F.Feeds.feeds c.args.feeds.now) (g.D.Drains.channels c.run_network.new.drains) c.run_network.result inputs c.run_network.ensures.leaves given;
       within = c.run_network.ensures.within;
-      matched = c.run_network.ensures.matched;
+      permitted = c.run_network.ensures.permitted;
       refused = c.run_network.ensures.refused;
       unstarted = when_unstarted g.F.Feeds.feeds g.D.Drains.channels c.args.feeds.now c.run_network.new.feeds c.args.drains.now c.run_network.new.drains c.run_network.result c.run_network.ensures.unstarted;
       unread = when_unread g.D.Drains.channels c.args.drains.now c.run_network.new.drains c.run_network.result

@@ -1,0 +1,6 @@
+mod Numbers
+mod Numerals
+mod Words
+mod Answering
+mod Deciding
+mod Made
