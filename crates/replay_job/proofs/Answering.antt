@@ -1,13 +1,12 @@
 -- To what a command comes, by what the replay over its image comes to.
-use Rattle.std.proofs.Common.{◌≡◌, ◌⊎◌, inl, inr, ⊎_elim, ℕ, List, [], ◌++◌, length, map, refl, sym, ap, subst, ◌∙◌}
-use Rattle.std.specs.Prelude.{Some, string_bytes}
+use Rattle.std.proofs.Common.{◌≡◌, inl, inr, ⊎_elim, ℕ, List, [], length, refl, sym, ap, subst, ◌∙◌}
+use Rattle.std.specs.Prelude.{string_bytes}
 use Rattle.std.specs.Arc.{arc_value}
 use Rattle.std.specs.declared.result.Result.{Result}
 use Rattle.std.specs.declared.result.Result.TheVariants.{Ok, Err}
 use Rattle.std.proofs.lemmas.List.{length-map}
 use Rattle.rvc_base.specs.declared.refusal.Refusal.{Refusal}
 use Rattle.rvc_io.specs.Channels.{WritesOnlyAt}
-use Rattle.rvc_io.specs.Feeds.{Inputs}
 use Rattle.cal_model.specs.Actor.{Actor}
 use Rattle.cal_model.specs.Selection.{State as ActorState}
 use Rattle.net_model.specs.declared.wiring.Link.{Link}
@@ -34,19 +33,19 @@ use Rattle.rvc_engine.specs.declared.fault.BuildFault.{BuildFault}
 use Rattle.rvc_engine.specs.declared.fault.BuildFault.TheVariants as build
 use Rattle.rvc_engine.specs.declared.image.Image.{Image}
 use Rattle.run_report.specs.About.{About}
-use Rattle.run_report.specs.Report.{last_line, report}
+use Rattle.run_report.specs.Report.{last_line}
 use Rattle.run_report.specs.declared.status.Status.{Status}
 use Rattle.run_report.specs.declared.status.Status.TheVariants as status
 use Rattle.run_job.proofs.Cells.{many_leaves}
 use Rattle.run_job.proofs.Leaving.{same_names}
 use Rattle.network_commands.specs.Answers.{IsAnswered, is_reported, is_unreported}
-use Rattle.network_commands.specs.Commands.{AreCertified, Command, ConformingAreNotRefused, HasFiles, IsOfCommand, OpenedNothing, about_net, count_none, port_names, top_of, words_of}
+use Rattle.network_commands.specs.Commands.{AreCertified, Command, ConformingAreNotRefused, HasFiles, IsOfCommand, about_net, count_none, port_names, top_of, words_of}
 use Rattle.network_commands.specs.Steps.{IsPut, about_words, status_of_build}
-use Rattle.network_commands.proofs.Answered.{last_alone, line_answered, put_answered}
+use Rattle.network_commands.proofs.Putting.{last_alone, line_answered, put_answered}
 use Rattle.network_commands.proofs.Words.{none_wrong}
 use Rattle.replay_job.specs.Ends.{Comes, IsJudgedOrOutside, IsNoVerdict, IsRefusedFor, by_files, by_growth, by_words}
 use Rattle.replay_job.specs.Replays.{ConformsToReplay, IsReadFeed, IsToReplay, OpensFeeds, OpensForReplay, RefusesReplay, in_growth, in_job}
-use Rattle.replay_job.specs.Steps.{ImageJudged, ImageReplayed, IsForbidden, IsPermitted, IsUnread, about_image, lines_of, status_of, status_of_fault}
+use Rattle.replay_job.specs.Steps.{ImageJudged, ImageReplayed, IsForbidden, IsPermitted, about_image, lines_of, status_of, status_of_fault}
 use Rattle.replay_job.specs.declared.outcome.NotReplayed.{NotReplayed}
 use Rattle.replay_job.specs.declared.outcome.NotReplayed.TheVariants as stop
 
@@ -230,10 +229,10 @@ module _ (cmd : Command) (names : Names) (same : cmd.feeds_after ≡ cmd.feeds) 
   unbuilt_answered why answer no_image put =
       line_answered Comes cmd (status_of_build why) answer [] (about_words names cmd.job) (last_alone [] (about_words names cmd.job) why) (λ only. comes_unbuilt why no_image only) put
 
-  on_unbuilt : (net : Network ActorState) (why : BuildFault) → engine.IsUnbuilt cmd.library (top_of cmd) (file_names names) why → IsJudgedOrOutside cmd net (status_of_build why)
-  on_unbuilt net (build.Refused r) un = (file_names names, un)
-  on_unbuilt net (build.ReadFault file) un = tt
-  on_unbuilt net build.Memory un = tt
+  on_unbuilt : (this : Network ActorState) (why : BuildFault) → engine.IsUnbuilt cmd.library (top_of cmd) (file_names names) why → IsJudgedOrOutside cmd this (status_of_build why)
+  on_unbuilt this (build.Refused r) un = (file_names names, un)
+  on_unbuilt this (build.ReadFault file) un = tt
+  on_unbuilt this build.Memory un = tt
 
   pub unbuilt_complete : (net : Network ActorState) (why : BuildFault) (answer : Status) → engine.IsUnbuilt cmd.library (top_of cmd) (file_names names) why
       → IsPut (status_of_build why) (last_line (about_words names cmd.job) (status_of_build why)) cmd.channels cmd.channels_after answer → IsJudgedOrOutside cmd net answer

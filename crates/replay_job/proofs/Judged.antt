@@ -1,13 +1,12 @@
 -- A replay over cells that are joined as a flat network says: what is asked of it, and what it judges.
-use Rattle.std.proofs.Common.{◌≡◌, inr, ℕ, ◌≤◌, List, length, map, refl, sym, ap, subst, ◌∙◌, arith}
-use Rattle.std.specs.Prelude.{Option, Some, slice_get, string_bytes}
+use Rattle.std.proofs.Common.{◌≡◌, inr, ℕ, ◌≤◌, true, List, length, map, refl, sym, ap, subst, ◌∙◌, arith}
+use Rattle.std.specs.Prelude.{Some, slice_get, string_bytes}
 use Rattle.std.specs.declared.result.Result.TheVariants.{Ok, Err}
 use Rattle.std.proofs.lemmas.List.{length-map}
 use Rattle.rvc_io.specs.Count.{HasRisen}
 use Rattle.rvc_io.specs.Feeds.{Inputs}
 use Rattle.rvc_words.specs.declared.job.Job.{Job}
 use Rattle.fnl_flatten.specs.declared.flat.Flat.{Flat}
-use Rattle.net_model.specs.declared.wiring.Link.{Link}
 use Rattle.net_model.specs.declared.wiring.Wiring.{Wiring}
 use Rattle.net_model.specs.Cell.{Cell}
 use Rattle.net_model.specs.Network.{Network}
@@ -21,7 +20,6 @@ use Rattle.run_job.proofs.Reported.{risen_from}
 use Rattle.trace_replay.specs.Feeding.{OnlyPulls, feed_of}
 use Rattle.trace_replay.specs.Reading.{NamesFeed, OnReadFault}
 use Rattle.trace_replay.specs.Replaying.{CanReplay, IsEndTold, IsReplayOf, has_feed}
-use Rattle.replay_job.specs.Naming.{names_of_instances}
 use Rattle.trace_replay.specs.declared.replayed.Replayed.{Replayed}
 use Rattle.trace_replay.specs.declared.why.ReplayFault.{ReplayFault}
 use Rattle.trace_replay.specs.declared.why.ReplayFault.TheVariants as judged

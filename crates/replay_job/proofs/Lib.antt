@@ -1,4 +1,3 @@
-mod LikeTraces
 mod Opened
 mod Named
 mod Judged

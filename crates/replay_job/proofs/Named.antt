@@ -1,5 +1,5 @@
 -- The names of a network's instances.
-use Rattle.std.proofs.Common.{◌≡◌, ℕ, List, [], ◌∷◌, length, map, refl, sym, ap, ◌∙◌, arith}
+use Rattle.std.proofs.Common.{◌≡◌, ℕ, List, [], ◌∷◌, length, map, refl, ap, ◌∙◌, arith}
 use Rattle.net_model.specs.Network.{Leaf}
 use Rattle.trace_replay.specs.Head.{name_of}
 use Rattle.replay_job.specs.Naming.{name_of_instance, names_of_instances}

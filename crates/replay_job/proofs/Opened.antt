@@ -1,14 +1,14 @@
 -- What stands on the feeds of a replay once they are opened.
-use Rattle.std.proofs.Common.{◌≡◌, ◌⊎◌, inl, inr, ℕ, zero, suc, ◌<◌, ◌≤◌, true, false, List, [], ◌∷◌, ◌++◌, take, refl, sym, ap, subst, ◌∙◌, arith, Contains}
+use Rattle.std.proofs.Common.{◌≡◌, inl, inr, ℕ, zero, suc, Bool, true, List, [], ◌∷◌, take, refl, sym, ap, subst, ◌∙◌, arith, Contains}
 use Rattle.std.specs.Prelude.{Option, None, Some, is_some, slice_get, slice_index_or, if◌then◌else◌}
-use Rattle.std.proofs.lemmas.List.Elements.{Contains-append_cases, Contains-append_left, Contains-append_right}
+use Rattle.std.proofs.lemmas.List.Elements.{Contains-append_cases, Contains-append_right}
 use Rattle.rvc_io.specs.Feeds.{Inputs}
 use Rattle.rvc_words.specs.Words.{PortText}
 use Rattle.net_model.specs.declared.wiring.End.{End}
 use Rattle.net_model.specs.declared.wiring.End.TheVariants.{Leaf as AtLeaf, Net as AtNet}
 use Rattle.net_model.specs.declared.wiring.Link.{Link}
 use Rattle.net_model.specs.Network.{is_input}
-use Rattle.port_words.specs.Opening.{FeedFails, FeedsAreOpened, IsApart, Opening, feeds_of, file_at, file_from, has_files, replay_feeds}
+use Rattle.port_words.specs.Opening.{FeedsAreOpened, IsApart, Opening, feeds_of, file_at, file_from, has_files, replay_feeds}
 use Rattle.round_runner.specs.Running as running
 use Rattle.network_job.specs.Files.{AreInputs, ComesUnder, IsUnder}
 use Rattle.network_job.proofs.Numbered.{fed_file, feed_in, is_feed, opening, port_mark}

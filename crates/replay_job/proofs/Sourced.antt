@@ -36,7 +36,7 @@ use Rattle.network_commands.specs.Commands.{port_names}
 use Rattle.replay_job.specs.Steps.{Judges, source_trial, trial_of}
 use Rattle.replay_job.specs.declared.outcome.NotReplayed.{NotReplayed}
 use Rattle.replay_job.specs.declared.outcome.NotReplayed.TheVariants as stop
-use Rattle.replay_job.proofs.LikeTraces.{TracedToo, not_run_alike, trace_alike, unjudged_alike}
+use Rattle.alike_traces.proofs.LikeTraces.{not_run_alike, trace_alike, unjudged_alike}
 
 module _ (actors : List Actor) (codes : List coded.Actor) (net : Network ActorState) (alike : AreAlike (stands_at actors) (may_come_at actors) (lowered_network codes net) net)
     (is : IsActorNetwork actors net) (lawful : ActorNetworksAreLawful) (none : NoTraceIsNotRun ActorState)
@@ -47,15 +47,14 @@ module _ (actors : List Actor) (codes : List coded.Actor) (net : Network ActorSt
 
   replayed_too : (text : List ℕ) (replayed : Replayed) → IsReplayed (trial_of (lowered_network codes net) cells inputs grow) text inputs replayed → IsReplayed (source_trial net inputs grow) text inputs replayed
   replayed_too text replayed is_replayed =
-      let too : TracedToo (stands_at actors) (may_come_at actors) (lowered_network codes net) net alike grow begin (start_of net inputs) states text is_replayed.lines replayed.end is_replayed.last =
-      trace_alike (stands_at actors) (may_come_at actors) (lowered_network codes net) net alike grow begin (start_of net inputs) states text is_replayed.lines replayed.end is_replayed.last is_replayed.is_trace in
+      let too = trace_alike (stands_at actors) (may_come_at actors) (lowered_network codes net) net alike grow begin (start_of net inputs) states text is_replayed.lines replayed.end is_replayed.last is_replayed.is_trace in
       record {
         lines = is_replayed.lines;
-        last = too.there;
-        is_trace = too.is_trace;
+        last = too.0;
+        is_trace = too.1;
         within = is_replayed.within;
-        counted = counted_alike (stands_at actors) (may_come_at actors) (lowered_network codes net) net alike inputs grow begin is_replayed.last (start_of net inputs) too.there is_replayed.lines replayed.counts
-            states too.states_there is_replayed.is_trace.plays is_replayed.counted;
+        counted = counted_alike (stands_at actors) (may_come_at actors) (lowered_network codes net) net alike inputs grow begin is_replayed.last (start_of net inputs) too.0 is_replayed.lines replayed.counts
+            states too.2 is_replayed.is_trace.plays is_replayed.counted;
       }
 
   refused_too : (text : List ℕ) (fault : ReplayFault) → IsRefused (trial_of (lowered_network codes net) cells inputs grow) text fault → IsRefused (source_trial net inputs grow) text fault

@@ -1,6 +1,6 @@
 -- To what a command comes that replays a trace, and what it leaves: a case for each status.
 -- Trusted: part of what a promise means.
-use Rattle.std.specs.Prelude.{◌≡◌, ◌⊎◌, ℕ, List, [], Some, string_bytes}
+use Rattle.std.specs.Prelude.{◌≡◌, ◌⊎◌, ℕ, List, Some, string_bytes}
 use Rattle.rvc_base.specs.declared.refusal.Refusal.{Refusal}
 use Rattle.rvc_io.specs.Channels.{WritesOnlyAt}
 use Rattle.rvc_io.specs.Count.{HasRisen}
@@ -24,7 +24,7 @@ use Rattle.rvc_engine.specs.NotBuilt.{LacksForm}
 use Rattle.actor_files.specs.Loading.{TellsAll}
 use Rattle.rvc_engine.specs.Refused.{RefusesTop}
 use Rattle.network_commands.specs.Answers.{FileUnread, HasWrongWord}
-use Rattle.network_commands.specs.Commands.{AreCertified, Command, HasFiles, IsOfCommand, OpenedNothing, about_files, about_net, port_names, top_of, words_of}
+use Rattle.network_commands.specs.Commands.{AreCertified, Command, IsOfCommand, OpenedNothing, about_files, about_net, port_names, top_of, words_of}
 use Rattle.replay_job.specs.Replays.{IsReadFeed, IsToReplay, OpensFeeds, WhateverIsTold}
 
 -- ---- a trace that was judged

@@ -1,6 +1,6 @@
 -- The steps of a replay, from a network to an answer.
 -- Not trusted: no promise is read with it.
-use Rattle.std.specs.Prelude.{◌≡◌, ◌⊎◌, ℕ, List, [], ◌++◌, length, map, string_bytes, Some, codes}
+use Rattle.std.specs.Prelude.{◌≡◌, ◌⊎◌, ℕ, List, [], length, map, string_bytes, Some}
 use Rattle.std.specs.declared.result.Result.{Result}
 use Rattle.std.specs.declared.result.Result.TheVariants.{Ok, Err}
 use Rattle.rvc_base.specs.declared.refusal.Refusal.{Refusal}
@@ -20,10 +20,10 @@ use Rattle.net_model.specs.State.{start_of}
 use Rattle.actor_files.specs.Views.{file_names}
 use Rattle.actor_files.specs.declared.names.Names.{Names}
 use Rattle.port_words.specs.Matching.{AreMatched, IsWrongWord, names_of}
-use Rattle.port_words.specs.Opening.{FeedFails, FeedsAreOpened, replay_feeds}
+use Rattle.port_words.specs.Opening.{FeedFails, replay_feeds}
 use Rattle.grown_links.specs.Growth.{GrowTooFar, IsGrownTooMuch}
 use Rattle.network_job.specs.Files.{AreInputs}
-use Rattle.network_job.specs.Network.{IsNetworkOf, IsWiringBy, in_names, words_of}
+use Rattle.network_job.specs.Network.{IsWiringBy, in_names, words_of}
 use Rattle.network_cells.specs.Sources.{IsActorNetwork}
 use Rattle.trace_replay.specs.Judging.{Trial}
 use Rattle.trace_replay.specs.Replaying.{IsRefused, IsReplayed}

@@ -10,7 +10,6 @@
 //! that networks which are alike have the same traces, so what is told of cells holds of their sources.
 #![tactic(auto)]
 
-mod counting;
 mod image;
 mod naming;
 mod outcome;

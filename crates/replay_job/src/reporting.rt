@@ -6,11 +6,10 @@ ghost use Rattle.run_report.specs.Report.{report};
 ghost use Rattle.network_commands.specs.Steps.{IsPut};
 ghost use Rattle.replay_job.specs.Steps.{about_image, lines_of, status_of};
 
-use crate::counting::count_none;
 use crate::outcome::NotReplayed;
 use crate::status::status_of;
 use actor_files::Names;
-use network_commands::answered;
+use network_commands::{answered, count_none};
 use run_report::{REPORT_CHANNEL, Status, Subject, report_end, report_run};
 use rvc_engine::Image;
 use rvc_io::Drains;

@@ -8,7 +8,7 @@ use Rattle.replay_job.proofs.Sourced.{source_judges}
 use Rattle.replay_job.proofs.image.replay_cells.Goals as goal
 
 pub replay_network-requires-clause-can_run : goal.replay_network-requires-clause-can_run
-replay_network-requires-clause-can_run g c κs within =
+replay_network-requires-clause-can_run g c =
     let image = c.args.image.now in
     let job = c.args.job.now in
     let cells = map seen c.in-Ok.cells.items in

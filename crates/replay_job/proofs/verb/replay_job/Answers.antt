@@ -1,5 +1,4 @@
 use Rattle.std.proofs.Common.{refl, sym, subst, string_bytes}
-use Rattle.actor_files.specs.Loading.{Counts}
 use Rattle.actor_files.specs.Views.{file_names}
 use Rattle.source_network.specs.Files.{class_asked, files_of}
 use Rattle.source_network.specs.Library.{IsLibraryNetwork}
@@ -13,7 +12,7 @@ use Rattle.replay_job.proofs.Answering.{image_answered, image_complete, no_verdi
 use Rattle.replay_job.proofs.verb.replay_job.Goals as goal
 
 pub replay_image-requires-clause-source : goal.replay_image-requires-clause-source
-replay_image-requires-clause-source g c κs within =
+replay_image-requires-clause-source g c =
     let built = c.in-Ok.ensures.built in
     record {
       actors = built.is_image.means.actors;
