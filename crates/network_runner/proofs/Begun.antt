@@ -47,12 +47,12 @@ use Rattle.network_runner.proofs.Held.{growth_most}
 
 -- Lists.
 
-map_at : {A B : Type 0} (f : A → B) (xs : List A) (k : ℕ) (x : A) → slice_get xs k ≡ Some x → slice_get (map f xs) k ≡ Some (f x)
+pub map_at : {A B : Type 0} (f : A → B) (xs : List A) (k : ℕ) (x : A) → slice_get xs k ≡ Some x → slice_get (map f xs) k ≡ Some (f x)
 map_at f [] k x at = cc
 map_at f (y ∷ xs) zero x at = ap Some (ap f (some_is y x at))
 map_at f (y ∷ xs) (suc k) x at = map_at f xs k x at
 
-map_index : {A B : Type 0} (f : A → B) (xs : List A) (k : ℕ) (x : A) (other : B) → slice_get xs k ≡ Some x → slice_index_or (map f xs) k other ≡ f x
+pub map_index : {A B : Type 0} (f : A → B) (xs : List A) (k : ℕ) (x : A) (other : B) → slice_get xs k ≡ Some x → slice_index_or (map f xs) k other ≡ f x
 map_index f [] k x other at = cc
 map_index f (y ∷ xs) zero x other at = ap f (some_is y x at)
 map_index f (y ∷ xs) (suc k) x other at = map_index f xs k x other at
@@ -99,7 +99,7 @@ abbrev ReaderAt : List Port → List Bool → End → Option Reading → Type 0
 ReaderAt ports opens end None = has_feed opens end ≡ false
 ReaderAt ports opens end (Some reading) = (has_feed opens end ≡ true) × ReadsAt ports end reading × (reading.pulled ≡ []) × (reading.ended ≡ false)
 
-reader_at : (ports : List Port) (opens : List Bool) (link : Link) (reader : Option Reading) → IsReaderOf ports opens link reader → ReaderAt ports opens link.from reader
+pub reader_at : (ports : List Port) (opens : List Bool) (link : Link) (reader : Option Reading) → IsReaderOf ports opens link reader → ReaderAt ports opens link.from reader
 reader_at ports opens link None is = is
 reader_at ports opens link (Some reading) is = is
 
@@ -126,7 +126,7 @@ fed_so s l link reading kind bytes feed feeds kind_is coming_is is = (
   subst (λ o. HasRest reading.kind (rest_of kind bytes) o) (sym coming_is) (ap (λ k. rest_of k bytes) (sym kind_is)),
 )
 
-comes_at : {X : Type 0} (s : State X) (l : ℕ) (link : Link) (ports : List Port) (opens : List Bool) (inputs : List (List ℕ)) (feed : ℕ) (feeds : Inputs) (reader : Option Reading) (end : End)
+pub comes_at : {X : Type 0} (s : State X) (l : ℕ) (link : Link) (ports : List Port) (opens : List Bool) (inputs : List (List ℕ)) (feed : ℕ) (feeds : Inputs) (reader : Option Reading) (end : End)
     → is_outside end ≡ true → ReaderAt ports opens end reader → HasInputOn inputs opens end (feeds.left feed) → unarrived (slice_get s.flows l) ≡ fed_by (map port_of ports) inputs link end
     → ComesNow s l link feed (rest_at (map port_of ports) inputs end) reader feeds
 comes_at s l link ports opens inputs feed feeds reader (AtLeaf inst port) outside is told comes = cc
@@ -141,7 +141,7 @@ comes_at s l link ports opens inputs feed feeds (Some reading) (AtNet port) outs
     fed_so s l link reading (kind_at (map port_of ports) port) (slice_index_or inputs port []) feed feeds (reads_port ports port reading is.1)
     (ap (λ pulled. coming pulled (feeds.left feed)) is.2 ∙ ap (coming []) left) comes
 
-start_unarrived : {X : Type 0} (net : Network X) (cells : List (Cell X)) (inputs : List (List ℕ)) (l : ℕ) (link : Link) → slice_get net.links l ≡ Some link
+pub start_unarrived : {X : Type 0} (net : Network X) (cells : List (Cell X)) (inputs : List (List ℕ)) (l : ℕ) (link : Link) → slice_get net.links l ≡ Some link
     → unarrived (slice_get (given_state net cells inputs).flows l) ≡ fed_by net.ins inputs link link.from
 start_unarrived net cells inputs l link at =
     ap unarrived (map_at (given_flow net cells inputs) net.links l link at)
@@ -178,7 +178,7 @@ module _ {X : Type 0} (net : Network X) (cells : List (Cell X)) (inputs : List (
     all_fit links (λ l other at. each (suc l) other at),
   )
 
-  can_begin : (grow burst : ℕ) → IsReady net grow burst cells → CanBegin net (given_state net cells inputs)
+  pub can_begin : (grow burst : ℕ) → IsReady net grow burst cells → CanBegin net (given_state net cells inputs)
   can_begin grow burst ready = record {
     has_flows = length-map net.links (given_flow net cells inputs);
     ordered = λ l flow here.
@@ -193,7 +193,7 @@ module _ {X : Type 0} (net : Network X) (cells : List (Cell X)) (inputs : List (
   }
 
 -- nothing was counted yet
-counts_none : {X : Type 0} (net : Network X) (inputs : List (List ℕ)) (s : State X) (links outs : ℕ) (counts : Counts) → CountNothing links outs counts → links ≡ length net.links → outs ≡ length net.outs
+pub counts_none : {X : Type 0} (net : Network X) (inputs : List (List ℕ)) (s : State X) (links outs : ℕ) (counts : Counts) → CountNothing links outs counts → links ≡ length net.links → outs ≡ length net.outs
     → IsCounted net inputs s [] s counts
 counts_none net inputs s links outs counts none links_are outs_are = record {
   firings = none.firings;

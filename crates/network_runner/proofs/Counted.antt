@@ -30,7 +30,7 @@ use Rattle.network_runner.proofs.Leaving.{delivered_inside, from_inside, left_si
 use Rattle.network_runner.proofs.Numbers.{AllLater, Later, Whole, arrived_here, arrived_long, capped_few, deliveries_then, lines_later, rest_here, rests_long, sent_long, sent_place, short_round, short_then, shown_then}
 
 -- where no link holds more than so many tokens more, so many more at most were sent to an output
-sent_most : (p k : ℕ) (links : List Link) (flows others : List Flow) → length flows ≡ length links → length others ≡ length links
+pub sent_most : (p k : ℕ) (links : List Link) (flows others : List Flow) → length flows ≡ length links → length others ≡ length links
     → ((l : ℕ) (link : Link) (flow other : Flow) → slice_get links l ≡ Some link → slice_get flows l ≡ Some flow → slice_get others l ≡ Some other → length flow.sent ≤ length other.sent + k)
     → length (sent_to p links flows) ≤ length (sent_to p links others) + k
 sent_most p k [] flows others whole also each = omega arith
@@ -73,7 +73,7 @@ module _ {X : Type 0} (net : Network X) (wired : IsWired net) (lawful : AreLawfu
     (came : List Filled) (told : (l : ℕ) → CameOn net.ins inputs (slice_get net.links l) (slice_get s.flows l) (slice_get came l))
     (arrived_is : c2.arrived.items ≡ arrived_with came c0.arrived.items) (rests_are : c2.rests.items ≡ rests_with came c0.rests.items)
     (cells : List (Cell X)) (sent_is : c2.sent.items ≡ sent_with cells net.links c0.sent.items) (outgoing : (p : ℕ) → outgoing_to p cells net.links ≡ left_to p net.links last.flows)
-    (firings_are : c2.firings ≡ c0.firings + n) (rounds_are : c2.rounds ≡ suc c0.rounds) (few_firings : c2.firings ≤ 1000000000000) where
+    (firings_are : c2.firings ≡ c0.firings + n) (rounds_are : c2.rounds ≡ suc c0.rounds) (few_firings : c2.firings ≤ 70368744177664) where
   abbrev lines : List Line
   lines = DeliverLine ∷ tail
 

@@ -370,7 +370,7 @@ filling_starts links held readings feeds came fit = record {
       };
   rests = λ rest. rest;
   fit = fit;
-  same_open = record { same_names = λ name. refl; same_open = λ feed. refl; faults_stay = omega arith };
+  same_open = record { same_names = λ name. refl; same_first = refl; same_open = λ feed. refl; faults_stay = omega arith };
   as_there = refl;
   as_many = refl;
   actors = record { count = refl; each = λ i before after was is. subst (IsSameActor before) (some_is before after (sym was ∙ is)) (same_actor before) };
@@ -387,9 +387,10 @@ still_there [] l reader after at same = refl
 still_there (first ∷ readings) zero reader after at same = ap (λ b. b ∷ map is_some readings) (same ∙ ap is_some (sym (some_is first reader at)))
 still_there (first ∷ readings) (suc l) reader after at same = ap (λ bs. is_some first ∷ bs) (still_there readings l reader after at same)
 
-opens_then : (feed : ℕ) (a b c : Inputs) → SameOpen a b → PullsOnlyAt feed b c → SameOpen a c
-opens_then feed a b c so_far pulls = record {
+opens_then : (feed : ℕ) (a b c : Inputs) → 0 ≢ feed → SameOpen a b → PullsOnlyAt feed b c → SameOpen a c
+opens_then feed a b c other so_far pulls = record {
   same_names = λ name. pulls.same_names name ∙ so_far.same_names name;
+  same_first = pulls.same_left 0 other ∙ so_far.same_first;
   same_open = λ other. pulls.same_open other ∙ so_far.same_open other;
   faults_stay = (let first = so_far.faults_stay in let second = pulls.faults_stay in omega (arith, first, second));
 }
@@ -431,7 +432,7 @@ module _ {X : Type 0} (l feed : ℕ) (links : List Link) (old now new : Held (Ce
     there_after = still_there readings l reader after there still ∙ so_far.as_there
 
     pub open_after : SameOpen fo fn
-    open_after = opens_then feed fo feeds fn so_far.same_open pulls
+    open_after = opens_then feed fo feeds fn (λ first. (let is : feed ≡ suc (count_inputs (take l links)) = so_far.feed_is in omega (arith, first, is))) so_far.same_open pulls
 
     module _ (same : SameActors now.cells new.cells) (marks : SameMarks now.cells new.cells) where
       pub actors_after : SameActors old.cells new.cells

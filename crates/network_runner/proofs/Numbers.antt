@@ -167,7 +167,7 @@ never_short : {X : Type 0} (o : Option (State X)) (test : State X → Bool) → 
 never_short None test never = refl
 never_short (Some next) test never = never next
 
-no_delivery : {X : Type 0} (net : Network X) (l : ℕ) (lines : List Line) (s : State X) → deliveries_in lines ≡ 0 → was_short net s lines l ≡ false
+pub no_delivery : {X : Type 0} (net : Network X) (l : ℕ) (lines : List Line) (s : State X) → deliveries_in lines ≡ 0 → was_short net s lines l ≡ false
 no_delivery net l [] s none = refl
 no_delivery net l (DeliverLine ∷ lines) s none = absurd (omega (arith, none))
 no_delivery net l (FireLine i a ∷ lines) s none = never_short (goes net s (FireLine i a)) (λ next. was_short net next lines l) (λ next. no_delivery net l lines next none)
@@ -198,7 +198,7 @@ short_then net l [] after s t h = ap (λ w. was_short net w after l) (some_state
 short_then net l (line ∷ before) after s t h = short_next (goes net s line) line l (λ next. was_short net next (before ++ after) l) (λ next. was_short net next before l) (was_short net t after l)
     (λ next. played net next before) t h (λ next e. short_then net l before after next t e)
 
-or_false : (b : Bool) → (b || false) ≡ b
+pub or_false : (b : Bool) → (b || false) ≡ b
 or_false true = refl
 or_false false = refl
 

@@ -59,7 +59,7 @@ onward_starts cell feeds channels run feeds_now drains_now budget feeds_fit chan
   channels_fit = channels_fit;
   spent = refl;
   same_run = run_none (seen_run cell run);
-  same_feeds = record { same_names = λ name. refl; same_open = λ feed. refl; faults_stay = omega arith };
+  same_feeds = record { same_names = λ name. refl; same_first = refl; same_open = λ feed. refl; faults_stay = omega arith };
   others = record { same_telling = refl; same_open = λ channel. refl; same_others = λ told channel other. refl; faults_stay = omega arith };
   going = λ e. e;
   untouched = λ how e. (refl, refl, refl);
@@ -69,6 +69,7 @@ onward_starts cell feeds channels run feeds_now drains_now budget feeds_fit chan
 feeds_then : (a b c : Inputs) → SameOpen a b → SameOpen b c → SameOpen a c
 feeds_then a b c one two = record {
   same_names = λ name. two.same_names name ∙ one.same_names name;
+  same_first = two.same_first ∙ one.same_first;
   same_open = λ feed. two.same_open feed ∙ one.same_open feed;
   faults_stay = (let first = one.faults_stay in let second = two.faults_stay in omega (arith, first, second));
 }

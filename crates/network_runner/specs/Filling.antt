@@ -118,9 +118,10 @@ pub record ReadersFit (links : List Link) (readings : List (Option Reading)) (fe
   pub same_feeds : (l : ℕ) (reading : Reading) → slice_get readings l ≡ Some (Some reading)
       → EndIsTrue reading (feeds.left (feed_of links l))
 
--- no feed was opened or closed
+-- no feed was opened or closed, and nothing was pulled from feed 0, which no input has
 pub record SameOpen (old new : Inputs) : Type 0 where
   pub same_names : (name : List ℕ) → new.under name ≡ old.under name
+  pub same_first : new.left 0 ≡ old.left 0
   pub same_open : (feed : ℕ) → new.is_open feed ≡ old.is_open feed
   pub faults_stay : old.faults ≤ new.faults
 

@@ -1,23 +1,17 @@
 -- Feeds that are open for a trace and for each input link.
-use Rattle.std.proofs.Common.{◌≡◌, ℕ, zero, suc, ◌≤◌, Bool, true, List, [], ◌∷◌, take, refl, sym, ap, subst, arith}
-use Rattle.std.specs.Prelude.{IfSome, None, Option, Some, if◌then◌else◌}
+use Rattle.std.proofs.Common.{◌≡◌, ℕ, zero, suc, ◌≤◌, Bool, true, List, take, refl, arith}
+use Rattle.std.specs.Prelude.{IfSome, None, Option, Some}
 use Rattle.rvc_io.specs.Feeds.{Inputs}
 use Rattle.rvc_io.specs.MemFeeds.{FeedsState, inputs_of}
 use Rattle.net_model.specs.declared.wiring.End.{End}
 use Rattle.net_model.specs.declared.wiring.End.TheVariants.{Leaf as AtLeaf, Net as AtNet}
 use Rattle.net_model.specs.declared.wiring.Link.{Link}
 use Rattle.net_model.specs.declared.wiring.Wiring.{Wiring}
-use Rattle.net_model.specs.Network.{is_input, is_outside}
+use Rattle.net_model.specs.Network.{is_outside}
 use Rattle.round_runner.specs.Running.{count_inputs}
 use Rattle.runner_rows.proofs.Opened.{few_feeds}
-use Rattle.trace_replay.specs.Feeding.{count_inputs as count_links}
 use Rattle.trace_replay.specs.Replaying.{has_feed}
 use Rattle.replay_rows.specs.Open.{AreFirstOpen, AreOpenFor}
-
--- both crates count input links alike
-counts_same : (links : List Link) → count_links links ≡ count_inputs links
-counts_same [] = refl
-counts_same (link ∷ links) = ap (λ n. if is_input link then suc n else n) (counts_same links)
 
 is_fed : (reads : List Bool) (end : End) → has_feed reads end ≡ true → is_outside end ≡ true
 is_fed reads (AtLeaf inst port) h = absurd (cc)
@@ -33,8 +27,7 @@ feeds_open wiring feeds few open_first = record {
   trace = open_first.0;
   inputs = λ l link at fed.
       let low : suc (count_inputs (take l wiring.links.items)) ≤ count_inputs wiring.links.items = few_feeds wiring.links.items l link at (is_fed wiring.open_ins.items link.from fed) in
-      subst (λ n. feeds.is_open (suc n) ≡ true) (sym (counts_same (take l wiring.links.items)))
-      (opened feeds open_first (count_inputs (take l wiring.links.items)) (omega (arith, low, few)));
+      opened feeds open_first (count_inputs (take l wiring.links.items)) (omega (arith, low, few));
 }
 
 pub found_open : (wiring : Wiring) (found : Option FeedsState) → count_inputs wiring.links.items ≤ 2 → IfSome found (λ feeds. AreFirstOpen (inputs_of feeds)) → IfSome found (λ feeds. AreOpenFor wiring (inputs_of feeds))

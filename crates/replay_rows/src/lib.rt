@@ -18,6 +18,8 @@ mod changes;
 #[cfg(test)]
 mod networks;
 #[cfg(test)]
+mod numbers;
+#[cfg(test)]
 mod replays;
 #[cfg(test)]
 mod rows;

@@ -11,6 +11,8 @@ use std::sync::Arc;
 pub(crate) enum Net {
     /// One actor that adds one.
     Inc,
+    /// The same, behind an input of two bytes a token.
+    Wide,
     /// One actor that divides.
     Div,
     /// Two actors that send each other a token.
@@ -20,6 +22,8 @@ pub(crate) enum Net {
 }
 
 const BYTE: Scalar = Scalar::Uint(8);
+
+const WORD: Scalar = Scalar::Uint(16);
 
 /// In place of an instance: the network.
 const NET: u32 = u32::MAX;
@@ -41,7 +45,7 @@ const PAIR: &[Row] = &[
 
 fn rows(named: Net) -> &'static [Row] {
     match named {
-        Net::Inc | Net::Div => ONE,
+        Net::Inc | Net::Wide | Net::Div => ONE,
         Net::Ring => RING,
         Net::Pair => PAIR,
     }
@@ -49,7 +53,7 @@ fn rows(named: Net) -> &'static [Row] {
 
 fn instances(named: Net) -> &'static [Named] {
     match named {
-        Net::Inc => &[Named::Inc],
+        Net::Inc | Net::Wide => &[Named::Inc],
         Net::Div => &[Named::Div],
         Net::Ring => &[Named::Race, Named::Race],
         Net::Pair => &[Named::Copy, Named::Sum, Named::Join],
@@ -59,7 +63,7 @@ fn instances(named: Net) -> &'static [Named] {
 /// The path and the class of each instance.
 fn paths(named: Net) -> &'static [&'static str] {
     match named {
-        Net::Inc => &["Inc Inc"],
+        Net::Inc | Net::Wide => &["Inc Inc"],
         Net::Div => &["Div Div"],
         Net::Ring => &["p Race", "q Race"],
         Net::Pair => &["c Copy", "s Sum", "j Join"],
@@ -109,12 +113,12 @@ pub(crate) fn names(alloc: Global, named: Net) -> Result<Vec<String>, Memory> {
     Ok(names)
 }
 
-fn ports(alloc: Global, name: &str, count: usize) -> Result<Vec<Port>, Memory> {
+fn ports(alloc: Global, name: &str, kind: Scalar, count: usize) -> Result<Vec<Port>, Memory> {
     let mut ports = Vec::new(alloc);
     for _k in 0..count {
         ports.push(Port {
             name: String::from_str(alloc, name)?,
-            kind: BYTE,
+            kind,
         })?;
     }
     Ok(ports)
@@ -131,10 +135,11 @@ fn marks(alloc: Global, count: usize) -> Result<Vec<bool>, Memory> {
 /// The network's links and ports.
 pub(crate) fn wiring(alloc: Global, named: Net) -> Result<Wiring, Memory> {
     let count = if named == Net::Ring { 0 } else { 1 };
+    let input = if named == Net::Wide { WORD } else { BYTE };
     Ok(Wiring {
         links: links(alloc, named)?,
-        ins: ports(alloc, "In", count)?,
-        outs: ports(alloc, "Out", count)?,
+        ins: ports(alloc, "In", input, count)?,
+        outs: ports(alloc, "Out", BYTE, count)?,
         open_ins: marks(alloc, count)?,
         open_outs: marks(alloc, count)?,
     })

@@ -81,9 +81,12 @@ fn ready(alloc: Global, net: Net, grow: u32) -> Result<Ready, Memory>
     })
 }
 
-fn answer_of(replayed: Result<Replayed, ReplayFault>) -> Answer {
-    match replayed {
-        Ok(run) => Answer::Ends(run.end, run.firings, run.rounds),
+/// What a trace was replayed as.
+pub(crate) type Told = Result<Replayed, ReplayFault>;
+
+fn answer_of(told: Told) -> Answer {
+    match told {
+        Ok(run) => Answer::Ends(run.end, run.counts.firings, run.counts.rounds),
         Err(ReplayFault::NotRun { line, why }) => Answer::Fails(line, why),
         Err(ReplayFault::ReadFault { feed }) => Answer::Unread(feed),
         Err(ReplayFault::Memory) => Answer::Nothing,
@@ -91,24 +94,27 @@ fn answer_of(replayed: Result<Replayed, ReplayFault>) -> Answer {
 }
 
 /// Replays the trace of a case over its network.
-fn replay_ready(alloc: Global, ready: Ready, case: Case<'_>) -> Result<Answer, Memory>
+fn replay_ready(alloc: Global, ready: Ready, case: Case<'_>) -> Result<Told, Memory>
     requires can_run { CanRun (map seen ready.cells.items) ready.wiring ready.plan }
 {
     let names = names(alloc, case.net)?;
     let mut feeds = feeds(alloc, &ready.wiring, case)?;
     match replay_network(alloc, ready, &names, &mut feeds) {
-        Some(replayed) => Ok(answer_of(replayed)),
-        None => Ok(Answer::Nothing),
+        Some(told) => Ok(told),
+        None => Err(Memory),
     }
+}
+
+/// What is told of the trace of a case.
+pub(crate) fn told(alloc: Global, case: Case<'_>) -> Result<Told, Memory> {
+    let ready = ready(alloc, case.net, case.grow)?;
+    replay_ready(alloc, ready, case)
 }
 
 /// What a case comes to.
 pub(crate) fn replay_case(alloc: Global, case: Case<'_>) -> Answer {
-    let Ok(ready) = ready(alloc, case.net, case.grow) else {
-        return Answer::Nothing;
-    };
-    match replay_ready(alloc, ready, case) {
-        Ok(answer) => answer,
+    match told(alloc, case) {
+        Ok(told) => answer_of(told),
         Err(_) => Answer::Nothing,
     }
 }

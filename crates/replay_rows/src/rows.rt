@@ -11,7 +11,7 @@ pub(crate) const INC: &str = "rvc-trace 1 1 2\ni 0 Inc Inc\nr\nf 0 0\nf 0 0\nf 0
 
 pub(crate) const RING: &str = "rvc-trace 1 2 2\ni 0 p Race\ni 1 q Race\nr\nf 0 1\nf 1 1\nr\nq\n";
 
-const GROWS_TO_4: &str =
+pub(crate) const GROWS_TO_4: &str =
     "rvc-trace 2 3 5 4\ni 0 c Copy\ni 1 s Sum\ni 2 j Join\nr\nf 0 0\nr\ng 3 2\nr\nf 0 0\nr\nf 1 0\nr\nf 2 0\nr\nf 0 0\nr\ng 3 4\nr\nf 0 0\nr\nf 1 0\nr\nf 2 0\nr\nq\n";
 
 const STALL: Line = Line::Stall {

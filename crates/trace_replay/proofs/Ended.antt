@@ -1,15 +1,13 @@
 -- The end line that is true of a network, and a delivery that changes nothing of it.
-use Rattle.std.proofs.Common.{◌≡◌, ◌≢◌, ℕ, zero, suc, ◌+◌, ◌-◌, ◌<◌, ◌≤◌, ◌⊎◌, min, Bool, true, false, List, [], ◌∷◌, length, refl, sym, ap, subst, ◌∙◌, inl, inr, ⊎_elim, arith}
+use Rattle.std.proofs.Common.{◌≡◌, ◌≢◌, ℕ, zero, suc, ◌+◌, ◌-◌, ◌<◌, ◌≤◌, ◌⊎◌, min, Bool, true, false, List, [], ◌∷◌, length, refl, sym, ap, subst, ◌∙◌, arith}
 use Rattle.std.specs.Prelude.{Option, None, Some, slice_get, slice_index_or, if◌then◌else◌}
-use Rattle.std.proofs.Math.Nat.{min-eq_left, min-eq_right}
-use Rattle.std.proofs.lemmas.Bool.{cases_lt}
 use Rattle.trace_text.specs.declared.line.Line.{Line}
 use Rattle.trace_text.specs.declared.line.Line.TheVariants.{Header as FirstLine, Inst, Fire, Deliver, Grow, Quiet, Trap as TrapLine, Stall, Budget}
 use Rattle.net_model.specs.declared.wiring.Link.{Link}
 use Rattle.net_model.specs.Network.{Network, is_input, is_output}
 use Rattle.net_model.specs.State.{Flow, State, untaken, capacity_at, capacity_of}
 use Rattle.net_model.specs.Ends.{AllArrived, IsQuiet, IsSettled, IsStalled, IsStuck, LacksRoom, LacksOn, all_fed, with_rest}
-use Rattle.net_model.specs.Event.{each_flow}
+use Rattle.net_model.specs.Event.{after_arrival, each_flow}
 use Rattle.net_model.specs.Laws.{AreLawful, StalledIsNotQuiet, StallsInOnePlace}
 use Rattle.net_model.specs.Trace.{after_delivery, arrivals, delivered}
 use Rattle.net_model.specs.Wired.{IsWired}
@@ -19,13 +17,13 @@ use Rattle.net_state.specs.Held.{Held}
 use Rattle.net_state.specs.Standing.{StandsIn}
 use Rattle.net_state.specs.Working.{AreFed}
 use Rattle.rvc_io.specs.Feeds.{Inputs}
+use Rattle.port_files.specs.Coming.{Reading}
+use Rattle.net_state.specs.declared.filling.Filled.{Filled}
 use Rattle.net_state.specs.Moving.{SameActors, SameMarks}
 use Rattle.net_state.specs.Surveyed.{AreSettled, AreUntrapped}
 use Rattle.trace_replay.specs.Ending.{EndsNotSo, EndsSo, FitInputs, IsEndOf, IsTrueEnd, MayGrow}
-use Rattle.trace_replay.specs.Feeding.{DeliversAll}
-use Rattle.trace_replay.specs.declared.source.Source.{Source}
+use Rattle.network_runner.specs.Delivering.{Delivers}
 use Rattle.trace_replay.proofs.Chained.{There, there, is_low}
-use Rattle.trace_replay.proofs.Delivered.{nothing_arrives}
 
 -- At most one end line is true.
 
@@ -113,6 +111,18 @@ between_so net grow s settled going = record {
 }
 
 -- A delivery of a settled state, with the remainder of the feeds counted as arrived.
+
+if_same : (b : Bool) (n : ℕ) → (if b then n + 0 else n) ≡ n
+if_same true n = omega arith
+if_same false n = refl
+
+-- if nothing arrives, the flow stays
+nothing_arrives : (link : Link) (flow : Flow) → arrivals link flow ≡ 0 → delivered link flow ≡ flow
+nothing_arrives link flow none =
+    let count : flow.arrived + 0 ≡ flow.arrived = omega arith in
+    ap (λ k. after_arrival k link flow) none
+    ∙ ap (λ k. record { sent = flow.sent; arrived = k; taken = if is_output link then flow.taken + 0 else flow.taken; capacity = flow.capacity }) count
+    ∙ ap (λ k. record { sent = flow.sent; arrived = flow.arrived; taken = k; capacity = flow.capacity }) (if_same (is_output link) flow.taken)
 
 none_left : (link : Link) (flow : Flow) → is_input link ≡ false → flow.arrived ≡ length flow.sent → delivered link flow ≡ flow
 none_left link flow inner all =
@@ -220,17 +230,7 @@ settled_of net grow s (Fire i a) h = absurd h
 settled_of net grow s Deliver h = absurd h
 settled_of net grow s (Grow l c) h = absurd h
 
--- After a delivery each feed came as far as it may.
-
--- numbers: what waits reaches the capacity, or all has arrived
-reaches : (arrived taken capacity sent : ℕ) → taken ≤ arrived → arrived ≤ sent → arrived - taken ≤ capacity
-    → ((arrived + min (capacity - (arrived - taken)) (sent - arrived)) - taken ≡ capacity) ⊎ (arrived + min (capacity - (arrived - taken)) (sent - arrived) ≡ sent)
-reaches arrived taken capacity sent low within fits = ⊎_elim
-    (λ less. let is : min (capacity - (arrived - taken)) (sent - arrived) ≡ capacity - (arrived - taken) = min-eq_left (omega (arith, less)) in
-    inl (ap (λ k. (arrived + k) - taken) is ∙ omega (arith, low, within, fits)))
-    (λ more. let is : min (capacity - (arrived - taken)) (sent - arrived) ≡ sent - arrived = min-eq_right more in
-    inr (ap (λ k. arrived + k) is ∙ omega (arith, low, within, fits)))
-    (cases_lt (capacity - (arrived - taken)) (sent - arrived))
+-- After a delivery an input link holds at most its capacity.
 
 arrivals_of : (link : Link) (flow : Flow) → is_input link ≡ true → arrivals link flow ≡ min (flow.capacity - untaken flow) (length flow.sent - flow.arrived)
 arrivals_of link flow input = ap (λ b. if b then min (flow.capacity - untaken flow) (length flow.sent - flow.arrived) else length flow.sent - flow.arrived) input
@@ -238,21 +238,6 @@ arrivals_of link flow input = ap (λ b. if b then min (flow.capacity - untaken f
 taken_of : (link : Link) (flow : Flow) → is_output link ≡ false → (delivered link flow).taken ≡ flow.taken
 taken_of link flow inside = ap (λ b. if b then flow.taken + arrivals link flow else flow.taken) inside
 
-full_or_all : (link : Link) (flow : Flow) → is_input link ≡ true → is_output link ≡ false → flow.taken ≤ flow.arrived → flow.arrived ≤ length flow.sent → untaken flow ≤ flow.capacity
-    → (untaken (delivered link flow) ≡ (delivered link flow).capacity) ⊎ ((delivered link flow).arrived ≡ length (delivered link flow).sent)
-full_or_all link flow input inside low within fits = ⊎_elim
-    (λ full. inl (ap (λ k. (flow.arrived + arrivals link flow) - k) (taken_of link flow inside) ∙ ap (λ k. (flow.arrived + k) - flow.taken) (arrivals_of link flow input) ∙ full))
-    (λ all. inr (ap (λ k. flow.arrived + k) (arrivals_of link flow input) ∙ all))
-    (reaches flow.arrived flow.taken flow.capacity (length flow.sent) low within fits)
-
-pub fed_after : {X : Type 0} (net : Network X) (held : Held (Cell X)) (s : State X) → IsWired net → StandsIn net held s → FitInputs net s → AreFed net (after_delivery net s)
-fed_after net held s wired stands fits l link flow at here input =
-    let was : Changed delivered s.flows l link flow = changed delivered net.links s.flows l link flow at here in
-    let is_held = stands.stands.flows.each l link was.old at was.there in
-    subst (λ f. (untaken f ≡ f.capacity) ⊎ (f.arrived ≡ length f.sent)) was.is
-    (full_or_all link was.old input ((wired.joined l link at).inside input) is_held.taken is_held.arrived (fits l link was.old at was.there input))
-
--- .. and holds at most its capacity
 fits_of : (link : Link) (flow : Flow) → is_input link ≡ true → is_output link ≡ false → flow.taken ≤ flow.arrived → untaken flow ≤ flow.capacity → untaken (delivered link flow) ≤ flow.capacity
 fits_of link flow input inside low fits =
     let few : arrivals link flow ≤ flow.capacity - untaken flow =
@@ -282,22 +267,22 @@ stalled_end one_place not_quiet grow held now i a l false line same links stalls
 
 -- An end line by the delivery behind it.
 
-pub ends_yes : {X : Type 0} (grow : ℕ) (line end : Line) (old new : Held (Cell X)) (sources sources_new : List (Option Source)) (feeds feeds_new : Inputs)
-    → IsEndOf grow new end → line ≡ end → AreSettled old → DeliversAll old new sources sources_new feeds feeds_new → EndsSo grow line old sources feeds
-ends_yes grow line end old new sources sources_new feeds feeds_new is_end same settle delivers net opened s stands wired lawful fits =
+pub ends_yes : {X : Type 0} (grow : ℕ) (line end : Line) (old new : Held (Cell X)) (readings readings_new : List (Option Reading)) (feeds feeds_new : Inputs) (came : List Filled)
+    → IsEndOf grow new end → line ≡ end → AreSettled old → Delivers old new readings readings_new feeds feeds_new came → EndsSo grow line old readings feeds
+ends_yes grow line end old new readings readings_new feeds feeds_new came is_end same settle delivers net inputs opened s stands wired lawful fits =
     let settled : IsSettled net s = settle net s stands.stands.now in
-    let after = delivers net opened s stands in
+    let after = delivers.states net inputs s stands.stands.now wired stands.fed in
     ends_before net grow s line wired settled
     (subst (IsTrueEnd net grow (after_delivery net s)) (sym same)
-    (is_end net (after_delivery net s) after.stands.now wired lawful (fed_after net old s wired stands.stands.now fits) (still_settled net s settled)))
+    (is_end net (after_delivery net s) after.stands.now wired lawful after.all (still_settled net s settled)))
 
-pub ends_no : {X : Type 0} → StallsInOnePlace X → StalledIsNotQuiet X → (grow : ℕ) (line end : Line) (old new : Held (Cell X)) (sources sources_new : List (Option Source)) (feeds feeds_new : Inputs)
-    → IsEndOf grow new end → line ≢ end → AreSettled old → DeliversAll old new sources sources_new feeds feeds_new → EndsNotSo grow line old sources feeds
-ends_no one_place not_quiet grow line end old new sources sources_new feeds feeds_new is_end differ settle delivers net opened s stands wired lawful fits h =
+pub ends_no : {X : Type 0} → StallsInOnePlace X → StalledIsNotQuiet X → (grow : ℕ) (line end : Line) (old new : Held (Cell X)) (readings readings_new : List (Option Reading)) (feeds feeds_new : Inputs) (came : List Filled)
+    → IsEndOf grow new end → line ≢ end → AreSettled old → Delivers old new readings readings_new feeds feeds_new came → EndsNotSo grow line old readings feeds
+ends_no one_place not_quiet grow line end old new readings readings_new feeds feeds_new came is_end differ settle delivers net inputs opened s stands wired lawful fits h =
     let settled : IsSettled net s = settle net s stands.stands.now in
-    let after = delivers net opened s stands in
+    let after = delivers.states net inputs s stands.stands.now wired stands.fed in
     differ (one_end one_place not_quiet net grow (after_delivery net s) line end lawful (ends_after net grow s line wired settled h)
-    (is_end net (after_delivery net s) after.stands.now wired lawful (fed_after net old s wired stands.stands.now fits) (still_settled net s settled)))
+    (is_end net (after_delivery net s) after.stands.now wired lawful after.all (still_settled net s settled)))
 
 pub untrapped_after : {X : Type 0} (old new : List (Cell X)) → SameActors old new → SameMarks old new → AreUntrapped old → AreUntrapped new
 untrapped_after old new same marks untrapped i cell at =

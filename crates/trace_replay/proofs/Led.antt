@@ -1,25 +1,32 @@
 -- Where the lines of a run that were read have led.
-use Rattle.std.proofs.Common.{◌≡◌, ℕ, suc, ◌+◌, ◌≤◌, ◌⊎◌, Bool, true, false, List, [], ◌∷◌, ◌++◌, length, refl, sym, ap, subst, ◌∙◌, inl, inr, ⊎_elim, arith, append_assoc, append-nil}
-use Rattle.std.specs.Prelude.{Option, None, Some, Err, slice_get, flat_map, if◌then◌else◌}
+use Rattle.std.proofs.Common.{◌≡◌, ℕ, suc, ◌+◌, ◌⊎◌, Bool, true, false, List, [], ◌∷◌, ◌++◌, length, refl, sym, ap, subst, ◌∙◌, inl, inr, ⊎_elim, arith, append_assoc, append-nil}
+use Rattle.std.specs.Prelude.{Option, None, Some, Err, slice_get, take, flat_map, if◌then◌else◌}
 use Rattle.std.specs.List.{concat}
 use Rattle.rvc_io.specs.Feeds.{Inputs, PullsOnlyAt}
 use Rattle.trace_text.specs.declared.line.Line.{Line}
-use Rattle.trace_text.specs.declared.line.Line.TheVariants.{Header as FirstLine, Inst, Fire, Deliver, Grow, Quiet, Trap as TrapLine, Stall, Budget}
+use Rattle.trace_text.specs.declared.line.Line.TheVariants.{Inst}
 use Rattle.trace_text.specs.Table.{AreWritten, IsWritten}
 use Rattle.trace_text.specs.Spelling.{Spells}
-use Rattle.port_files.specs.Coming.{coming, coming_on}
+use Rattle.port_files.specs.Coming.{Reading, coming, coming_on}
+use Rattle.net_model.specs.declared.wiring.Counts.{Counts}
 use Rattle.net_model.specs.declared.wiring.Link.{Link}
-use Rattle.net_model.specs.Network.{Leaf, Network}
-use Rattle.net_model.specs.State.{State}
-use Rattle.net_model.specs.Counted.{deliveries_in}
-use Rattle.net_model.specs.Laws.{AreLawful, firings_shown}
-use Rattle.net_model.specs.Trace.{head_text, instance_lines, opened_by}
+use Rattle.net_model.specs.Ends.{AllArrived}
+use Rattle.net_model.specs.Event.{and_then}
+use Rattle.net_model.specs.Network.{Leaf, Network, is_input}
+use Rattle.net_model.specs.State.{Flow, State}
+use Rattle.net_model.specs.Counted.{IsCounted, rest_at}
+use Rattle.net_model.specs.Laws.{AreLawful}
+use Rattle.net_model.specs.PacingLaws.{CanBegin}
+use Rattle.net_model.specs.Trace.{goes, head_text, instance_lines, opened_by, played}
 use Rattle.net_model.specs.Wired.{IsWired}
 use Rattle.net_model.proofs.Keeping.{Since}
 use Rattle.net_state.specs.Filling.{IsFed}
-use Rattle.trace_replay.specs.Between.{Between, CanGoOn, EndsBy, FailsBy, GoesBy, IsAt, IsLate, Steps, is_rest}
-use Rattle.trace_replay.specs.Events.{BeginsAt, EndInNoRest, IsJudgedOrNot, IsTextOf, IsUnjudged, delivers, fires}
-use Rattle.trace_replay.specs.Feeding.{ComesBy, HaveSources, IsSourceOf, PullsInputs, count_inputs}
+use Rattle.round_runner.specs.Running.{ComesBy, HasRest, count_inputs, feed_of}
+use Rattle.trace_replay.specs.Between.{Between, CountsBy, CountsEnd, EndsBy, FailsBy, GoesBy, IsAt, IsLate, Steps, is_rest}
+use Rattle.trace_replay.specs.Counting.{IsCountedTo}
+use Rattle.trace_replay.specs.Events.{BeginsAt, EndInNoRest, IsJudgedOrNot, IsTextOf, IsUnjudged}
+use Rattle.trace_replay.specs.Feeding.{PullsInputs}
+use Rattle.trace_replay.specs.Laws.{StartFits}
 use Rattle.trace_replay.specs.Head.{StandsAt}
 use Rattle.trace_replay.specs.Judging.{AtEnd, AtEvents, AtFirst, AtInstance, IsNotRun, Lead, LeadsOn, MayCome, Reached, Trial, after_line, due, first_line, instance_text, is_end, is_of_table}
 use Rattle.trace_replay.specs.Reading.{NamesFeed, NamesTrace, HasReached, IsJudged, IsRead, OnReadFault}
@@ -27,30 +34,32 @@ use Rattle.trace_text.specs.Text.{line_feed, line_text}
 use Rattle.trace_replay.specs.Scanning.{Scans}
 use Rattle.trace_replay.specs.declared.bytes.TheConstants.{TRACE_FEED}
 use Rattle.trace_replay.specs.declared.reading.Trace.{Trace}
-use Rattle.trace_replay.specs.declared.source.Source.{Source}
 use Rattle.trace_replay.specs.declared.why.Why.{Why}
 use Rattle.trace_replay.specs.declared.why.ReplayFault.{ReplayFault}
 use Rattle.trace_replay.specs.declared.why.ReplayFault.TheVariants.{NotRun, ReadFault, Memory}
-use Rattle.trace_replay.proofs.Filled.{no_trace}
-use Rattle.trace_replay.proofs.Looped.{start_since, steps_come, steps_since}
+use Rattle.trace_replay.proofs.Counted.{ordered, played_on}
+use Rattle.trace_replay.proofs.Looped.{no_trace, start_since, steps_come, steps_since}
 use Rattle.trace_replay.proofs.Reached.{concat_more, not_run_line, reached_more, told_after}
 use Rattle.trace_replay.proofs.Traces.{written_text}
 
--- The lines so far have led to the state s; `opened` is the state after the last delivery.
-pub record LedTo {X : Type 0} (t : Trial X) (text : List ℕ) (trace : Trace) (now : Between X) (firings rounds : ℕ) : Type 0 where
+-- The lines so far have led to the state s, and the numbers count them; `opened` is the state after the last delivery.
+pub record LedTo {X : Type 0} (t : Trial X) (text : List ℕ) (inputs : List (List ℕ)) (trace : Trace) (now : Between X) : Type 0 where
   pub opened : State X
   pub s : State X
-  pub at : IsAt t.net now opened s
+  pub at : IsAt t.net inputs now opened s
   pub since : Since t.net opened s
+  pub begin : CanBegin t.net t.start
   pub reached : StandsAt t text trace now.feeds (AtEvents opened s)
   pub late : now.rested ≡ false → EndInNoRest reached.texts
-  pub text_of : IsTextOf t (concat reached.texts) firings rounds
+  pub lines : List Line
+  pub text_of : IsTextOf t (concat reached.texts) lines s
+  pub counted : IsCountedTo t.net inputs t.start lines s now.numbers
 
 -- the same from where the events began, for each trial and text
-abbrev pub LedFrom : {X : Type 0} → Trace → Between X → ℕ → Trace → Between X → ℕ → ℕ → Type 0
-LedFrom {X} trace_old old grow trace now firings rounds = (t : Trial X) (text : List ℕ) → BeginsAt t text trace_old old grow → LedTo t text trace now firings rounds
+abbrev pub LedFrom : {X : Type 0} → Trace → Between X → ℕ → Trace → Between X → Type 0
+LedFrom {X} trace_old old grow trace now = (t : Trial X) (text : List ℕ) (inputs : List (List ℕ)) → BeginsAt t text inputs trace_old old grow → LedTo t text inputs trace now
 
--- Lines one after another: their text and their numbers.
+-- Lines one after another: their text.
 
 written_more : (lines : List Line) (line : Line) → AreWritten lines → IsWritten line → AreWritten (lines ++ line ∷ [])
 written_more [] line all one = (one, tt)
@@ -60,46 +69,14 @@ flat_more : (lines : List Line) (line : Line) → flat_map line_text (lines ++ l
 flat_more [] line = append-nil (line_text line)
 flat_more (first ∷ lines) line = ap (λ a. line_text first ++ a) (flat_more lines line) ∙ sym (append_assoc (line_text first) (flat_map line_text lines) (line_text line))
 
-shown_first : (line : Line) (lines : List Line) → length (firings_shown (line ∷ lines)) ≡ fires line + length (firings_shown lines)
-shown_first (Fire i a) lines = omega arith
-shown_first Deliver lines = omega arith
-shown_first (Grow l c) lines = omega arith
-shown_first (TrapLine i a c) lines = omega arith
-shown_first Quiet lines = omega arith
-shown_first (Stall i a l) lines = omega arith
-shown_first Budget lines = omega arith
-shown_first (FirstLine n l g) lines = omega arith
-shown_first (Inst k) lines = omega arith
-
-delivered_first : (line : Line) (lines : List Line) → deliveries_in (line ∷ lines) ≡ delivers line + deliveries_in lines
-delivered_first (Fire i a) lines = omega arith
-delivered_first Deliver lines = omega arith
-delivered_first (Grow l c) lines = omega arith
-delivered_first (TrapLine i a c) lines = omega arith
-delivered_first Quiet lines = omega arith
-delivered_first (Stall i a l) lines = omega arith
-delivered_first Budget lines = omega arith
-delivered_first (FirstLine n l g) lines = omega arith
-delivered_first (Inst k) lines = omega arith
-
-shown_more : (lines : List Line) (line : Line) → length (firings_shown (lines ++ line ∷ [])) ≡ length (firings_shown lines) + fires line
-shown_more [] line = let one : length (firings_shown (line ∷ [])) ≡ fires line + 0 = shown_first line [] in omega (arith, one)
-shown_more (first ∷ lines) line = omega (arith, shown_first first (lines ++ line ∷ []), shown_first first lines, shown_more lines line)
-
-delivered_more : (lines : List Line) (line : Line) → deliveries_in (lines ++ line ∷ []) ≡ deliveries_in lines + delivers line
-delivered_more [] line = let one : deliveries_in (line ∷ []) ≡ delivers line + 0 = delivered_first line [] in omega (arith, one)
-delivered_more (first ∷ lines) line = omega (arith, delivered_first first (lines ++ line ∷ []), delivered_first first lines, delivered_more lines line)
-
 -- a line more
-text_more : {X : Type 0} (t : Trial X) (before text : List ℕ) (firings rounds firings_new rounds_new : ℕ) (line : Line) → IsTextOf t before firings rounds → IsWritten line × (text ≡ line_text line)
-    → firings_new ≡ firings + fires line → rounds_new ≡ rounds + delivers line → IsTextOf t (before ++ text) firings_new rounds_new
-text_more t before text firings rounds firings_new rounds_new line of whole fired delivered = record {
-  lines = of.lines ++ line ∷ [];
-  written = written_more of.lines line of.written whole.0;
-  text_is = ap (λ a. a ++ text) of.text_is ∙ append_assoc (head_text t.net t.grow) (flat_map line_text of.lines) text
-      ∙ ap (λ a. head_text t.net t.grow ++ (flat_map line_text of.lines ++ a)) whole.1 ∙ ap (λ a. head_text t.net t.grow ++ a) (sym (flat_more of.lines line));
-  fired = omega (arith, fired, of.fired, shown_more of.lines line);
-  delivered = omega (arith, delivered, of.delivered, delivered_more of.lines line);
+text_more : {X : Type 0} (t : Trial X) (before text : List ℕ) (lines : List Line) (s next : State X) (line : Line) → IsTextOf t before lines s → IsWritten line × (text ≡ line_text line)
+    → goes t.net s line ≡ Some next → IsTextOf t (before ++ text) (lines ++ line ∷ []) next
+text_more t before text lines s next line of whole leads_on = record {
+  written = written_more lines line of.written whole.0;
+  text_is = ap (λ a. a ++ text) of.text_is ∙ append_assoc (head_text t.net t.grow) (flat_map line_text lines) text
+      ∙ ap (λ a. head_text t.net t.grow ++ (flat_map line_text lines ++ a)) whole.1 ∙ ap (λ a. head_text t.net t.grow ++ a) (sym (flat_more lines line));
+  leads = played_on t.net t.start s next lines (line ∷ []) of.leads (ap (λ o. and_then o (λ w. played t.net w [])) leads_on);
 }
 
 -- the text of a head
@@ -159,45 +136,56 @@ head_last {X} t (text ∷ texts) reached lead count = by_leaves t.net.leaves tex
     by_leaves [] (other ∷ texts) on rest count = cc
     by_leaves (leaf ∷ leaves) texts on rest count = add_last texts text (instances_last t 0 leaf leaves texts reached (subst (λ r. Lead t r texts reached) on rest) count)
 
-pub led_none : {X : Type 0} (trace : Trace) (now : Between X) (grow : ℕ) → LedFrom trace now grow trace now 0 0
-led_none trace now grow t text begins = record {
+-- a run may begin where its events do
+may_begin : {X : Type 0} (t : Trial X) (inputs : List (List ℕ)) (now : Between X) → IsAt t.net inputs now t.start t.start → StartFits t → CanBegin t.net t.start
+may_begin {X} t inputs now at fits = record {
+  has_flows = at.stands.stands.now.stands.flows.count;
+  ordered = ordered t.net now.held t.start at.stands.stands.now;
+  arrived = all_arrived t.net.links t.start.flows
+      (λ l link flow at_link here inner. (at.stands.stands.since.each l link flow flow at_link inner here here).all_arrived);
+  fits = fits;
+}
+  where
+    all_arrived : (links : List Link) (flows : List Flow)
+        → ((l : ℕ) (link : Link) (flow : Flow) → slice_get links l ≡ Some link → slice_get flows l ≡ Some flow → is_input link ≡ false → flow.arrived ≡ length flow.sent) → AllArrived links flows
+    all_arrived [] flows each = tt
+    all_arrived (link ∷ links) [] each = tt
+    all_arrived (link ∷ links) (flow ∷ flows) each = (each 0 link flow refl refl, all_arrived links flows (λ l. each (suc l)))
+
+pub led_none : {X : Type 0} (trace : Trace) (now : Between X) (grow : ℕ) → LedFrom trace now grow trace now
+led_none trace now grow t text inputs begins = record {
   opened = t.start;
   s = t.start;
   at = begins.at;
-  since = start_since t now begins.at begins.fits;
+  since = start_since t inputs now begins.at begins.fits;
+  begin = may_begin t inputs now begins.at begins.fits;
   reached = begins.reached;
   late = λ e. head_last t begins.reached.texts (AtEvents t.start t.start) begins.reached.lead (sym begins.reached.number ∙ begins.number);
+  lines = [];
   text_of = record {
-    lines = [];
     written = tt;
     text_is = head_is t begins.reached.texts (AtEvents t.start t.start) begins.reached.lead (sym begins.reached.number ∙ begins.number)
         ∙ sym (append-nil (head_text t.net t.grow));
-    fired = refl;
-    delivered = refl;
+    leads = refl;
   };
+  counted = begins.counted;
 }
 
 -- A pull from the trace's feed leaves what is to come on the others.
 
-comes_pulled : {X : Type 0} (s : State X) (l : ℕ) (link : Link) (o : Option (Option Source)) (a b : Inputs)
-    → ((source : Source) → o ≡ Some (Some source) → b.left source.feed ≡ a.left source.feed) → ComesBy s l link o a → ComesBy s l link o b
-comes_pulled s l link None a b same comes = comes
-comes_pulled s l link (Some None) a b same comes = comes
-comes_pulled s l link (Some (Some source)) a b same comes =
-    subst (λ left. IsFed s l (Some link) (record { kind = source.tokens.kind; bytes = coming source.tokens.pulled left })) (sym (same source refl)) comes
+comes_pulled : {X : Type 0} (s : State X) (l feed rest : ℕ) (link : Link) (o : Option (Option Reading)) (a b : Inputs) → b.left feed ≡ a.left feed → ComesBy s l link feed rest o a → ComesBy s l link feed rest o b
+comes_pulled s l feed rest link None a b same comes = comes
+comes_pulled s l feed rest link (Some None) a b same comes = comes
+comes_pulled s l feed rest link (Some (Some reading)) a b same comes =
+    subst (λ left. IsFed s l (Some link) (record { kind = reading.kind; bytes = coming reading.pulled left }) × HasRest reading.kind rest (coming reading.pulled left)) (sym same) comes
 
-pub with_feeds : {X : Type 0} → Between X → Inputs → Between X
-with_feeds now feeds = record { held = now.held; sources = now.sources; rested = now.rested; feeds = feeds }
-
-pub at_pulled : {X : Type 0} (net : Network X) (now : Between X) (feeds : Inputs) (opened s : State X) → HaveSources now.held.links now.sources now.feeds → PullsOnlyAt TRACE_FEED now.feeds feeds
-    → IsAt net now opened s → IsAt net (record { held = now.held; sources = now.sources; rested = now.rested; feeds = feeds }) opened s
-at_pulled net now feeds opened s have pulls at = record {
+pub at_pulled : {X : Type 0} (net : Network X) (inputs : List (List ℕ)) (now : Between X) (feeds : Inputs) (opened s : State X) → PullsOnlyAt TRACE_FEED now.feeds feeds
+    → IsAt net inputs now opened s → IsAt net inputs (record { held = now.held; readings = now.readings; numbers = now.numbers; rested = now.rested; feeds = feeds }) opened s
+at_pulled net inputs now feeds opened s pulls at = record {
   stands = record {
     stands = at.stands.stands;
-    fed = λ l link at_link input. comes_pulled s l link (slice_get now.sources l) now.feeds feeds
-        (λ source here.
-        let was : IsSourceOf now.held.links l link source now.feeds = have.each l link source (ap (λ ls. slice_get ls l) (sym at.stands.stands.now.is_of.links_are) ∙ at_link) here in
-        pulls.same_left source.feed (λ same. no_trace (count_inputs (Rattle.std.specs.Prelude.take l now.held.links)) (sym same ∙ was.feed)))
+    fed = λ l link at_link input. comes_pulled s l (feed_of net.links l) (rest_at net.ins inputs link.from) link (slice_get now.readings l) now.feeds feeds
+        (pulls.same_left (feed_of net.links l) (λ same. no_trace (count_inputs (take l net.links)) (sym same)))
         (at.stands.fed l link at_link input);
   };
   fits = at.fits;
@@ -253,31 +241,29 @@ told_still trace a b pulls = ap (coming trace.lines.bytes) pulls.same_trace
 pub record IsNext {X : Type 0} (old new : Trace) (now : Between X) (feeds : Inputs) (grow : ℕ) (line : Line) (same : Bool) : Type 0 where
   pub expected : List ℕ
   pub trace_grow : old.grow ≡ grow
-  pub sources : HaveSources now.held.links now.sources now.feeds
   pub pulls : PullsOnlyAt TRACE_FEED now.feeds feeds
   pub read : IsRead expected old.grow old.lines.passed new.lines.passed (coming_on old.lines.bytes now.feeds TRACE_FEED) (coming_on new.lines.bytes feeds TRACE_FEED) line same
   pub count : new.count ≡ old.count + 1
 
 abbrev Later : {X : Type 0} → Between X → Inputs → Between X
-Later now feeds = record { held = now.held; sources = now.sources; rested = now.rested; feeds = feeds }
+Later now feeds = record { held = now.held; readings = now.readings; numbers = now.numbers; rested = now.rested; feeds = feeds }
 
-text_by : {X : Type 0} (t : Trial X) (texts old before : List (List ℕ)) (last : List ℕ) (firings rounds firings_new rounds_new : ℕ) (line : Line) → texts ≡ before ++ last ∷ [] → before ≡ old
-    → IsTextOf t (concat old) firings rounds → IsWritten line × (last ≡ line_text line) → firings_new ≡ firings + fires line → rounds_new ≡ rounds + delivers line
-    → IsTextOf t (concat texts) firings_new rounds_new
-text_by t texts old before last firings rounds firings_new rounds_new line texts_are before_is of whole fired delivered =
-    subst (λ a. IsTextOf t a firings_new rounds_new)
+text_by : {X : Type 0} (t : Trial X) (texts old before : List (List ℕ)) (last : List ℕ) (lines : List Line) (s next : State X) (line : Line) → texts ≡ before ++ last ∷ [] → before ≡ old
+    → IsTextOf t (concat old) lines s → IsWritten line × (last ≡ line_text line) → goes t.net s line ≡ Some next
+    → IsTextOf t (concat texts) (lines ++ line ∷ []) next
+text_by t texts old before last lines s next line texts_are before_is of whole leads_on =
+    subst (λ a. IsTextOf t a (lines ++ line ∷ []) next)
     (sym (ap concat texts_are ∙ ap (λ b. concat (b ++ last ∷ [])) before_is ∙ concat_more old last))
-    (text_more t (concat old) last firings rounds firings_new rounds_new line of whole fired delivered)
+    (text_more t (concat old) last lines s next line of whole leads_on)
 
-pub led_more : {X : Type 0} (t : Trial X) (text : List ℕ) (old new : Trace) (now next : Between X) (feeds : Inputs) (grow : ℕ) (line : Line) (same : Bool) (firings rounds firings_new rounds_new : ℕ)
-    → firings_new ≡ firings + fires line → rounds_new ≡ rounds + delivers line
-    → t.grow ≡ grow → IsWired t.net → AreLawful t.net → LedTo t text old now firings rounds → IsNext old new now feeds grow line same
-    → GoesBy grow line (Later now feeds) next → is_end line ≡ false → next.rested ≡ is_rest line → PullsInputs feeds next.feeds
-    → LedTo t text new next firings_new rounds_new
-led_more {X} t text old new now next feeds grow line same firings rounds firings_new rounds_new fired delivered grow_is wired lawful led read goes on rested pulls =
-    let at : IsAt t.net (Later now feeds) led.opened led.s = at_pulled t.net now feeds led.opened led.s read.sources read.pulls led.at in
-    let to : (u : State X) × Steps t led.opened led.s line u × IsAt t.net next (opened_by line led.opened u) u = goes t led.opened led.s grow_is wired lawful at in
-    let comes : MayCome t led.opened led.s line to.0 = steps_come t (Later now feeds) led.opened led.s to.0 line wired lawful at led.since to.1 in
+pub led_more : {X : Type 0} (t : Trial X) (text : List ℕ) (inputs : List (List ℕ)) (old new : Trace) (now next : Between X) (feeds : Inputs) (grow : ℕ) (line : Line) (same : Bool)
+    → t.grow ≡ grow → IsWired t.net → AreLawful t.net → LedTo t text inputs old now → IsNext old new now feeds grow line same
+    → GoesBy grow line (Later now feeds) next → CountsBy grow line (Later now feeds) next.numbers → is_end line ≡ false → next.rested ≡ is_rest line → PullsInputs feeds next.feeds
+    → LedTo t text inputs new next
+led_more {X} t text inputs old new now next feeds grow line same grow_is wired lawful led read goes counts on rested pulls =
+    let at : IsAt t.net inputs (Later now feeds) led.opened led.s = at_pulled t.net inputs now feeds led.opened led.s read.pulls led.at in
+    let to : (u : State X) × Steps t led.opened led.s line u × IsAt t.net inputs next (opened_by line led.opened u) u = goes t inputs led.opened led.s grow_is wired lawful at in
+    let comes : MayCome t led.opened led.s line to.0 = steps_come t inputs (Later now feeds) led.opened led.s to.0 line wired lawful at led.since to.1 in
     let by : IsReachedBy t text new.count new.lines.passed line (AtEvents (opened_by line led.opened to.0) to.0) (coming_on new.lines.bytes next.feeds TRACE_FEED) led.reached.texts =
     reached_by t text read.expected old.count new.count old.lines.passed new.lines.passed (AtEvents led.opened led.s) (after_line line led.opened to.0)
     (AtEvents (opened_by line led.opened to.0) to.0) (coming_on old.lines.bytes now.feeds TRACE_FEED) (coming_on new.lines.bytes feeds TRACE_FEED) (coming_on new.lines.bytes next.feeds TRACE_FEED) line same
@@ -286,7 +272,8 @@ led_more {X} t text old new now next feeds grow line same firings rounds firings
       opened = opened_by line led.opened to.0;
       s = to.0;
       at = to.2;
-      since = steps_since t (Later now feeds) led.opened led.s to.0 line wired lawful at led.since to.1 on;
+      since = steps_since t inputs (Later now feeds) led.opened led.s to.0 line wired lawful at led.since to.1 on;
+      begin = led.begin;
       reached = by.has;
       late = λ e. record {
         before = by.before;
@@ -296,25 +283,28 @@ led_more {X} t text old new now next feeds grow line same firings rounds firings
         spells = by.spells;
         no_rest = sym rested ∙ e;
       };
-      text_of = text_by t by.has.texts led.reached.texts by.before by.last firings rounds firings_new rounds_new line by.texts_are by.before_is led.text_of
-          (written_text t.net t.grow led.s line [] by.last comes.true_there by.spells) fired delivered;
+      lines = led.lines ++ line ∷ [];
+      text_of = text_by t by.has.texts led.reached.texts by.before by.last led.lines led.s to.0 line by.texts_are by.before_is led.text_of
+          (written_text t.net t.grow led.s line [] by.last comes.true_there by.spells) comes.goes_so;
+      counted = counts t inputs led.opened led.s grow_is wired lawful at to.0 comes.goes_so t.start led.lines led.begin led.text_of.leads led.counted;
     }
 
--- the line ends the run
-pub record EndsAt {X : Type 0} (t : Trial X) (text : List ℕ) (new : Trace) (later : Inputs) (line : Line) (firings rounds : ℕ) : Type 0 where
+-- the line ends the run, and the numbers count all lines
+pub record EndsAt {X : Type 0} (t : Trial X) (text : List ℕ) (inputs : List (List ℕ)) (new : Trace) (later : Inputs) (line : Line) (numbers : Counts) : Type 0 where
   pub last : State X
   pub has : StandsAt t text new later (AtEnd line last)
-  pub text_of : IsTextOf t (concat has.texts) firings rounds
+  pub lines : List Line
+  pub text_of : IsTextOf t (concat has.texts) lines last
+  pub counted : IsCounted t.net inputs t.start lines last numbers
 
-pub led_end : {X : Type 0} (t : Trial X) (text : List ℕ) (old new : Trace) (now : Between X) (feeds later : Inputs) (grow : ℕ) (line : Line) (same : Bool) (firings rounds firings_new rounds_new : ℕ)
-    → firings_new ≡ firings + fires line → rounds_new ≡ rounds + delivers line
-    → t.grow ≡ grow → IsWired t.net → AreLawful t.net → LedTo t text old now firings rounds → IsNext old new now feeds grow line same
-    → EndsBy grow line (Later now feeds) → is_end line ≡ true → PullsInputs feeds later
-    → EndsAt t text new later line firings_new rounds_new
-led_end {X} t text old new now feeds later grow line same firings rounds firings_new rounds_new fired delivered grow_is wired lawful led read ends over pulls =
-    let at : IsAt t.net (Later now feeds) led.opened led.s = at_pulled t.net now feeds led.opened led.s read.sources read.pulls led.at in
-    let to : (u : State X) × Steps t led.opened led.s line u = ends t led.opened led.s grow_is wired lawful at in
-    let comes : MayCome t led.opened led.s line to.0 = steps_come t (Later now feeds) led.opened led.s to.0 line wired lawful at led.since to.1 in
+pub led_end : {X : Type 0} (t : Trial X) (text : List ℕ) (inputs : List (List ℕ)) (old new : Trace) (now : Between X) (feeds later : Inputs) (grow : ℕ) (line : Line) (same : Bool) (numbers : Counts)
+    → t.grow ≡ grow → IsWired t.net → AreLawful t.net → LedTo t text inputs old now → IsNext old new now feeds grow line same
+    → EndsBy grow line (Later now feeds) → CountsEnd grow line (Later now feeds) numbers → is_end line ≡ true → PullsInputs feeds later
+    → EndsAt t text inputs new later line numbers
+led_end {X} t text inputs old new now feeds later grow line same numbers grow_is wired lawful led read ends counts over pulls =
+    let at : IsAt t.net inputs (Later now feeds) led.opened led.s = at_pulled t.net inputs now feeds led.opened led.s read.pulls led.at in
+    let to : (u : State X) × Steps t led.opened led.s line u = ends t inputs led.opened led.s grow_is wired lawful at in
+    let comes : MayCome t led.opened led.s line to.0 = steps_come t inputs (Later now feeds) led.opened led.s to.0 line wired lawful at led.since to.1 in
     let by : IsReachedBy t text new.count new.lines.passed line (AtEnd line to.0) (coming_on new.lines.bytes later TRACE_FEED) led.reached.texts =
     reached_by t text read.expected old.count new.count old.lines.passed new.lines.passed (AtEvents led.opened led.s) (after_line line led.opened to.0)
     (AtEnd line to.0) (coming_on old.lines.bytes now.feeds TRACE_FEED) (coming_on new.lines.bytes feeds TRACE_FEED) (coming_on new.lines.bytes later TRACE_FEED) line same
@@ -322,8 +312,10 @@ led_end {X} t text old new now feeds later grow line same firings rounds firings
     record {
       last = to.0;
       has = by.has;
-      text_of = text_by t by.has.texts led.reached.texts by.before by.last firings rounds firings_new rounds_new line by.texts_are by.before_is led.text_of
-          (written_text t.net t.grow led.s line [] by.last comes.true_there by.spells) fired delivered;
+      lines = led.lines ++ line ∷ [];
+      text_of = text_by t by.has.texts led.reached.texts by.before by.last led.lines led.s to.0 line by.texts_are by.before_is led.text_of
+          (written_text t.net t.grow led.s line [] by.last comes.true_there by.spells) comes.goes_so;
+      counted = counts t inputs led.opened led.s grow_is wired lawful at to.0 comes.goes_so t.start led.lines led.begin led.text_of.leads led.counted;
     }
 
 -- The line may not come, or isn't judged.
@@ -331,9 +323,9 @@ led_end {X} t text old new now feeds later grow line same firings rounds firings
 of_table_here : (t_grow grow old_grow : ℕ) (line : Line) → t_grow ≡ grow → old_grow ≡ grow → is_of_table old_grow line ≡ true → is_of_table t_grow line ≡ true
 of_table_here t_grow grow old_grow line one two of = subst (λ g. is_of_table g line ≡ true) (two ∙ sym one) of
 
-unjudged : {X : Type 0} (t : Trial X) (text : List ℕ) (old new : Trace) (now : Between X) (feeds : Inputs) (grow : ℕ) (line : Line) (same : Bool) (why : Why) (firings rounds : ℕ)
-    → t.grow ≡ grow → LedTo t text old now firings rounds → IsNext old new now feeds grow line same → IsLate line why (Later now feeds) → IsUnjudged t text new.count why
-unjudged t text old new now feeds grow line same why firings rounds grow_is led read is_late =
+unjudged : {X : Type 0} (t : Trial X) (text : List ℕ) (inputs : List (List ℕ)) (old new : Trace) (now : Between X) (feeds : Inputs) (grow : ℕ) (line : Line) (same : Bool) (why : Why)
+    → t.grow ≡ grow → LedTo t text inputs old now → IsNext old new now feeds grow line same → IsLate line why (Later now feeds) → IsUnjudged t text new.count why
+unjudged t text inputs old new now feeds grow line same why grow_is led read is_late =
     let others = told_after read.read.scans.text (coming_on old.lines.bytes now.feeds TRACE_FEED) (coming_on new.lines.bytes feeds TRACE_FEED) led.reached.rest led.reached.told read.read.scans.passes in
     record {
       texts = led.reached.texts;
@@ -353,18 +345,18 @@ unjudged t text old new now feeds grow line same why firings rounds grow_is led 
       why_is = is_late.why_is;
     }
 
-pub led_fails : {X : Type 0} (t : Trial X) (text : List ℕ) (old new : Trace) (now : Between X) (feeds : Inputs) (grow : ℕ) (line : Line) (same : Bool) (why : Why) (firings rounds : ℕ)
-    → t.grow ≡ grow → IsWired t.net → AreLawful t.net → LedTo t text old now firings rounds → IsNext old new now feeds grow line same
+pub led_fails : {X : Type 0} (t : Trial X) (text : List ℕ) (inputs : List (List ℕ)) (old new : Trace) (now : Between X) (feeds : Inputs) (grow : ℕ) (line : Line) (same : Bool) (why : Why)
+    → t.grow ≡ grow → IsWired t.net → AreLawful t.net → LedTo t text inputs old now → IsNext old new now feeds grow line same
     → FailsBy grow line (Later now feeds) why
     → IsNotRun t text new.count why ⊎ IsUnjudged t text new.count why
-led_fails t text old new now feeds grow line same why firings rounds grow_is wired lawful led read fails = ⊎_elim
+led_fails t text inputs old new now feeds grow line same why grow_is wired lawful led read fails = ⊎_elim
     (λ each.
-    let at : IsAt t.net (Later now feeds) led.opened led.s = at_pulled t.net now feeds led.opened led.s read.sources read.pulls led.at in
+    let at : IsAt t.net inputs (Later now feeds) led.opened led.s = at_pulled t.net inputs now feeds led.opened led.s read.pulls led.at in
     inl (subst (λ k. IsNotRun t text k why) (sym read.count)
     (not_run_line t text read.expected old.count old.lines.passed new.lines.passed (AtEvents led.opened led.s) (coming_on old.lines.bytes now.feeds TRACE_FEED) (coming_on new.lines.bytes feeds TRACE_FEED)
     line same why led.reached read.read.scans read.read.within (of_table_here t.grow grow old.grow line grow_is read.trace_grow read.read.of_table)
-    (each t led.opened led.s grow_is wired lawful at))))
-    (λ late. inr (unjudged t text old new now feeds grow line same why firings rounds grow_is led read late))
+    (each t inputs led.opened led.s grow_is wired lawful at))))
+    (λ late. inr (unjudged t text inputs old new now feeds grow line same why grow_is led read late))
     fails
 
 -- what is judged is judged, or is a growth that isn't
@@ -373,17 +365,13 @@ judged_or_not t text (NotRun line why) judged = inl judged
 judged_or_not t text (ReadFault feed) judged = tt
 judged_or_not t text Memory judged = tt
 
-pub sources_ready : {X : Type 0} (now : Between X) (links : List Link) (grow : ℕ) → CanGoOn now links grow → HaveSources now.held.links now.sources now.feeds
-sources_ready now links grow ready = subst (λ ls. HaveSources ls now.sources now.feeds) (sym ready.links_are) ready.sources
-
-pub is_next : {X : Type 0} (old new : Trace) (now : Between X) (feeds : Inputs) (links : List Link) (grow : ℕ) (line : Line) (same : Bool) → old.grow ≡ grow → CanGoOn now links grow
+pub is_next : {X : Type 0} (old new : Trace) (now : Between X) (feeds : Inputs) (grow : ℕ) (line : Line) (same : Bool) → old.grow ≡ grow
     → PullsOnlyAt TRACE_FEED now.feeds feeds
     → IsRead line_feed old.grow old.lines.passed new.lines.passed (coming_on old.lines.bytes now.feeds TRACE_FEED) (coming_on new.lines.bytes feeds TRACE_FEED) line same
     → new.count ≡ old.count + 1 → IsNext old new now feeds grow line same
-is_next old new now feeds links grow line same grow_is ready pulls read count = record {
+is_next old new now feeds grow line same grow_is pulls read count = record {
   expected = line_feed;
   trace_grow = grow_is;
-  sources = sources_ready now links grow ready;
   pulls = pulls;
   read = read;
   count = count;
@@ -394,28 +382,6 @@ pub fault_over : (T U : Type 0) (fault : ReplayFault) (P Q : Type 0) → (P → 
 fault_over T U (NotRun line why) P Q f h = tt
 fault_over T U (ReadFault feed) P Q f h = f h
 fault_over T U Memory P Q f h = tt
-
-pub fires_one : (line : Line) → fires line ≤ 1
-fires_one (Fire i a) = omega arith
-fires_one Deliver = omega arith
-fires_one (Grow l c) = omega arith
-fires_one (TrapLine i a c) = omega arith
-fires_one Quiet = omega arith
-fires_one (Stall i a l) = omega arith
-fires_one Budget = omega arith
-fires_one (FirstLine n l g) = omega arith
-fires_one (Inst k) = omega arith
-
-pub delivers_one : (line : Line) → delivers line ≤ 1
-delivers_one (Fire i a) = omega arith
-delivers_one Deliver = omega arith
-delivers_one (Grow l c) = omega arith
-delivers_one (TrapLine i a c) = omega arith
-delivers_one Quiet = omega arith
-delivers_one (Stall i a l) = omega arith
-delivers_one Budget = omega arith
-delivers_one (FirstLine n l g) = omega arith
-delivers_one (Inst k) = omega arith
 
 -- who names the trace names a feed of the run
 pub names_too : (links : List Link) (fault : ReplayFault) → NamesTrace fault → NamesFeed links fault

@@ -12,8 +12,7 @@ pub mod Tried
 pub mod Starting
 pub mod Onward
 pub mod Chained
-pub mod Delivered
-pub mod Filled
+pub mod Counted
 pub mod Settled
 pub mod Ended
 pub mod Widened

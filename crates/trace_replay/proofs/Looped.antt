@@ -13,14 +13,15 @@ use Rattle.net_model.specs.Wired.{IsWired}
 use Rattle.net_model.proofs.Keeping.{Since, SinceOpened, deliver_since, fire_since, fits_now}
 use Rattle.net_model.proofs.KeepingRuns.{set_is}
 use Rattle.trace_replay.specs.Between.{Between, CanGoOn, IsAt, Steps}
-use Rattle.port_files.specs.Coming.{EndIsTrue}
+use Rattle.port_files.specs.Coming.{EndIsTrue, Reading}
+use Rattle.net_state.specs.Held.{HoldFew}
+use Rattle.round_runner.specs.Running.{count_inputs, feed_of}
+use Rattle.network_runner.specs.Filling.{ReadersFit}
+use Rattle.trace_replay.specs.Counting.{FitLinks}
 use Rattle.net_state.specs.Working.{IsAtRest}
 use Rattle.trace_replay.specs.Ending.{CanGrow, HoldEnough}
-use Rattle.trace_replay.specs.Feeding.{HaveSources, IsSourceOf, count_inputs}
 use Rattle.trace_replay.specs.Trying.{AllWork}
 use Rattle.trace_replay.specs.declared.bytes.TheConstants.{TRACE_FEED}
-use Rattle.trace_replay.specs.declared.source.Source.{Source}
-use Rattle.trace_replay.proofs.Filled.{no_trace}
 use Rattle.trace_replay.specs.Judging.{AtEvents, MayCome, Trial}
 use Rattle.trace_replay.specs.Laws.{StartFits}
 use Rattle.trace_replay.proofs.Onward.{deliver_comes, fire_comes, trap_comes}
@@ -30,11 +31,11 @@ some_is : {A : Type 0} (x y : A) → Some x ≡ Some y → x ≡ y
 some_is x y e = cc
 
 -- what may be known of a state by what is kept of it
-flows_of : {X : Type 0} (net : Network X) (now : Between X) (opened s : State X) → IsAt net now opened s → HasFlows net s
-flows_of net now opened s at = at.stands.stands.now.stands.flows.count
+flows_of : {X : Type 0} (net : Network X) (inputs : List (List ℕ)) (now : Between X) (opened s : State X) → IsAt net inputs now opened s → HasFlows net s
+flows_of net inputs now opened s at = at.stands.stands.now.stands.flows.count
 
-opened_flows : {X : Type 0} (net : Network X) (now : Between X) (opened s : State X) → IsAt net now opened s → HasFlows net opened
-opened_flows net now opened s at = at.stands.stands.since.whole
+opened_flows : {X : Type 0} (net : Network X) (inputs : List (List ℕ)) (now : Between X) (opened s : State X) → IsAt net inputs now opened s → HasFlows net opened
+opened_flows net inputs now opened s at = at.stands.stands.since.whole
 
 grown_more : (n limit capacity : ℕ) → n < limit → capacity ≡ min (2 * n) limit → n ≤ capacity
 grown_more n limit capacity below doubled = subst (λ k. n ≤ k) (sym doubled) (Rattle.trace_replay.proofs.Widened.doubled_more n limit below)
@@ -60,16 +61,16 @@ delivery_is net s next true untrapped goes_so = cc
 delivery_is net s next false untrapped goes_so = some_is (after_delivery net s) next goes_so
 
 -- A line that steps may come, and the links still hold what they may.
-pub steps_come : {X : Type 0} (t : Trial X) (now : Between X) (opened s next : State X) (line : Line) → IsWired t.net → AreLawful t.net → IsAt t.net now opened s → Since t.net opened s
+pub steps_come : {X : Type 0} (t : Trial X) (inputs : List (List ℕ)) (now : Between X) (opened s next : State X) (line : Line) → IsWired t.net → AreLawful t.net → IsAt t.net inputs now opened s → Since t.net opened s
     → Steps t opened s line next → MayCome t opened s line next
-steps_come t now opened s next (Fire i a) wired lawful at since steps = fire_comes t opened s next i a wired lawful since steps.is_due steps.goes_so
-steps_come t now opened s next Deliver wired lawful at since steps =
+steps_come t inputs now opened s next (Fire i a) wired lawful at since steps = fire_comes t opened s next i a wired lawful since steps.is_due steps.goes_so
+steps_come t inputs now opened s next Deliver wired lawful at since steps =
     subst (MayCome t opened s Deliver) (delivery_is t.net s next s.trapped at.stands.stands.now.stands.untrapped steps.goes_so)
-    (deliver_comes t opened s at.stands.stands.now.stands.untrapped (flows_of t.net now opened s at) (opened_flows t.net now opened s at) since)
-steps_come t now opened s next (TrapLine i a c) wired lawful at since steps =
+    (deliver_comes t opened s at.stands.stands.now.stands.untrapped (flows_of t.net inputs now opened s at) (opened_flows t.net inputs now opened s at) since)
+steps_come t inputs now opened s next (TrapLine i a c) wired lawful at since steps =
     let comes : MayCome t opened s (TrapLine i a c) (record s { trapped = true }) = trap_comes t opened s i a c at.stands.stands.now.stands.untrapped since steps.is_due in
     subst (MayCome t opened s (TrapLine i a c)) (some_is (record s { trapped = true }) next (sym comes.goes_so ∙ steps.goes_so)) comes
-steps_come t now opened s next (Grow l capacity) wired lawful at since steps =
+steps_come t inputs now opened s next (Grow l capacity) wired lawful at since steps =
     let to : Grown s next l capacity = grown_is s next l capacity (slice_get s.flows l) refl steps.goes_so in
     let more : capacity_of (slice_get s.flows l) ≤ capacity = grown_more (capacity_of (slice_get s.flows l)) t.grow capacity steps.is_true.below steps.is_true.doubled in
     record {
@@ -78,46 +79,46 @@ steps_come t now opened s next (Grow l capacity) wired lawful at since steps =
       trap_fits = tt;
       fits = fits_now t.net opened next (grow_since t.net opened s next l capacity more to since);
     }
-steps_come t now opened s next Quiet wired lawful at since steps = record {
+steps_come t inputs now opened s next Quiet wired lawful at since steps = record {
   true_there = steps.is_true;
   goes_so = steps.goes_so;
   trap_fits = tt;
   fits = let same : s ≡ next = some_is s next steps.goes_so in subst (λ u. FitFlows t.net.links opened.flows u.flows) same (fits_now t.net opened s since);
 }
-steps_come t now opened s next (Stall i a l) wired lawful at since steps = record {
+steps_come t inputs now opened s next (Stall i a l) wired lawful at since steps = record {
   true_there = steps.is_true;
   goes_so = steps.goes_so;
   trap_fits = tt;
   fits = let same : s ≡ next = some_is s next steps.goes_so in subst (λ u. FitFlows t.net.links opened.flows u.flows) same (fits_now t.net opened s since);
 }
-steps_come t now opened s next Budget wired lawful at since steps = record {
+steps_come t inputs now opened s next Budget wired lawful at since steps = record {
   true_there = steps.is_true;
   goes_so = steps.goes_so;
   trap_fits = tt;
   fits = let same : s ≡ next = some_is s next steps.goes_so in subst (λ u. FitFlows t.net.links opened.flows u.flows) same (fits_now t.net opened s since);
 }
-steps_come t now opened s next (FirstLine n l g) wired lawful at since steps = absurd steps.is_true
-steps_come t now opened s next (Inst k) wired lawful at since steps = absurd steps.is_true
+steps_come t inputs now opened s next (FirstLine n l g) wired lawful at since steps = absurd steps.is_true
+steps_come t inputs now opened s next (Inst k) wired lawful at since steps = absurd steps.is_true
 
-pub steps_since : {X : Type 0} (t : Trial X) (now : Between X) (opened s next : State X) (line : Line) → IsWired t.net → AreLawful t.net → IsAt t.net now opened s → Since t.net opened s
+pub steps_since : {X : Type 0} (t : Trial X) (inputs : List (List ℕ)) (now : Between X) (opened s next : State X) (line : Line) → IsWired t.net → AreLawful t.net → IsAt t.net inputs now opened s → Since t.net opened s
     → Steps t opened s line next → Rattle.trace_replay.specs.Judging.is_end line ≡ false → Since t.net (opened_by line opened next) next
-steps_since t now opened s next (Fire i a) wired lawful at since steps on = fire_since t.net opened s next i a wired lawful since steps.is_due steps.goes_so
-steps_since t now opened s next Deliver wired lawful at since steps on =
+steps_since t inputs now opened s next (Fire i a) wired lawful at since steps on = fire_since t.net opened s next i a wired lawful since steps.is_due steps.goes_so
+steps_since t inputs now opened s next Deliver wired lawful at since steps on =
     subst (λ u. Since t.net u u) (delivery_is t.net s next s.trapped at.stands.stands.now.stands.untrapped steps.goes_so)
-    (deliver_since t.net opened s (flows_of t.net now opened s at) (opened_flows t.net now opened s at) since)
-steps_since t now opened s next (Grow l capacity) wired lawful at since steps on =
+    (deliver_since t.net opened s (flows_of t.net inputs now opened s at) (opened_flows t.net inputs now opened s at) since)
+steps_since t inputs now opened s next (Grow l capacity) wired lawful at since steps on =
     let to : Grown s next l capacity = grown_is s next l capacity (slice_get s.flows l) refl steps.goes_so in
     grow_since t.net opened s next l capacity (grown_more (capacity_of (slice_get s.flows l)) t.grow capacity steps.is_true.below steps.is_true.doubled) to since
-steps_since t now opened s next (TrapLine i a c) wired lawful at since steps on = cc
-steps_since t now opened s next Quiet wired lawful at since steps on = cc
-steps_since t now opened s next (Stall i a l) wired lawful at since steps on = cc
-steps_since t now opened s next Budget wired lawful at since steps on = cc
-steps_since t now opened s next (FirstLine n l g) wired lawful at since steps on = absurd steps.is_true
-steps_since t now opened s next (Inst k) wired lawful at since steps on = absurd steps.is_true
+steps_since t inputs now opened s next (TrapLine i a c) wired lawful at since steps on = cc
+steps_since t inputs now opened s next Quiet wired lawful at since steps on = cc
+steps_since t inputs now opened s next (Stall i a l) wired lawful at since steps on = cc
+steps_since t inputs now opened s next Budget wired lawful at since steps on = cc
+steps_since t inputs now opened s next (FirstLine n l g) wired lawful at since steps on = absurd steps.is_true
+steps_since t inputs now opened s next (Inst k) wired lawful at since steps on = absurd steps.is_true
 
 -- at the start of a run
-pub start_since : {X : Type 0} (t : Trial X) (now : Between X) → IsAt t.net now t.start t.start → StartFits t → Since t.net t.start t.start
-start_since t now at fits l link before flow at_link then_ here =
+pub start_since : {X : Type 0} (t : Trial X) (inputs : List (List ℕ)) (now : Between X) → IsAt t.net inputs now t.start t.start → StartFits t → Since t.net t.start t.start
+start_since t inputs now at fits l link before flow at_link then_ here =
     let same : before ≡ flow = some_is before flow (sym then_ ∙ here) in
     subst (SinceOpened link before) same (record {
       arrived_then = λ inner. (at.stands.stands.since.each l link before before at_link inner then_ then_).all_arrived;
@@ -142,26 +143,29 @@ start_since t now at fits l link before flow at_link then_ here =
 
 -- A line read from the trace's feed leaves what is to come on the others.
 
-sources_pulled : (links : List Link) (sources : List (Option Source)) (a b : Inputs) → PullsOnlyAt TRACE_FEED a b → HaveSources links sources a → HaveSources links sources b
-sources_pulled links sources a b pulls have = record {
-  count = have.count;
-  each = λ l link source at here.
-      let was : IsSourceOf links l link source a = have.each l link source at here in
-      record {
-        input = was.input;
-        feed = was.feed;
-        is_open = pulls.same_open source.feed ∙ was.is_open;
-        same_feed = subst (EndIsTrue source.tokens) (sym (pulls.same_left source.feed (λ same. no_trace (count_inputs (take l links)) (sym same ∙ was.feed)))) was.same_feed;
-      };
+-- no input link has the trace's feed
+pub no_trace : (n : ℕ) → TRACE_FEED ≡ suc n → ⊥
+no_trace n same = absurd (omega (arith, same))
+
+readers_pulled : (links : List Link) (readings : List (Option Reading)) (a b : Inputs) → PullsOnlyAt TRACE_FEED a b → ReadersFit links readings a → ReadersFit links readings b
+readers_pulled links readings a b pulls fit = record {
+  count = fit.count;
+  inputs = fit.inputs;
+  open_feeds = λ l reading here. pulls.same_open (feed_of links l) ∙ fit.open_feeds l reading here;
+  same_feeds = λ l reading here.
+      subst (EndIsTrue reading) (sym (pulls.same_left (feed_of links l) (λ same. no_trace (count_inputs (take l links)) (sym same)))) (fit.same_feeds l reading here);
 }
 
-pub ready_pulled : {X : Type 0} (now next : Between X) (links : List Link) (grow : ℕ) → next.held ≡ now.held → next.sources ≡ now.sources → next.rested ≡ now.rested
-    → PullsOnlyAt TRACE_FEED now.feeds next.feeds → CanGoOn now links grow → CanGoOn next links grow
-ready_pulled now next links grow held sources rested pulls ready = record {
+pub ready_pulled : {X : Type 0} (now next : Between X) (links : List Link) (came grow : ℕ) → next.held ≡ now.held → next.readings ≡ now.readings → next.numbers ≡ now.numbers → next.rested ≡ now.rested
+    → PullsOnlyAt TRACE_FEED now.feeds next.feeds → CanGoOn now links came grow → CanGoOn next links came grow
+ready_pulled now next links came grow held readings numbers rested pulls ready = record {
   links_are = ap (λ h. h.links) held ∙ ready.links_are;
   few = ready.few;
+  few_held = subst (λ h. HoldFew h.capacities) (sym held) ready.few_held;
   work = subst (λ h. AllWork h.cells) (sym held) ready.work;
-  sources = subst (λ xs. HaveSources links xs next.feeds) (sym sources) (sources_pulled links now.sources now.feeds next.feeds pulls ready.sources);
+  readers = subst (λ xs. ReadersFit links xs next.feeds) (sym readings) (readers_pulled links now.readings now.feeds next.feeds pulls ready.readers);
+  came_for_each = ready.came_for_each;
+  numbers = subst (FitLinks links) (sym numbers) ready.numbers;
   queues = subst (λ h. CanGrow grow h.cells links) (sym held) ready.queues;
   enough = subst (λ h. HoldEnough links h.capacities) (sym held) ready.enough;
   rest = λ e. subst IsAtRest (sym held) (ready.rest (sym rested ∙ e));

@@ -1,82 +1,69 @@
 -- What a line does to a network between two lines.
-use Rattle.std.proofs.Common.{◌≡◌, ℕ, zero, suc, ◌≤◌, Bool, true, false, List, [], ◌∷◌, ◌++◌, ℤ, drop, refl, sym, ap, subst, ◌∙◌, inl, ⊎_elim, arith, append-nil}
+use Rattle.std.proofs.Common.{◌≡◌, ℕ, ◌≤◌, Bool, true, false, List, length, refl, sym, ap, subst, ◌∙◌, inl, ⊎_elim, arith}
 use Rattle.std.specs.Prelude.{Option, None, Some, slice_get, slice_set}
 use Rattle.rvc_base.specs.declared.trap.Trap.{Trap as TrapName}
 use Rattle.rvc_io.specs.Feeds.{Inputs}
+use Rattle.port_files.specs.Coming.{Reading}
 use Rattle.trace_text.specs.declared.line.Line.{Line}
 use Rattle.trace_text.specs.declared.line.Line.TheVariants.{Header as FirstLine, Inst, Fire, Deliver, Grow, Quiet, Trap as TrapLine, Stall, Budget}
+use Rattle.net_model.specs.declared.wiring.Counts.{Counts}
 use Rattle.net_model.specs.declared.wiring.End.{End}
 use Rattle.net_model.specs.declared.wiring.End.TheVariants.{Leaf as AtLeaf, Net as AtNet}
 use Rattle.net_model.specs.declared.wiring.Link.{Link}
 use Rattle.net_model.specs.Network.{Network, is_input, is_outside}
 use Rattle.net_model.specs.State.{Flow, State, effect_at, give_of, need_of, untaken}
 use Rattle.net_model.specs.Ends.{Grows, IsStalled, LacksOn, all_fed, with_rest}
-use Rattle.net_model.specs.Event.{Fire as FireEvent, after_firing, each_flow, happens, sent_on, trap}
+use Rattle.net_model.specs.Event.{Fire as FireEvent, after_firing, happens, trap}
 use Rattle.net_model.specs.Trace.{after_delivery, grown}
 use Rattle.net_model.specs.Cell.{Cell}
 use Rattle.net_model.proofs.Commuting.{Fired, fired_unless}
 use Rattle.net_model.proofs.Keeping.{Changed, changed}
 use Rattle.net_model.proofs.KeepingRuns.{set_is}
-use Rattle.net_state.specs.Held.{Held}
+use Rattle.net_state.specs.declared.filling.Filled.{Filled}
+use Rattle.net_state.specs.Held.{Held, HoldFew}
 use Rattle.net_state.specs.Moving.{SameActors, SameMarks}
-use Rattle.net_state.specs.Standing.{StandsSince, unarrived}
+use Rattle.net_state.specs.Standing.{StandsSince}
 use Rattle.net_state.specs.Working.{IsAtRest}
-use Rattle.trace_replay.specs.Between.{CanGoOn, EndsBy, FailsBy, GoesBy, IsAt, OnEnds, Steps, is_still_end}
+use Rattle.network_runner.specs.Counting.{IsToPort}
+use Rattle.network_runner.specs.Delivering.{Delivers}
+use Rattle.network_runner.specs.Filling.{IsFeedOf as IsFeedOfReader, ReadersFit}
+use Rattle.network_runner.proofs.Flowing.{fire_gone, grown_tokens}
+use Rattle.network_runner.proofs.Leaving.{fed_still}
+use Rattle.network_runner.proofs.Numbers.{arrived_long, rests_long, sent_long}
+use Rattle.trace_replay.specs.Between.{CanGoOn, CountsBy, CountsEnd, EndsBy, FailsBy, GoesBy, IsAt, IfFails, OnEnds, Steps, is_still_end}
+use Rattle.trace_replay.specs.Counting.{AreFewCounted, CatchesUp, CountsDelivery, CountsFiring, FitLinks}
 use Rattle.trace_replay.specs.Ending.{EndsNotSo, EndsSo, GrowsNotSo, GrowsSo, HoldEnough, IsTrueEnd}
-use Rattle.trace_replay.specs.Feeding.{ComesBy, DeliversAll, HaveSources}
-use Rattle.trace_replay.specs.Judging.{EventFails, TrapComes, Trial}
+use Rattle.trace_replay.specs.Feeding.{IsFeedOf}
+use Rattle.trace_replay.specs.Judging.{EventFails, TrapComes, Trial, is_end}
 use Rattle.trace_replay.specs.Trying.{AllWork, FiresOn, TrapsNotSo, TrapsSo}
 use Rattle.trace_replay.specs.declared.came.Came.{Came}
 use Rattle.trace_replay.specs.declared.came.Came.TheVariants.{Goes, Ends, Fails, FeedFails}
-use Rattle.trace_replay.specs.declared.source.Source.{Source}
+use Rattle.trace_replay.specs.declared.why.Why.{Why}
 use Rattle.trace_replay.specs.declared.why.Why.TheVariants.{End as EndIs, Trap}
-use Rattle.trace_replay.proofs.Ended.{fed_after, fits_after, untrapped_after}
+use Rattle.trace_replay.proofs.Chained.{There, there}
+use Rattle.trace_replay.proofs.Counted.{delivery_counts, end_counts, firing_counts, growth_counts, tokens_gone}
+use Rattle.trace_replay.proofs.Ended.{fits_after, untrapped_after}
 use Rattle.trace_replay.proofs.Onward.{trap_goes, unless_trapped, untrapped_goes}
 use Rattle.trace_replay.proofs.Traces.{next_of}
 use Rattle.trace_replay.proofs.Widened.{can_grow_after}
 
--- A firing: from outside nothing comes, and nothing is lost.
+-- A firing: from outside nothing comes.
 
-sends_none : (i : ℕ) (sent : List (List ℤ)) (link : Link) (end : End) → is_outside end ≡ true → sent_on i sent link end ≡ []
-sends_none i sent link (AtLeaf inst port) out = cc
-sends_none i sent link (AtNet port) out = refl
-
-pub same_unarrived : {X : Type 0} (s next : State X) (m : ℕ) (link : Link) (source : Option (Option Source)) (feeds : Inputs)
-    → unarrived (slice_get next.flows m) ≡ unarrived (slice_get s.flows m) → ComesBy s m link source feeds → ComesBy next m link source feeds
-same_unarrived s next m link None feeds same comes = absurd comes
-same_unarrived s next m link (Some None) feeds same comes = same ∙ comes
-same_unarrived s next m link (Some (Some one)) feeds same (ts, to_come, is) = (ts, to_come, same ∙ is)
-
-fired_unarrived : (change : Link → Flow → Flow) (links : List Link) (flows : List Flow) (m : ℕ) (link : Link) → slice_get links m ≡ Some link
-    → ((flow : Flow) → drop (change link flow).arrived (change link flow).sent ≡ drop flow.arrived flow.sent)
-    → unarrived (slice_get (each_flow change links flows) m) ≡ unarrived (slice_get flows m)
-fired_unarrived change [] flows m link at same = cc
-fired_unarrived change (first ∷ links) [] m link at same = refl
-fired_unarrived change (first ∷ links) (flow ∷ flows) zero link at same =
-    let is : link ≡ first = cc in
-    subst (λ l. drop (change l flow).arrived (change l flow).sent ≡ drop flow.arrived flow.sent) is (same flow)
-fired_unarrived change (first ∷ links) (flow ∷ flows) (suc m) link at same = fired_unarrived change links flows m link at same
-
-pub fired_goes : {X : Type 0} (grow i a : ℕ) (held new : Held (Cell X)) (sources : List (Option Source)) (rested : Bool) (feeds : Inputs) → FiresOn i a held new
-    → GoesBy grow (Fire i a) (record { held = held; sources = sources; rested = rested; feeds = feeds }) (record { held = new; sources = sources; rested = false; feeds = feeds })
-fired_goes {X} grow i a held new sources rested feeds fires t opened s same wired lawful at =
+pub fired_goes : {X : Type 0} (grow i a : ℕ) (held new : Held (Cell X)) (readings : List (Option Reading)) (numbers numbers_new : Counts) (rested : Bool) (feeds : Inputs) → FiresOn i a held new
+    → GoesBy grow (Fire i a) (record { held = held; readings = readings; numbers = numbers; rested = rested; feeds = feeds }) (record { held = new; readings = readings; numbers = numbers_new; rested = false; feeds = feeds })
+fired_goes {X} grow i a held new readings numbers numbers_new rested feeds fires t inputs opened s same wired lawful at =
     let both = fires t.net opened s at.stands.stands in
     next_of
-    ((next : State X) × Steps t opened s (Fire i a) next × IsAt t.net (record { held = new; sources = sources; rested = false; feeds = feeds }) opened next)
+    ((next : State X) × Steps t opened s (Fire i a) next × IsAt t.net inputs (record { held = new; readings = readings; numbers = numbers_new; rested = false; feeds = feeds }) opened next)
     (happens t.net s (FireEvent i a)) (λ next. StandsSince t.net new opened next)
     (λ u h stands.
-    let one : Fired t.net s u i a = fired_unless t.net s u i a s.trapped refl h in
-    let change : Link → Flow → Flow = after_firing i (need_of (slice_get t.net.leaves i) a) one.sent in (
+    let one : Fired t.net s u i a = fired_unless t.net s u i a s.trapped refl h in (
       u,
       record { is_true = tt; goes_so = h; is_due = both.0 },
       record {
         stands = record {
           stands = stands;
-          fed = λ m link at_link input. same_unarrived s u m link (slice_get sources m) feeds
-              (ap (λ w. unarrived (slice_get w.flows m)) (sym one.is)
-              ∙ fired_unarrived (after_firing i (need_of (slice_get t.net.leaves i) a) one.sent) t.net.links s.flows m link at_link
-              (λ flow. ap (λ more. drop flow.arrived (flow.sent ++ more)) (sends_none i one.sent link link.from input) ∙ ap (drop flow.arrived) (append-nil flow.sent)))
-              (at.stands.fed m link at_link input);
+          fed = fed_still t.net inputs s u 1 readings feeds at.stands.stands.now.stands.flows.count stands.now.stands.flows.count (fire_gone t.net wired lawful s u i a h) at.stands.fed;
         };
         fits = λ m link flow at_link here input.
             let was : Changed (after_firing i (need_of (slice_get t.net.leaves i) a) one.sent) s.flows m link flow =
@@ -88,15 +75,27 @@ fired_goes {X} grow i a held new sources rested feeds fires t opened s same wire
     ))
     both.1
 
-pub fired_ready : {X : Type 0} (grow : ℕ) (links : List Link) (held new : Held (Cell X)) (sources : List (Option Source)) (rested : Bool) (feeds : Inputs)
-    → AllWork new.cells → SameActors held.cells new.cells → new.links ≡ held.links → new.capacities ≡ held.capacities
-    → CanGoOn (record { held = held; sources = sources; rested = rested; feeds = feeds }) links grow
-    → CanGoOn (record { held = new; sources = sources; rested = false; feeds = feeds }) links grow
-fired_ready grow links held new sources rested feeds work same same_links same_capacities ready = record {
+pub fired_counts : {X : Type 0} (grow i a : ℕ) (held : Held (Cell X)) (readings : List (Option Reading)) (numbers numbers_new : Counts) (rested : Bool) (feeds : Inputs) → CountsFiring numbers numbers_new
+    → CountsBy grow (Fire i a) (record { held = held; readings = readings; numbers = numbers; rested = rested; feeds = feeds }) numbers_new
+fired_counts grow i a held readings numbers numbers_new rested feeds counts t inputs opened s same wired lawful at next h =
+    firing_counts t.net inputs held s next i a numbers numbers_new wired lawful at.stands.stands.now counts h
+
+pub fired_ready : {X : Type 0} (grow : ℕ) (links : List Link) (came : ℕ) (held new : Held (Cell X)) (readings : List (Option Reading)) (numbers numbers_new : Counts) (rested : Bool) (feeds : Inputs)
+    → CountsFiring numbers numbers_new → AllWork new.cells → SameActors held.cells new.cells → new.links ≡ held.links → new.capacities ≡ held.capacities
+    → CanGoOn (record { held = held; readings = readings; numbers = numbers; rested = rested; feeds = feeds }) links came grow
+    → CanGoOn (record { held = new; readings = readings; numbers = numbers_new; rested = false; feeds = feeds }) links came grow
+fired_ready grow links came held new readings numbers numbers_new rested feeds counts work same same_links same_capacities ready = record {
   links_are = same_links ∙ ready.links_are;
   few = ready.few;
+  few_held = subst HoldFew (sym same_capacities) ready.few_held;
   work = work;
-  sources = ready.sources;
+  readers = ready.readers;
+  came_for_each = ready.came_for_each;
+  numbers = record {
+    arrived = ap (λ v. length v.items) counts.arrived ∙ ready.numbers.arrived;
+    rests = ap (λ v. length v.items) counts.rests ∙ ready.numbers.rests;
+    ports = subst (λ v. IsToPort links (length v.items)) (sym counts.sent) ready.numbers.ports;
+  };
   queues = can_grow_after grow links held.cells new.cells same ready.queues;
   enough = subst (HoldEnough links) (sym same_capacities) ready.enough;
   rest = λ e. cc;
@@ -104,9 +103,9 @@ fired_ready grow links held new sources rested feeds work same same_links same_c
 
 -- A trap.
 
-pub trapped_ends : {X : Type 0} (grow i a : ℕ) (c : TrapName) (held : Held (Cell X)) (sources : List (Option Source)) (rested : Bool) (feeds : Inputs) → TrapsSo i a c held
-    → EndsBy grow (TrapLine i a c) (record { held = held; sources = sources; rested = rested; feeds = feeds })
-trapped_ends grow i a c held sources rested feeds traps t opened s same wired lawful at =
+pub trapped_ends : {X : Type 0} (grow i a : ℕ) (c : TrapName) (held : Held (Cell X)) (readings : List (Option Reading)) (numbers : Counts) (rested : Bool) (feeds : Inputs) → TrapsSo i a c held
+    → EndsBy grow (TrapLine i a c) (record { held = held; readings = readings; numbers = numbers; rested = rested; feeds = feeds })
+trapped_ends grow i a c held readings numbers rested feeds traps t inputs opened s same wired lawful at =
     let comes : TrapComes t.net opened s i a (effect_at t.net s i a) c = traps t.net opened s at.stands.stands in (
       record s { trapped = true },
       record {
@@ -117,42 +116,97 @@ trapped_ends grow i a c held sources rested feeds traps t opened s same wired la
       },
     )
 
-pub untrapped_fails : {X : Type 0} (grow i a : ℕ) (c : TrapName) (held : Held (Cell X)) (sources : List (Option Source)) (rested : Bool) (feeds : Inputs) → TrapsNotSo i a c held
-    → FailsBy grow (TrapLine i a c) (record { held = held; sources = sources; rested = rested; feeds = feeds }) Trap
-untrapped_fails grow i a c held sources rested feeds traps_not = inl (λ t opened s same wired lawful at. (refl, traps_not t.net opened s at.stands.stands))
+pub untrapped_fails : {X : Type 0} (grow i a : ℕ) (c : TrapName) (held : Held (Cell X)) (readings : List (Option Reading)) (numbers : Counts) (rested : Bool) (feeds : Inputs) → TrapsNotSo i a c held
+    → FailsBy grow (TrapLine i a c) (record { held = held; readings = readings; numbers = numbers; rested = rested; feeds = feeds }) Trap
+untrapped_fails grow i a c held readings numbers rested feeds traps_not = inl (λ t inputs opened s same wired lawful at. (refl, traps_not t.net opened s at.stands.stands))
+
+-- .. and what was sent is counted
+pub over_counts : {X : Type 0} (grow : ℕ) (line : Line) (links : List Link) (held : Held (Cell X)) (readings : List (Option Reading)) (numbers numbers_new : Counts) (rested : Bool) (feeds : Inputs)
+    → held.links ≡ links → is_end line ≡ true → AreFewCounted numbers → CatchesUp held.cells links numbers numbers_new
+    → CountsEnd grow line (record { held = held; readings = readings; numbers = numbers; rested = rested; feeds = feeds }) numbers_new
+over_counts grow line links held readings numbers numbers_new rested feeds links_are over few catches t inputs opened s same wired lawful at next h =
+    end_counts t.net inputs held s next line numbers numbers_new wired lawful at.stands.stands.now over few.firings
+    (subst (λ ls. CatchesUp held.cells ls numbers numbers_new) (sym (at.stands.stands.now.is_of.links_are ∙ links_are)) catches) h
+
+pub is_over : (line : Line) → is_still_end line ≡ true → is_end line ≡ true
+is_over Quiet still = refl
+is_over (Stall i a l) still = refl
+is_over Budget still = refl
+is_over (TrapLine i a c) still = refl
+is_over (FirstLine n l g) still = cc
+is_over (Inst k) still = cc
+is_over (Fire i a) still = cc
+is_over Deliver still = cc
+is_over (Grow l c) still = cc
 
 -- A delivery.
 
-pub delivered_goes : {X : Type 0} (grow : ℕ) (held new : Held (Cell X)) (sources sources_new : List (Option Source)) (rested : Bool) (feeds feeds_new : Inputs)
-    → DeliversAll held new sources sources_new feeds feeds_new
-    → GoesBy grow Deliver (record { held = held; sources = sources; rested = rested; feeds = feeds }) (record { held = new; sources = sources_new; rested = true; feeds = feeds_new })
-delivered_goes grow held new sources sources_new rested feeds feeds_new delivers t opened s same wired lawful at = (
-  after_delivery t.net s,
-  record {
-    is_true = tt;
-    goes_so = untrapped_goes t.net s s.trapped at.stands.stands.now.stands.untrapped;
-    is_due = tt;
-  },
-  record {
-    stands = delivers t.net opened s at.stands;
-    fits = fits_after t.net held s wired at.stands.stands.now at.fits;
-    fed = λ e. fed_after t.net held s wired at.stands.stands.now at.fits;
-  },
-)
+pub delivered_goes : {X : Type 0} (grow : ℕ) (held new : Held (Cell X)) (readings readings_new : List (Option Reading)) (numbers numbers_new : Counts) (rested : Bool) (feeds feeds_new : Inputs) (came : List Filled)
+    → Delivers held new readings readings_new feeds feeds_new came
+    → GoesBy grow Deliver (record { held = held; readings = readings; numbers = numbers; rested = rested; feeds = feeds }) (record { held = new; readings = readings_new; numbers = numbers_new; rested = true; feeds = feeds_new })
+delivered_goes grow held new readings readings_new numbers numbers_new rested feeds feeds_new came delivers t inputs opened s same wired lawful at =
+    let made = delivers.states t.net inputs s at.stands.stands.now wired at.stands.fed in (
+      after_delivery t.net s,
+      record {
+        is_true = tt;
+        goes_so = untrapped_goes t.net s s.trapped at.stands.stands.now.stands.untrapped;
+        is_due = tt;
+      },
+      record {
+        stands = record { stands = made.stands; fed = made.fed };
+        fits = fits_after t.net held s wired at.stands.stands.now at.fits;
+        fed = λ e. made.all;
+      },
+    )
 
-pub delivered_ready : {X : Type 0} (grow : ℕ) (links : List Link) (held new : Held (Cell X)) (sources sources_new : List (Option Source)) (rested : Bool) (feeds feeds_new : Inputs)
-    → HaveSources links sources_new feeds_new → IsAtRest new → SameActors held.cells new.cells → SameMarks held.cells new.cells → new.links ≡ held.links → new.capacities ≡ held.capacities
-    → CanGoOn (record { held = held; sources = sources; rested = rested; feeds = feeds }) links grow
-    → CanGoOn (record { held = new; sources = sources_new; rested = true; feeds = feeds_new }) links grow
-delivered_ready grow links held new sources sources_new rested feeds feeds_new have rest same marks same_links same_capacities ready = record {
+pub delivered_counts : {X : Type 0} (grow : ℕ) (links : List Link) (held new : Held (Cell X)) (readings readings_new : List (Option Reading)) (numbers caught numbers_new : Counts) (rested : Bool) (feeds feeds_new : Inputs) (came : List Filled)
+    → Delivers held new readings readings_new feeds feeds_new came → held.links ≡ links → AreFewCounted numbers → HoldFew held.capacities
+    → CatchesUp held.cells links numbers caught → CountsDelivery came caught numbers_new
+    → CountsBy grow Deliver (record { held = held; readings = readings; numbers = numbers; rested = rested; feeds = feeds }) numbers_new
+delivered_counts grow links held new readings readings_new numbers caught numbers_new rested feeds feeds_new came delivers links_are few few_held catches counts t inputs opened s same wired lawful at next h =
+    let made = delivers.states t.net inputs s at.stands.stands.now wired at.stands.fed in
+    delivery_counts t.net inputs held new s wired lawful at.stands.stands.now numbers caught numbers_new came few few_held
+    (subst (λ ls. CatchesUp held.cells ls numbers caught) (sym (at.stands.stands.now.is_of.links_are ∙ links_are)) catches) counts made.stands.now made.told next h
+
+fit_caught : {X : Type 0} (cells : List (Cell X)) (links : List Link) (old new : Counts) → CatchesUp cells links old new → FitLinks links old → FitLinks links new
+fit_caught cells links old new catches fit = record {
+  arrived = ap (λ v. length v.items) catches.arrived ∙ fit.arrived;
+  rests = ap (λ v. length v.items) catches.rests ∙ fit.rests;
+  ports = subst (IsToPort links) (sym (ap (λ xs. length xs) catches.sent ∙ sent_long cells links old.sent.items)) fit.ports;
+}
+
+pub fit_delivered : {X : Type 0} (cells : List (Cell X)) (links : List Link) (came : List Filled) (old caught new : Counts) → CatchesUp cells links old caught → CountsDelivery came caught new → FitLinks links old → FitLinks links new
+fit_delivered cells links came old caught new catches counts fit =
+    let now : FitLinks links caught = fit_caught cells links old caught catches fit in
+    record {
+      arrived = ap (λ xs. length xs) counts.arrived ∙ (arrived_long came caught.arrived.items ∙ now.arrived);
+      rests = ap (λ xs. length xs) counts.rests ∙ (rests_long came caught.rests.items ∙ now.rests);
+      ports = subst (λ v. IsToPort links (length v.items)) (sym counts.sent) now.ports;
+    }
+
+pub delivered_ready : {X : Type 0} (grow : ℕ) (links : List Link) (came came_new : ℕ) (held new : Held (Cell X)) (readings readings_new : List (Option Reading)) (numbers numbers_new : Counts) (rested : Bool) (feeds feeds_new : Inputs)
+    → ReadersFit links readings_new feeds_new → came_new ≡ came → FitLinks links numbers_new → IsAtRest new → SameActors held.cells new.cells → SameMarks held.cells new.cells → new.links ≡ held.links
+    → new.capacities ≡ held.capacities
+    → CanGoOn (record { held = held; readings = readings; numbers = numbers; rested = rested; feeds = feeds }) links came grow
+    → CanGoOn (record { held = new; readings = readings_new; numbers = numbers_new; rested = true; feeds = feeds_new }) links came_new grow
+delivered_ready grow links came came_new held new readings readings_new numbers numbers_new rested feeds feeds_new fit came_is counted rest same marks same_links same_capacities ready = record {
   links_are = same_links ∙ ready.links_are;
   few = ready.few;
+  few_held = subst HoldFew (sym same_capacities) ready.few_held;
   work = untrapped_after held.cells new.cells same marks ready.work;
-  sources = have;
+  readers = fit;
+  came_for_each = came_is ∙ ready.came_for_each;
+  numbers = counted;
   queues = can_grow_after grow links held.cells new.cells same ready.queues;
   enough = subst (HoldEnough links) (sym same_capacities) ready.enough;
   rest = λ e. rest;
 }
+
+-- the feed of a link that has a reader
+pub feed_named : (links : List Link) (readings : List (Option Reading)) (feeds : Inputs) (feed : ℕ) → ReadersFit links readings feeds → IsFeedOfReader links readings feed → IsFeedOf links feed
+feed_named links readings feeds feed fit named =
+    let at : There links named.0 = there readings links named.0 (Some named.1) (sym fit.count) named.2 in
+    (named.0, at.item, at.at, fit.inputs named.0 at.item named.1 at.at named.2, named.3)
 
 -- End lines.
 
@@ -167,10 +221,10 @@ end_steps t opened s (Fire i a) h = absurd h
 end_steps t opened s Deliver h = absurd h
 end_steps t opened s (Grow l c) h = absurd h
 
-pub ended_ends : {X : Type 0} (grow : ℕ) (line : Line) (held : Held (Cell X)) (sources : List (Option Source)) (rested : Bool) (feeds : Inputs) → EndsSo grow line held sources feeds
-    → EndsBy grow line (record { held = held; sources = sources; rested = rested; feeds = feeds })
-ended_ends grow line held sources rested feeds ends t opened s same wired lawful at =
-    (s, end_steps t opened s line (subst (λ g. IsTrueEnd t.net g s line) (sym same) (ends t.net opened s at.stands wired lawful at.fits)))
+pub ended_ends : {X : Type 0} (grow : ℕ) (line : Line) (held : Held (Cell X)) (readings : List (Option Reading)) (numbers : Counts) (rested : Bool) (feeds : Inputs) → EndsSo grow line held readings feeds
+    → EndsBy grow line (record { held = held; readings = readings; numbers = numbers; rested = rested; feeds = feeds })
+ended_ends grow line held readings numbers rested feeds ends t inputs opened s same wired lawful at =
+    (s, end_steps t opened s line (subst (λ g. IsTrueEnd t.net g s line) (sym same) (ends t.net inputs opened s at.stands wired lawful at.fits)))
 
 end_fails : {X : Type 0} (t : Trial X) (opened s : State X) (line : Line) → is_still_end line ≡ true → (IsTrueEnd t.net t.grow s line → ⊥) → EventFails t opened s line EndIs
 end_fails t opened s Quiet still not_so = (refl, not_so)
@@ -183,10 +237,10 @@ end_fails t opened s (Fire i a) still not_so = cc
 end_fails t opened s Deliver still not_so = cc
 end_fails t opened s (Grow l c) still not_so = cc
 
-pub not_ended_fails : {X : Type 0} (grow : ℕ) (line : Line) (held : Held (Cell X)) (sources : List (Option Source)) (rested : Bool) (feeds : Inputs) → is_still_end line ≡ true
-    → EndsNotSo grow line held sources feeds → FailsBy grow line (record { held = held; sources = sources; rested = rested; feeds = feeds }) EndIs
-not_ended_fails grow line held sources rested feeds still ends_not = inl (λ t opened s same wired lawful at.
-    end_fails t opened s line still (λ h. ends_not t.net opened s at.stands wired lawful at.fits (subst (λ g. IsTrueEnd t.net g s line) same h)))
+pub not_ended_fails : {X : Type 0} (grow : ℕ) (line : Line) (held : Held (Cell X)) (readings : List (Option Reading)) (numbers : Counts) (rested : Bool) (feeds : Inputs) → is_still_end line ≡ true
+    → EndsNotSo grow line held readings feeds → FailsBy grow line (record { held = held; readings = readings; numbers = numbers; rested = rested; feeds = feeds }) EndIs
+not_ended_fails grow line held readings numbers rested feeds still ends_not = inl (λ t inputs opened s same wired lawful at.
+    end_fails t opened s line still (λ h. ends_not t.net inputs opened s at.stands wired lawful at.fits (subst (λ g. IsTrueEnd t.net g s line) same h)))
 
 -- The growth of a link.
 
@@ -213,14 +267,6 @@ grown_is s t l capacity (Some flow) here h = record { flow = flow; here = here; 
     some_is : {A : Type 0} (x y : A) → Some x ≡ Some y → x ≡ y
     some_is x y e = cc
 
-set_unarrived : (flows : List Flow) (l capacity m : ℕ) (flow : Flow) → slice_get flows l ≡ Some flow
-    → unarrived (slice_get (slice_set flows l (record flow { capacity = capacity })) m) ≡ unarrived (slice_get flows m)
-set_unarrived [] l capacity m flow here = refl
-set_unarrived (first ∷ flows) zero capacity zero flow here = let is : first ≡ flow = cc in ap (λ f. drop f.arrived f.sent) (sym is)
-set_unarrived (first ∷ flows) zero capacity (suc m) flow here = refl
-set_unarrived (first ∷ flows) (suc l) capacity zero flow here = refl
-set_unarrived (first ∷ flows) (suc l) capacity (suc m) flow here = set_unarrived flows l capacity m flow here
-
 -- on an input link nothing changes
 input_still : {X : Type 0} (net : Network X) (s next : State X) (grow l capacity m : ℕ) (link : Link) (flow : Flow) → Grows net grow s l capacity → Grown s next l capacity
     → slice_get net.links m ≡ Some link → slice_get next.flows m ≡ Some flow → is_input link ≡ true → slice_get s.flows m ≡ Some flow
@@ -230,12 +276,12 @@ input_still net s next grow l capacity m link flow grows to at here input = ⊎_
     let clash : true ≡ false = sym input ∙ inner in cc)
     (set_is s.flows l (record to.flow { capacity = capacity }) m flow (ap (λ w. slice_get w.flows m) to.is ∙ here))
 
-pub grown_goes : {X : Type 0} (grow l capacity : ℕ) (held new : Held (Cell X)) (sources : List (Option Source)) (feeds : Inputs) → GrowsSo grow l capacity held new
-    → GoesBy grow (Grow l capacity) (record { held = held; sources = sources; rested = true; feeds = feeds }) (record { held = new; sources = sources; rested = true; feeds = feeds })
-grown_goes {X} grow l capacity held new sources feeds grows t opened s same wired lawful at =
+pub grown_goes : {X : Type 0} (grow l capacity : ℕ) (held new : Held (Cell X)) (readings : List (Option Reading)) (numbers : Counts) (feeds : Inputs) → GrowsSo grow l capacity held new
+    → GoesBy grow (Grow l capacity) (record { held = held; readings = readings; numbers = numbers; rested = true; feeds = feeds }) (record { held = new; readings = readings; numbers = numbers; rested = true; feeds = feeds })
+grown_goes {X} grow l capacity held new readings numbers feeds grows t inputs opened s same wired lawful at =
     let both = grows t.net opened s at.stands.stands wired (at.fed refl) in
     next_of
-    ((next : State X) × Steps t opened s (Grow l capacity) next × IsAt t.net (record { held = new; sources = sources; rested = true; feeds = feeds }) opened next)
+    ((next : State X) × Steps t opened s (Grow l capacity) next × IsAt t.net inputs (record { held = new; readings = readings; numbers = numbers; rested = true; feeds = feeds }) opened next)
     (grown s l capacity (slice_get s.flows l)) (λ next. StandsSince t.net new opened next)
     (λ u h stands.
     let to : Grown s u l capacity = grown_is s u l capacity (slice_get s.flows l) refl h in (
@@ -244,9 +290,8 @@ grown_goes {X} grow l capacity held new sources feeds grows t opened s same wire
       record {
         stands = record {
           stands = stands;
-          fed = λ m link at_link input. same_unarrived s u m link (slice_get sources m) feeds
-              (ap (λ w. unarrived (slice_get w.flows m)) (sym to.is) ∙ set_unarrived s.flows l capacity m to.flow to.here)
-              (at.stands.fed m link at_link input);
+          fed = fed_still t.net inputs s u 0 readings feeds at.stands.stands.now.stands.flows.count stands.now.stands.flows.count
+              (tokens_gone t.net s u (grown_tokens t.net s u l capacity (slice_get s.flows l) refl h)) at.stands.fed;
         };
         fits = λ m link flow at_link here input. at.fits m link flow at_link (input_still t.net s u grow l capacity m link flow both.0 to at_link here input) input;
         fed = λ e m link flow at_link here input. at.fed refl m link flow at_link (input_still t.net s u grow l capacity m link flow both.0 to at_link here input) input;
@@ -254,20 +299,28 @@ grown_goes {X} grow l capacity held new sources feeds grows t opened s same wire
     ))
     both.1
 
-pub not_grown_fails : {X : Type 0} (grow l capacity : ℕ) (held : Held (Cell X)) (sources : List (Option Source)) (feeds : Inputs) → GrowsNotSo grow l capacity held
-    → FailsBy grow (Grow l capacity) (record { held = held; sources = sources; rested = true; feeds = feeds }) EndIs
-not_grown_fails grow l capacity held sources feeds grows_not = inl (λ t opened s same wired lawful at.
+pub not_grown_fails : {X : Type 0} (grow l capacity : ℕ) (held : Held (Cell X)) (readings : List (Option Reading)) (numbers : Counts) (feeds : Inputs) → GrowsNotSo grow l capacity held
+    → FailsBy grow (Grow l capacity) (record { held = held; readings = readings; numbers = numbers; rested = true; feeds = feeds }) EndIs
+not_grown_fails grow l capacity held readings numbers feeds grows_not = inl (λ t inputs opened s same wired lawful at.
     (refl, λ h. grows_not t.net opened s at.stands.stands wired lawful (at.fed refl) (subst (λ g. Grows t.net g s l capacity) same h)))
 
-pub grown_ready : {X : Type 0} (grow : ℕ) (links : List Link) (held new : Held (Cell X)) (sources : List (Option Source)) (feeds : Inputs)
-    → HoldEnough links new.capacities → IsAtRest new → SameActors held.cells new.cells → SameMarks held.cells new.cells → new.links ≡ held.links
-    → CanGoOn (record { held = held; sources = sources; rested = true; feeds = feeds }) links grow
-    → CanGoOn (record { held = new; sources = sources; rested = true; feeds = feeds }) links grow
-grown_ready grow links held new sources feeds enough rest same marks same_links ready = record {
+pub grown_counts : {X : Type 0} (grow l capacity : ℕ) (held : Held (Cell X)) (readings : List (Option Reading)) (numbers : Counts) (rested : Bool) (feeds : Inputs)
+    → CountsBy grow (Grow l capacity) (record { held = held; readings = readings; numbers = numbers; rested = rested; feeds = feeds }) numbers
+grown_counts grow l capacity held readings numbers rested feeds t inputs opened s same wired lawful at next h =
+    growth_counts t.net inputs held s next l capacity numbers wired lawful at.stands.stands.now h
+
+pub grown_ready : {X : Type 0} (grow : ℕ) (links : List Link) (came : ℕ) (held new : Held (Cell X)) (readings : List (Option Reading)) (numbers : Counts) (feeds : Inputs)
+    → HoldEnough links new.capacities → HoldFew new.capacities → IsAtRest new → SameActors held.cells new.cells → SameMarks held.cells new.cells → new.links ≡ held.links
+    → CanGoOn (record { held = held; readings = readings; numbers = numbers; rested = true; feeds = feeds }) links came grow
+    → CanGoOn (record { held = new; readings = readings; numbers = numbers; rested = true; feeds = feeds }) links came grow
+grown_ready grow links came held new readings numbers feeds enough few_held rest same marks same_links ready = record {
   links_are = same_links ∙ ready.links_are;
   few = ready.few;
+  few_held = few_held;
   work = untrapped_after held.cells new.cells same marks ready.work;
-  sources = ready.sources;
+  readers = ready.readers;
+  came_for_each = ready.came_for_each;
+  numbers = ready.numbers;
   queues = can_grow_after grow links held.cells new.cells same ready.queues;
   enough = enough;
   rest = λ e. rest;
@@ -279,3 +332,7 @@ on_ends true Ends P fails h = h refl
 on_ends true (Fails why) P fails h = tt
 on_ends true (FeedFails feed) P fails h = tt
 on_ends false came P fails h = subst (λ a. OnEnds a P) (sym (fails refl)) tt
+
+pub on_fails : (so : Bool) (came : Came) (P : Why → Type 0) → (so ≡ true → came ≡ Ends) → (so ≡ false → came ≡ Fails EndIs) → (so ≡ false → P EndIs) → IfFails came P
+on_fails true came P ends fails h = subst (λ a. IfFails a P) (sym (ends refl)) tt
+on_fails false came P ends fails h = subst (λ a. IfFails a P) (sym (fails refl)) (h refl)

@@ -5,17 +5,16 @@ use Rattle.std.specs.Prelude.{Result, Ok, Err, IfOk, drop, flat_map, ◌++◌}
 use Rattle.std.specs.List.{concat}
 use Rattle.rvc_io.specs.Feeds.{Inputs, PullsOnlyAt}
 use Rattle.trace_text.specs.declared.line.Line.{Line}
-use Rattle.net_model.specs.Laws.{AreLawful, firings_shown}
+use Rattle.net_model.specs.declared.wiring.Counts.{Counts}
+use Rattle.net_model.specs.Laws.{AreLawful}
 use Rattle.net_model.specs.Wired.{IsWired}
 use Rattle.trace_replay.specs.Between.{Between}
 use Rattle.trace_text.specs.Table.{TextTellsLines}
 use Rattle.trace_text.specs.Text.{line_text}
 use Rattle.std.proofs.Math.Seq.{drop-append_seam}
-use Rattle.net_model.specs.Counted.{deliveries_in}
+use Rattle.net_model.specs.Counted.{IsCounted}
 use Rattle.net_model.specs.Trace.{head_text}
-use Rattle.trace_replay.specs.declared.replayed.Replayed.{Replayed}
 use Rattle.trace_replay.specs.Events.{BeginsAt, BeginsFirst, IsEnded, IsJudgedOrNot}
-use Rattle.trace_replay.specs.Feeding.{HaveSources}
 use Rattle.trace_replay.specs.Head.{PassesHead, name_of}
 use Rattle.trace_replay.specs.Judging.{IsTrace, Trial}
 use Rattle.trace_replay.specs.Laws.{LinesMakeTraces, NoTraceIsNotRun, StartFits}
@@ -27,16 +26,17 @@ use Rattle.trace_replay.specs.declared.why.ReplayFault.TheVariants.{NotRun, Read
 use Rattle.trace_replay.proofs.Led.{at_pulled}
 
 -- the head was read
-pub begins_at : {X : Type 0} (t : Trial X) (text : List ℕ) (old new : Trace) (now : Between X) (feeds : Inputs) (grow : ℕ) (first : Line) (names : List (List ℕ)) (count : ℕ)
-    → count ≡ length names → new.count ≡ old.count + 1 + count → HaveSources now.held.links now.sources now.feeds → PullsOnlyAt TRACE_FEED now.feeds feeds
-    → PassesHead X first names old now.feeds new feeds → BeginsFirst t text old now grow first names
-    → BeginsAt t text new (record { held = now.held; sources = now.sources; rested = now.rested; feeds = feeds }) grow
-begins_at t text old new now feeds grow first names count same more have pulls passes begins = record {
+pub begins_at : {X : Type 0} (t : Trial X) (text : List ℕ) (inputs : List (List ℕ)) (old new : Trace) (now : Between X) (feeds : Inputs) (grow : ℕ) (first : Line) (names : List (List ℕ)) (count : ℕ)
+    → count ≡ length names → new.count ≡ old.count + 1 + count → PullsOnlyAt TRACE_FEED now.feeds feeds
+    → PassesHead X first names old now.feeds new feeds → BeginsFirst t text inputs old now grow first names
+    → BeginsAt t text inputs new (record { held = now.held; readings = now.readings; numbers = now.numbers; rested = now.rested; feeds = feeds }) grow
+begins_at t text inputs old new now feeds grow first names count same more pulls passes begins = record {
   grow_is = begins.grow_is;
   wired = begins.wired;
   lawful = begins.lawful;
   fits = begins.fits;
-  at = at_pulled t.net now feeds t.start t.start have pulls begins.at;
+  at = at_pulled t.net inputs now feeds t.start t.start pulls begins.at;
+  counted = begins.counted;
   number =
       let leaves : length t.net.leaves ≡ length names = sym (length-map t.net.leaves name_of) ∙ ap length begins.head.names_are in
       omega (arith, more, begins.number, same, leaves);
@@ -48,22 +48,22 @@ okay_after (Ok x) P Q f h = f x h
 okay_after (Err fault) P Q f h = tt
 
 -- a trace that was read whole is replayed
-pub replayed_is : {X : Type 0} (t : Trial X) (text : List ℕ) (replayed : Replayed) → LinesMakeTraces X → TextTellsLines → StartFits t → IsEnded t text replayed → IsReplayed t text replayed
-replayed_is t text replayed law tells fits ended =
-    let made : (lines : List Line) × IsTrace t (concat ended.whole.texts) lines replayed.end ended.last = law t ended.whole.texts replayed.end ended.last fits ended.whole.lead in
-    let both : head_text t.net t.grow ++ flat_map line_text ended.text_of.lines ≡ head_text t.net t.grow ++ flat_map line_text made.0 =
+pub replayed_is : {X : Type 0} (t : Trial X) (text : List ℕ) (inputs : List (List ℕ)) (end : Line) (counts : Counts) → LinesMakeTraces X → TextTellsLines → StartFits t → IsEnded t text inputs end counts
+    → IsReplayed t text inputs (record { end = end; counts = counts })
+replayed_is t text inputs end counts law tells fits ended =
+    let made : (lines : List Line) × IsTrace t (concat ended.whole.texts) lines end ended.last = law t ended.whole.texts end ended.last fits ended.whole.lead in
+    let both : head_text t.net t.grow ++ flat_map line_text ended.lines ≡ head_text t.net t.grow ++ flat_map line_text made.0 =
     sym ended.text_of.text_is ∙ ended.whole.is_text ∙ made.1.is_text in
-    let behind : flat_map line_text ended.text_of.lines ≡ flat_map line_text made.0 =
-    sym (drop-append_seam (head_text t.net t.grow) (flat_map line_text ended.text_of.lines)) ∙ ap (drop (length (head_text t.net t.grow))) both
+    let behind : flat_map line_text ended.lines ≡ flat_map line_text made.0 =
+    sym (drop-append_seam (head_text t.net t.grow) (flat_map line_text ended.lines)) ∙ ap (drop (length (head_text t.net t.grow))) both
     ∙ drop-append_seam (head_text t.net t.grow) (flat_map line_text made.0) in
-    let same : ended.text_of.lines ≡ made.0 = tells ended.text_of.lines made.0 ended.text_of.written made.1.of_table.events behind in
+    let same : ended.lines ≡ made.0 = tells ended.lines made.0 ended.text_of.written made.1.of_table.events behind in
     record {
       lines = made.0;
       last = ended.last;
-      is_trace = subst (λ all. IsTrace t all made.0 replayed.end ended.last) (sym ended.whole.is_text) made.1;
+      is_trace = subst (λ all. IsTrace t all made.0 end ended.last) (sym ended.whole.is_text) made.1;
       within = ended.whole.within;
-      fired = ended.text_of.fired ∙ ap (λ ls. length (firings_shown ls)) same;
-      delivered = ended.text_of.delivered ∙ ap deliveries_in same;
+      counted = subst (λ ls. IsCounted t.net inputs t.start ls ended.last counts) same ended.counted;
     }
 
 -- what is judged so is no trace

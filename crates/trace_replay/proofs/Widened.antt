@@ -1,7 +1,7 @@
 -- The growth of a link at a stall.
 use Rattle.std.proofs.Common.{◌≡◌, ◌≢◌, ℕ, zero, suc, ◌*◌, ◌<◌, ◌≤◌, min, Bool, true, false, List, [], ◌∷◌, length, refl, sym, ap, subst, ◌∙◌, ⊎_elim, arith}
 use Rattle.std.specs.Prelude.{Option, None, Some, slice_get, slice_set, slice_index_or, if◌then◌else◌}
-use Rattle.std.proofs.Math.Nat.{le-min}
+use Rattle.std.proofs.Math.Nat.{le-min, min-le_right}
 use Rattle.std.proofs.lemmas.Bool.{cases_eq}
 use Rattle.net_model.specs.declared.wiring.End.{End}
 use Rattle.net_model.specs.declared.wiring.End.TheVariants.{Leaf as AtLeaf, Net as AtNet}
@@ -15,7 +15,7 @@ use Rattle.net_model.specs.Wired.{CoversGives, HoldsGives, IsWired}
 use Rattle.net_model.specs.Cell.{Cell, number_on}
 use Rattle.net_model.specs.Ready.{InboxHolds, OnCell, OutboxHolds}
 use Rattle.net_model.proofs.Keeping.{Changed, changed}
-use Rattle.net_state.specs.Held.{Held, IsReader}
+use Rattle.net_state.specs.Held.{Held, HoldFew, IsReader}
 use Rattle.net_state.specs.Moving.{IsWriter, SameActors}
 use Rattle.net_state.specs.Standing.{StandsIn, StandsSince}
 use Rattle.net_state.specs.Working.{AreFed, CanHold}
@@ -48,6 +48,19 @@ enough_after links capacities l limit capacity below doubled enough k link at =
     (set_at capacities l capacity link.capacity (subst (λ j. link.capacity ≤ slice_index_or capacities j 0) same (enough k link at)) more))
     (λ differ. subst (λ n. link.capacity ≤ n) (sym (set_other capacities l k capacity differ)) (enough k link at))
     (cases_eq k l)
+
+-- a link grows at most as far as 32 bits reach
+pub few_after : (capacities : List ℕ) (l limit capacity : ℕ) → capacity ≡ min (2 * slice_index_or capacities l 0) limit → limit ≤ 4294967295 → HoldFew capacities → HoldFew (slice_set capacities l capacity)
+few_after capacities l limit capacity doubled low few k = ⊎_elim
+    (λ same. subst (λ j. slice_index_or (slice_set capacities l capacity) j 0 ≤ 4294967295) (sym same)
+    (set_few capacities l capacity (let most : capacity ≤ limit = subst (λ n. n ≤ limit) (sym doubled) (min-le_right (2 * slice_index_or capacities l 0) limit) in omega (arith, most, low))))
+    (λ differ. subst (λ n. n ≤ 4294967295) (sym (set_other capacities l k capacity differ)) (few k))
+    (cases_eq k l)
+  where
+    set_few : (xs : List ℕ) (m x : ℕ) → x ≤ 4294967295 → slice_index_or (slice_set xs m x) m 0 ≤ 4294967295
+    set_few [] m x high = omega arith
+    set_few (z ∷ xs) zero x high = high
+    set_few (z ∷ xs) (suc m) x high = set_few xs m x high
 
 -- A stall names an inner link.
 

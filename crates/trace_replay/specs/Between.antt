@@ -2,8 +2,10 @@
 -- Not trusted: no promise is read with it.
 use Rattle.std.specs.Prelude.{◌≡◌, ◌⊎◌, ℕ, ◌≤◌, Bool, true, false, List, [], length, Option, Some}
 use Rattle.rvc_io.specs.Feeds.{Inputs}
+use Rattle.port_files.specs.Coming.{Reading}
 use Rattle.trace_text.specs.declared.line.Line.{Line}
 use Rattle.trace_text.specs.declared.line.Line.TheVariants.{Header as FirstLine, Inst, Fire, Deliver, Grow, Quiet, Trap as TrapLine, Stall, Budget}
+use Rattle.net_model.specs.declared.wiring.Counts.{Counts}
 use Rattle.net_model.specs.declared.wiring.Link.{Link}
 use Rattle.net_model.specs.Limits.{max_links}
 use Rattle.net_model.specs.Network.{Network}
@@ -13,44 +15,56 @@ use Rattle.net_model.specs.Paced.{HasRoomIn}
 use Rattle.net_model.specs.Trace.{LineIsTrue, goes, opened_by}
 use Rattle.net_model.specs.Wired.{IsWired}
 use Rattle.net_model.specs.Cell.{Cell}
-use Rattle.net_state.specs.Held.{Held, seen}
+use Rattle.net_state.specs.Held.{Held, HoldFew, seen}
 use Rattle.net_state.specs.Surveyed.{AreSettled}
 use Rattle.net_state.specs.Working.{AreFed, IsAtRest}
+use Rattle.network_runner.specs.Filling.{ReadersFit}
+use Rattle.trace_replay.specs.Counting.{CountsAll, CountsOn, FitLinks}
 use Rattle.trace_replay.specs.Ending.{CanGrow, FitInputs, HoldEnough}
-use Rattle.trace_replay.specs.Feeding.{HaveSources, StandsFed}
+use Rattle.trace_replay.specs.Feeding.{StandsFed}
 use Rattle.trace_replay.specs.Judging.{EventFails, TrapComes, Trial}
 use Rattle.trace_replay.specs.Trying.{AllWork}
 use Rattle.trace_replay.specs.declared.between.Replay.{Replay}
 use Rattle.trace_replay.specs.declared.came.Came.{Came}
 use Rattle.trace_replay.specs.declared.came.Came.TheVariants.{Goes, Ends, Fails, FeedFails}
-use Rattle.trace_replay.specs.declared.source.Source.{Source}
 use Rattle.trace_replay.specs.declared.why.Why.{Why}
 use Rattle.trace_replay.specs.declared.why.Why.TheVariants.{End}
 
--- what is held, the sources of links, whether nothing fired since the last delivery, and what is known of feeds
+-- what is held, the readers of links, the numbers of the lines so far, whether nothing fired since the last delivery,
+-- and what is known of feeds
 pub record Between (X : Type 0) : Type 0 where
   pub held : Held (Cell X)
-  pub sources : List (Option Source)
+  pub readings : List (Option Reading)
+  pub numbers : Counts
   pub rested : Bool
   pub feeds : Inputs
 
-abbrev pub between : {C X : Type 0} → (C → Cell X) → Held C → List (Option Source) → Bool → Inputs
-    → Between X
-between cell held sources rested feeds =
-    record { held = seen cell held; sources = sources; rested = rested; feeds = feeds }
+abbrev pub between : {C X : Type 0} → (C → Cell X) → Held C → List (Option Reading) → Counts → Bool
+    → Inputs → Between X
+between cell held readings numbers rested feeds = record {
+  held = seen cell held;
+  readings = readings;
+  numbers = numbers;
+  rested = rested;
+  feeds = feeds;
+}
 
--- the network stands in the state s, which the last delivery `opened`
-pub record IsAt {X : Type 0} (net : Network X) (now : Between X) (opened s : State X) : Type 0 where
-  pub stands : StandsFed net now.held now.sources now.feeds opened s
+-- The network stands in the state s, which the last delivery `opened`. `inputs` are the bytes of its inputs from which
+-- the run began.
+pub record IsAt {X : Type 0} (net : Network X) (inputs : List (List ℕ)) (now : Between X) (opened s : State X) : Type 0 where
+  pub stands : StandsFed net inputs now.held now.readings now.feeds opened s
   pub fits : FitInputs net s
   pub fed : now.rested ≡ true → AreFed net s
 
 -- what the code knows of it, whatever its state is
-pub record CanGoOn {X : Type 0} (now : Between X) (links : List Link) (grow : ℕ) : Type 0 where
+pub record CanGoOn {X : Type 0} (now : Between X) (links : List Link) (came grow : ℕ) : Type 0 where
   pub links_are : now.held.links ≡ links
   pub few : length links ≤ max_links
+  pub few_held : HoldFew now.held.capacities
   pub work : AllWork now.held.cells
-  pub sources : HaveSources links now.sources now.feeds
+  pub readers : ReadersFit links now.readings now.feeds
+  pub came_for_each : came ≡ length links
+  pub numbers : FitLinks links now.numbers
   pub queues : CanGrow grow now.held.cells links
   pub enough : HoldEnough links now.held.capacities
   pub rest : now.rested ≡ true → IsAtRest now.held
@@ -75,19 +89,30 @@ pub record Steps {X : Type 0} (t : Trial X) (opened s : State X) (line : Line) (
   pub is_due : IsDue t.net opened s line
 
 -- this is so in each state at which the network stands
-abbrev pub InEach : {X : Type 0} → ℕ → Between X → (Trial X → State X → State X → Type 0) → Type 0
-InEach {X} grow now P = (t : Trial X) (opened s : State X) → t.grow ≡ grow → IsWired t.net
-    → AreLawful t.net → IsAt t.net now opened s → P t opened s
+abbrev pub InEach : {X : Type 0} → ℕ → Between X
+    → (Trial X → List (List ℕ) → State X → State X → Type 0) → Type 0
+InEach {X} grow now P = (t : Trial X) (inputs : List (List ℕ)) (opened s : State X) → t.grow ≡ grow
+    → IsWired t.net → AreLawful t.net → IsAt t.net inputs now opened s → P t inputs opened s
 
 -- the line leads on, and the network stands at the next state
 abbrev pub GoesBy : {X : Type 0} → ℕ → Line → Between X → Between X → Type 0
-GoesBy {X} grow line old new = InEach grow old (λ t opened s. (next : State X)
-    × Steps t opened s line next × IsAt t.net new (opened_by line opened next) next)
+GoesBy {X} grow line old new = InEach grow old (λ t inputs opened s. (next : State X)
+    × Steps t opened s line next × IsAt t.net inputs new (opened_by line opened next) next)
+
+-- .. and the numbers count it
+abbrev pub CountsBy : {X : Type 0} → ℕ → Line → Between X → Counts → Type 0
+CountsBy {X} grow line old numbers = InEach grow old (λ t inputs opened s. (next : State X)
+    → goes t.net s line ≡ Some next → CountsOn t.net inputs s line next old.numbers numbers)
 
 -- the line ends the run
 abbrev pub EndsBy : {X : Type 0} → ℕ → Line → Between X → Type 0
-EndsBy {X} grow line old = InEach grow old (λ t opened s. (next : State X)
+EndsBy {X} grow line old = InEach grow old (λ t inputs opened s. (next : State X)
     × Steps t opened s line next)
+
+-- .. and the numbers count it, and all that was sent
+abbrev pub CountsEnd : {X : Type 0} → ℕ → Line → Between X → Counts → Type 0
+CountsEnd {X} grow line old numbers = InEach grow old (λ t inputs opened s. (next : State X)
+    → goes t.net s line ≡ Some next → CountsAll t.net inputs s line next old.numbers numbers)
 
 -- a line behind which a growth is judged: a delivery, or another growth
 abbrev pub is_rest : Line → Bool
@@ -134,7 +159,7 @@ pub record IsLate {X : Type 0} (line : Line) (why : Why) (old : Between X) : Typ
 
 -- the line may not come for this cause, or is a growth that comes too late to be judged
 abbrev pub FailsBy : {X : Type 0} → ℕ → Line → Between X → Why → Type 0
-FailsBy grow line old why = InEach grow old (λ t opened s. EventFails t opened s line why)
+FailsBy grow line old why = InEach grow old (λ t inputs opened s. EventFails t opened s line why)
     ⊎ IsLate line why old
 
 -- Answers.
@@ -174,10 +199,12 @@ OnFeedFails (FeedFails feed) P = P
 module _ {A X S : Type 0} (cell : A → Cell X) (feeds : S → Inputs) where
   -- where it stands
   abbrev pub stand : Replay A → S → Between X
-  stand replay now = between cell replay.state replay.sources.items replay.rested (feeds now)
+  stand replay now =
+      between cell replay.state replay.readers.items replay.numbers replay.rested (feeds now)
 
   abbrev pub IsReadyToGo : Replay A → S → Type 0
-  IsReadyToGo replay now = CanGoOn (stand replay now) replay.links.items replay.grow
+  IsReadyToGo replay now =
+      CanGoOn (stand replay now) replay.links.items (length replay.came.items) replay.grow
 
   abbrev pub LineGoes : Came → Line → Replay A → S → Replay A → S → Type 0
   LineGoes came line old before new after =
@@ -188,3 +215,11 @@ module _ {A X S : Type 0} (cell : A → Cell X) (feeds : S → Inputs) where
 
   abbrev pub LineFails : Came → Line → Replay A → S → Type 0
   LineFails came line old before = IfFails came (FailsBy old.grow line (stand old before))
+
+  abbrev pub LineCounts : Came → Line → Replay A → S → Replay A → Type 0
+  LineCounts came line old before new =
+      OnGoes came (CountsBy old.grow line (stand old before) new.numbers)
+
+  abbrev pub EndCounts : Came → Line → Replay A → S → Replay A → Type 0
+  EndCounts came line old before new =
+      OnEnds came (CountsEnd old.grow line (stand old before) new.numbers)

@@ -2,6 +2,7 @@
 -- Not trusted: no promise is read with it.
 use Rattle.std.specs.Prelude.{◌≡◌, ◌≢◌, ℕ, ◌*◌, ◌≤◌, ◌<◌, true, false, List, length, min, slice_get, slice_index_or, Option, None, Some}
 use Rattle.rvc_io.specs.Feeds.{Inputs}
+use Rattle.port_files.specs.Coming.{Reading}
 use Rattle.trace_text.specs.declared.line.Line.{Line}
 use Rattle.trace_text.specs.declared.line.Line.TheVariants.{Header as FirstLine, Inst, Fire, Deliver, Grow, Quiet, Trap as TrapLine, Stall, Budget}
 use Rattle.net_model.specs.declared.wiring.Link.{Link}
@@ -17,7 +18,6 @@ use Rattle.net_state.specs.Moving.{IsWriter}
 use Rattle.net_state.specs.Standing.{IsTrueOfUnarrived, StandsIn, StandsSince}
 use Rattle.net_state.specs.Working.{AreFed, CanHold, GrewTo}
 use Rattle.trace_replay.specs.Feeding.{StandsFed}
-use Rattle.trace_replay.specs.declared.source.Source.{Source}
 
 -- an end line but that of a trap is true of a state
 abbrev pub IsTrueEnd : {X : Type 0} → Network X → ℕ → State X → Line → Type 0
@@ -50,15 +50,15 @@ IsEndOf {X} grow held line = (net : Network X) (s : State X) → StandsIn net he
     → AreLawful net → AreFed net s → IsSettled net s → IsTrueEnd net grow s line
 
 -- an end line is true of each state that stands, or of none
-abbrev pub EndsSo : {X : Type 0} → ℕ → Line → Held (Cell X) → List (Option Source) → Inputs → Type 0
-EndsSo {X} grow line held sources feeds = (net : Network X) (opened s : State X)
-    → StandsFed net held sources feeds opened s → IsWired net → AreLawful net → FitInputs net s
+abbrev pub EndsSo : {X : Type 0} → ℕ → Line → Held (Cell X) → List (Option Reading) → Inputs → Type 0
+EndsSo {X} grow line held readings feeds = (net : Network X) (inputs : List (List ℕ))
+    (opened s : State X) → StandsFed net inputs held readings feeds opened s → IsWired net → AreLawful net → FitInputs net s
     → IsTrueEnd net grow s line
 
-abbrev pub EndsNotSo : {X : Type 0} → ℕ → Line → Held (Cell X) → List (Option Source) → Inputs
+abbrev pub EndsNotSo : {X : Type 0} → ℕ → Line → Held (Cell X) → List (Option Reading) → Inputs
     → Type 0
-EndsNotSo {X} grow line held sources feeds = (net : Network X) (opened s : State X)
-    → StandsFed net held sources feeds opened s → IsWired net → AreLawful net → FitInputs net s
+EndsNotSo {X} grow line held readings feeds = (net : Network X) (inputs : List (List ℕ))
+    (opened s : State X) → StandsFed net inputs held readings feeds opened s → IsWired net → AreLawful net → FitInputs net s
     → IsTrueEnd net grow s line → ⊥
 
 -- link l may grow further
@@ -111,8 +111,9 @@ GrewNotAt grow l capacity held = IsInner (slice_get held.links l) → MayGrow gr
 -- The same of what the code holds.
 
 module _ {C X S : Type 0} (cell : C → Cell X) (feeds : S → Inputs) where
-  abbrev pub EndsOn : ℕ → Line → Held C → List (Option Source) → S → Type 0
-  EndsOn grow line held sources now = EndsSo grow line (seen cell held) sources (feeds now)
+  abbrev pub EndsOn : ℕ → Line → Held C → List (Option Reading) → S → Type 0
+  EndsOn grow line held readings now = EndsSo grow line (seen cell held) readings (feeds now)
 
-  abbrev pub EndsNotOn : ℕ → Line → Held C → List (Option Source) → S → Type 0
-  EndsNotOn grow line held sources now = EndsNotSo grow line (seen cell held) sources (feeds now)
+  abbrev pub EndsNotOn : ℕ → Line → Held C → List (Option Reading) → S → Type 0
+  EndsNotOn grow line held readings now =
+      EndsNotSo grow line (seen cell held) readings (feeds now)

@@ -6,9 +6,9 @@ pub mod Reading
 pub mod Head
 pub mod Trying
 pub mod Feeding
+pub mod Counting
 pub mod Ending
 pub mod Between
 pub mod Events
 pub mod Replaying
 pub mod Opening
-pub mod Tallying

@@ -4,9 +4,9 @@ use Rattle.std.specs.Prelude.{◌≡◌, ℕ, false, List, length, map}
 use Rattle.net_model.specs.declared.wiring.Wiring.{Wiring}
 use Rattle.net_model.specs.Cell.{Cell}
 use Rattle.net_state.specs.Beginning.{AreLawfulIn}
-use Rattle.net_state.specs.Held.{AreCounted, capacity_of, seen}
+use Rattle.net_state.specs.Held.{AreCounted, HoldFew, capacity_of, seen}
 use Rattle.net_state.specs.Standing.{StandAtStart}
-use Rattle.trace_replay.specs.Replaying.{all_sources}
+use Rattle.network_runner.specs.Making.{AreReadersOf, CountNothing}
 use Rattle.trace_replay.specs.declared.between.Replay.{Replay}
 
 -- it has these cells and this wiring, and the cells hold the state in which a run from them begins
@@ -18,7 +18,10 @@ pub record IsOpenedOn {C X : Type 0} (cell : C → Cell X) (cells : List C) (wir
   pub waited : AreCounted (map cell replay.state.cells) replay.state.links replay.state.waited
   pub states : StandAtStart (seen cell replay.state)
   pub lawful : AreLawfulIn (seen cell replay.state)
-  pub sources : replay.sources.items ≡ all_sources wiring
+  pub few : HoldFew replay.state.capacities
+  pub readers : AreReadersOf wiring.ins.items wiring.open_ins.items wiring.links.items replay.readers.items
+  pub came : length replay.came.items ≡ length wiring.links.items
+  pub numbers : CountNothing (length wiring.links.items) (length wiring.outs.items) replay.numbers
   pub count : replay.count ≡ length cells
   pub grow_is : replay.grow ≡ grow
   pub rested : replay.rested ≡ false

@@ -1,8 +1,7 @@
 -- A trace that is replayed over cells, their wiring and feeds: what is asked of them, and what is told.
--- Trusted but for `sources_of` and what it uses, `AllBegin` and `JudgesReplay`: part of what a promise means.
-use Rattle.std.specs.Prelude.{◌≡◌, ◌⊎◌, ℕ, suc, ◌≤◌, ◌<◌, Bool, true, false, List, [], ◌∷◌, length, map, slice_get, slice_index_or, Option, None, Some, String, string_bytes, if◌then◌else◌}
+-- Trusted but for `HaveInputPorts`: part of what a promise means.
+use Rattle.std.specs.Prelude.{◌≡◌, ◌⊎◌, ℕ, ◌≤◌, Bool, true, false, List, [], length, map, slice_get, slice_index_or, Some, String, string_bytes}
 use Rattle.std.specs.declared.alloc.Global.{Global as Heap}
-use Rattle.rvc_base.specs.declared.scalar.Scalar.{Scalar}
 use Rattle.rvc_base.specs.Storing.{IsSize}
 use Rattle.rvc_io.specs.Feeds.{Inputs}
 use Rattle.trace_text.specs.declared.line.Line.{Line}
@@ -11,20 +10,20 @@ use Rattle.net_model.specs.declared.wiring.End.TheVariants.{Leaf as AtLeaf, Net 
 use Rattle.net_model.specs.declared.wiring.Link.{Link}
 use Rattle.net_model.specs.declared.wiring.Port.{Port}
 use Rattle.net_model.specs.declared.wiring.Wiring.{Wiring}
-use Rattle.net_model.specs.Network.{NetPort, Network, kind_at, is_input}
+use Rattle.net_model.specs.Network.{Network}
 use Rattle.net_model.specs.State.{State}
-use Rattle.net_model.specs.Counted.{deliveries_in}
-use Rattle.net_model.specs.Laws.{firings_shown}
+use Rattle.net_model.specs.Counted.{IsCounted}
 use Rattle.net_model.specs.Cell.{Cell}
-use Rattle.net_model.specs.Ready.{IsNetworkOf, IsReady, given_state, port_of}
+use Rattle.net_model.specs.Ready.{IsNetworkOf, IsReady, given_state}
 use Rattle.net_state.specs.Beginning.{HaveSizes, NoneUnlinked}
+use Rattle.round_runner.specs.Running.{has_feed as is_fed_end}
+use Rattle.network_runner.specs.Asking.{HavePortSizes}
 use Rattle.trace_replay.specs.Events.{IsUnjudged}
 use Rattle.trace_replay.specs.Feeding.{feed_of}
 use Rattle.trace_replay.specs.Head.{name_of}
 use Rattle.trace_replay.specs.Judging.{IsNotRun, IsTrace, Trial, max_trace_bytes}
 use Rattle.trace_replay.specs.declared.bytes.TheConstants.{TRACE_FEED}
 use Rattle.trace_replay.specs.declared.replayed.Replayed.{Replayed}
-use Rattle.trace_replay.specs.declared.source.Source.{Source}
 use Rattle.trace_replay.specs.declared.why.ReplayFault.{ReplayFault}
 use Rattle.trace_replay.specs.declared.why.ReplayFault.TheVariants.{NotRun, ReadFault, Memory}
 
@@ -32,8 +31,7 @@ use Rattle.trace_replay.specs.declared.why.ReplayFault.TheVariants.{NotRun, Read
 
 -- a writing end at an input of the network that has a feed
 abbrev pub has_feed : List Bool → End → Bool
-has_feed opened (AtLeaf inst port) = false
-has_feed opened (AtNet port) = slice_index_or opened port false
+has_feed opened end = is_fed_end opened end
 
 -- a network of these cells and this wiring that is ready to be run, with any paths and classes
 pub record IsReadyAs {X : Type 0} (net : Network X) (cells : List (Cell X)) (wiring : Wiring) (grow : ℕ) : Type 0 where
@@ -78,15 +76,14 @@ pub record IsReplayOf {X : Type 0} (t : Trial X) (text : List ℕ) (inputs : Lis
   pub told : (l : ℕ) (link : Link) → slice_get wiring.links.items l ≡ Some link
       → IsEndTold wiring.open_ins.items inputs (feed_of wiring.links.items l) feeds link.from
 
--- The text is the trace of a run with this end line and so many firings and deliveries, and not longer than a trace
--- may be.
-pub record IsReplayed {X : Type 0} (t : Trial X) (text : List ℕ) (replayed : Replayed) : Type 0 where
+-- The text is the trace of a run with this end line over these inputs, and not longer than a trace may be, and the
+-- numbers count its lines.
+pub record IsReplayed {X : Type 0} (t : Trial X) (text : List ℕ) (inputs : List (List ℕ)) (replayed : Replayed) : Type 0 where
   pub lines : List Line
   pub last : State X
   pub is_trace : IsTrace t text lines replayed.end last
   pub within : length text ≤ max_trace_bytes
-  pub fired : replayed.firings ≡ length (firings_shown lines)
-  pub delivered : replayed.rounds ≡ deliveries_in lines
+  pub counted : IsCounted t.net inputs t.start lines last replayed.counts
 
 -- .. and it is no trace that is so long at most
 abbrev pub IsNone : {X : Type 0} → Trial X → List ℕ → Type 0
@@ -103,7 +100,7 @@ IsRefused t text Memory = Unit {0}
 abbrev pub Replays : {X : Type 0} → List (Cell X) → Wiring → ℕ → List (List ℕ) → Inputs → Replayed
     → Type 0
 Replays {X} cells wiring grow names feeds replayed = (t : Trial X) (text : List ℕ) (inputs : List (List ℕ))
-    → IsReplayOf t text inputs cells wiring grow names feeds → IsReplayed t text replayed
+    → IsReplayOf t text inputs cells wiring grow names feeds → IsReplayed t text inputs replayed
 
 abbrev pub Refuses : {X : Type 0} → List (Cell X) → Wiring → ℕ → List (List ℕ) → Inputs → ReplayFault
     → Type 0
@@ -122,43 +119,7 @@ module _ {C X S : Type 0} (cell : C → Cell X) (feeds : S → Inputs) where
   RefusesOn cells wiring grow names now fault =
       Refuses (map cell cells) wiring grow (map string_bytes names) (feeds now) fault
 
--- The sources of links.
-
--- the number of the next feed, behind that of a link
-abbrev pub next_feed : ℕ → Link → ℕ
-next_feed feed link = if is_input link then suc feed else feed
-
--- what reads a feed from which nothing was pulled
-abbrev pub new_source : ℕ → Scalar → Source
-new_source feed kind =
-    record { feed = feed; tokens = record { kind = kind; pulled = []; ended = false } }
-
-abbrev pub source_at : List NetPort → List Bool → ℕ → End → Option Source
-source_at ports opened feed (AtLeaf inst port) = None
-source_at ports opened feed (AtNet port) = if slice_index_or opened port false
-    then Some (new_source feed (kind_at ports port)) else None
-
-abbrev pub sources_of : List NetPort → List Bool → ℕ → List Link → List (Option Source)
-sources_of ports opened feed [] = []
-sources_of ports opened feed (link ∷ links) =
-    source_at ports opened feed link.from ∷ sources_of ports opened (next_feed feed link) links
-
--- a writing end at one of the network's inputs
-abbrev pub IsAmongInputs : ℕ → End → Type 0
-IsAmongInputs n (AtLeaf inst port) = Unit {0}
-IsAmongInputs n (AtNet port) = port < n
-
-abbrev pub AllBegin : ℕ → List Link → Type 0
-AllBegin n [] = Unit {0}
-AllBegin n (link ∷ links) = IsAmongInputs n link.from × AllBegin n links
-
--- what is asked of the wiring
-pub record HasInputs (wiring : Wiring) : Type 0 where
+-- what is asked of the network's inputs
+pub record HaveInputPorts (wiring : Wiring) : Type 0 where
   pub told : length wiring.open_ins.items ≡ length wiring.ins.items
-  pub sizes : (p : ℕ) (port : Port) → slice_get wiring.ins.items p ≡ Some port → IsSize port.kind
-  pub begin : AllBegin (length wiring.ins.items) wiring.links.items
-  pub few : length wiring.links.items ≤ 4096
-
-abbrev pub all_sources : Wiring → List (Option Source)
-all_sources wiring =
-    sources_of (map port_of wiring.ins.items) wiring.open_ins.items 1 wiring.links.items
+  pub sizes : HavePortSizes wiring.ins.items

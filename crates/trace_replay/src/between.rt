@@ -1,28 +1,29 @@
 //! A network between two lines of its trace.
 
-ghost use Rattle.std.specs.Prelude.{◌≡◌, ◌≤◌, true, false, IfOk, length, map};
+ghost use Rattle.std.specs.Prelude.{◌≡◌, ◌+◌, ◌≤◌, true, false, IfOk, length, map};
 ghost use Rattle.rvc_io.specs.Feeds.{ReadFails};
 ghost use Rattle.net_model.specs.Limits.{max_links};
 ghost use Rattle.trace_text.specs.declared.line.Line.TheVariants as line;
-ghost use Rattle.trace_replay.specs.Between.{FailsBy, IfFails, IsReadyToGo, LineEnds, LineFails, LineGoes, OnEnds, OnFeedFails, OnGoes, is_rest, is_still_end, stand, IfFeedFails};
+ghost use Rattle.trace_replay.specs.Between.{EndCounts, FailsBy, IfFails, IsReadyToGo, LineCounts, LineEnds, LineFails, LineGoes, OnEnds, OnFeedFails, OnGoes, is_rest, is_still_end, stand, IfFeedFails};
 ghost use Rattle.trace_replay.specs.declared.came.Came.TheVariants as came;
 ghost use Rattle.trace_replay.specs.declared.why.Why.TheVariants as why;
 ghost use Rattle.trace_replay.specs.Feeding.{PullsInputs, IsFeedOf};
 ghost use Rattle.net_state.specs.Held.{CanWork};
 ghost use Rattle.trace_replay.specs.Opening.{IsOpenedOn};
-ghost use Rattle.trace_replay.specs.Replaying.{HasInputs};
+ghost use Rattle.trace_replay.specs.Counting.{AreFewCounted};
+ghost use Rattle.trace_replay.specs.Replaying.{HaveInputPorts};
 ghost use Rattle.trace_replay.specs.Judging.{is_end};
 
 use crate::came::Came;
-use crate::delivering::deliver_all;
+use crate::counting::{catch_up, count_delivery, count_firing};
 use crate::ending::{ends_so, is_settled};
 use crate::growing::grow_so;
-use crate::source::Source;
-use crate::sources::open_sources;
 use crate::trying::{fire, traps};
 use crate::why::Why;
-use net_model::{Firing, Link, Wiring};
-use net_state::NetState;
+use net_model::{Counts, Firing, Link, Wiring};
+use net_state::{Filled, NetState};
+use network_runner::{copy_of, deliver_all, no_counts, nothing_came, readers_of};
+use port_files::TokenFeed;
 use rvc_base::{Memory, Trap};
 use rvc_io::Feeds;
 use std::alloc::Global;
@@ -34,7 +35,11 @@ pub(crate) struct Replay<A: Firing> {
     state: NetState<A>,
     links: Vec<Link>,
     /// For each link what reads its feed, if it has one.
-    sources: Vec<Option<Source>>,
+    readers: Vec<Option<TokenFeed>>,
+    /// What came over each link at the last delivery.
+    came: Vec<Filled>,
+    /// The numbers of the lines so far. What was sent to outputs since the last delivery is still to be counted.
+    numbers: Counts,
     /// How many cells there are.
     count: u32,
     /// The greatest capacity to which a link may grow; 0 if none may.
@@ -56,17 +61,21 @@ impl<A: Firing> Replay<A> {
         grow: u32,
     ) -> Result<Replay<A>, Memory>
         requires can_work { CanWork (map A.cell cells.items) wiring.links.items }
-        requires inputs { HasInputs wiring }
+        requires inputs { HaveInputPorts wiring }
         ensures { IfOk result (IsOpenedOn A.cell cells.items wiring grow) }
     {
         let count = cells.len() as u32;
-        let sources = open_sources(alloc, &wiring)?;
-        let links = copy_links(alloc, &wiring.links)?;
+        let readers = readers_of(alloc, &wiring.links, &wiring.ins, &wiring.open_ins)?;
+        let came = nothing_came(alloc, wiring.links.len())?;
+        let numbers = no_counts(alloc, wiring.links.len(), wiring.outs.len())?;
+        let links = copy_of(alloc, &wiring.links)?;
         let state = NetState::new(alloc, cells, wiring.links)?;
         Ok(Replay {
             state,
             links,
-            sources,
+            readers,
+            came,
+            numbers,
             count,
             grow,
             rested: false,
@@ -85,12 +94,34 @@ impl<A: Firing> Replay<A> {
         }
     }
 
+    /// The numbers of its lines.
+    pub(crate) fn into_numbers(self) -> Counts
+        ensures { result ≡ self.numbers }
+    {
+        let Replay {
+            state: _,
+            links: _,
+            readers: _,
+            came: _,
+            numbers,
+            count: _,
+            grow: _,
+            rested: _,
+        } = self;
+        numbers
+    }
+
     /// A line that says that an action fires.
     fn fire<F: Feeds>(&mut self, inst: u32, action: u16, feeds: &F) -> Came
         requires count { self.old.count ≡ length self.old.state.cells }
         requires ready { IsReadyToGo A.cell F.feeds self.old feeds.now }
+        requires few { AreFewCounted self.old.numbers }
         ensures goes { LineGoes A.cell F.feeds result (line.Fire inst action) self.old feeds.now self.new
             feeds.now }
+        ensures counts { LineCounts A.cell F.feeds result (line.Fire inst action) self.old feeds.now
+            self.new }
+        ensures firings { OnGoes result (self.new.numbers.firings ≤ self.old.numbers.firings + 1) }
+        ensures rounds { OnGoes result (self.new.numbers.rounds ≤ self.old.numbers.rounds + 1) }
         ensures still_ready { OnGoes result (IsReadyToGo A.cell F.feeds self.new feeds.now) }
         ensures fails { LineFails A.cell F.feeds result (line.Fire inst action) self.old feeds.now }
         ensures no_end { OnEnds result ⊥ }
@@ -104,6 +135,7 @@ impl<A: Firing> Replay<A> {
         match fire(&mut self.state, self.count, inst, action) {
             None => {
                 self.rested = false;
+                count_firing(&mut self.numbers);
                 Came::Goes
             }
             Some(why) => Came::Fails(why),
@@ -114,12 +146,16 @@ impl<A: Firing> Replay<A> {
     fn trap<F: Feeds>(&mut self, inst: u32, action: u16, cause: Trap, feeds: &F) -> Came
         requires count { self.old.count ≡ length self.old.state.cells }
         requires ready { IsReadyToGo A.cell F.feeds self.old feeds.now }
+        requires few { AreFewCounted self.old.numbers }
         ensures ends { LineEnds A.cell F.feeds result (line.Trap inst action cause) self.old feeds.now }
+        ensures counts { EndCounts A.cell F.feeds result (line.Trap inst action cause) self.old feeds.now
+            self.new }
         ensures fails { LineFails A.cell F.feeds result (line.Trap inst action cause) self.old feeds.now }
         ensures no_step { OnGoes result ⊥ }
         ensures no_fault { OnFeedFails result ⊥ }
         ensures feed { IfFeedFails result (IsFeedOf self.old.links.items) }
     {
+        catch_up(&self.state, &self.links, &mut self.numbers);
         if traps(&mut self.state, self.count, inst, action, cause) {
             return Came::Ends;
         }
@@ -130,8 +166,12 @@ impl<A: Firing> Replay<A> {
     fn deliver<F: Feeds>(&mut self, feeds: &mut F) -> Came
         requires ready { IsReadyToGo A.cell F.feeds self.old feeds.old }
         requires count { self.old.count ≡ length self.old.state.cells }
+        requires few { AreFewCounted self.old.numbers }
         ensures goes { LineGoes A.cell F.feeds result line.Deliver self.old feeds.old self.new
             feeds.new }
+        ensures counts { LineCounts A.cell F.feeds result line.Deliver self.old feeds.old self.new }
+        ensures firings { OnGoes result (self.new.numbers.firings ≤ self.old.numbers.firings + 1) }
+        ensures rounds { OnGoes result (self.new.numbers.rounds ≤ self.old.numbers.rounds + 1) }
         ensures still_ready { OnGoes result (IsReadyToGo A.cell F.feeds self.new feeds.new) }
         ensures no_end { OnEnds result ⊥ }
         ensures no_failure { IfFails result (λ _. ⊥) }
@@ -143,12 +183,20 @@ impl<A: Firing> Replay<A> {
         ensures links { self.new.links ≡ self.old.links }
         ensures elsewhere { PullsInputs (F.feeds feeds.old) (F.feeds feeds.new) }
     {
-        match deliver_all(&mut self.state, &mut self.sources, feeds) {
+        catch_up(&self.state, &self.links, &mut self.numbers);
+        match deliver_all(
+            &mut self.state,
+            &self.links,
+            &mut self.readers,
+            feeds,
+            &mut self.came,
+        ) {
             Ok(()) => {
+                count_delivery(&self.came, &mut self.numbers);
                 self.rested = true;
                 Came::Goes
             }
-            Err(feed) => Came::FeedFails(feed),
+            Err(fault) => Came::FeedFails(fault.feed),
         }
     }
 
@@ -161,6 +209,9 @@ impl<A: Firing> Replay<A> {
         requires count { self.old.count ≡ length self.old.state.cells }
         ensures goes { LineGoes A.cell F.feeds result (line.Grow link capacity) self.old feeds.now self.new
             feeds.now }
+        ensures counts { LineCounts A.cell F.feeds result (line.Grow link capacity) self.old feeds.now
+            self.new }
+        ensures numbers { OnGoes result (self.new.numbers ≡ self.old.numbers) }
         ensures still_ready { OnGoes result (IsReadyToGo A.cell F.feeds self.new feeds.now) }
         ensures fails { LineFails A.cell F.feeds result (line.Grow link capacity) self.old feeds.now }
         ensures no_end { OnEnds result ⊥ }
@@ -198,17 +249,21 @@ impl<A: Firing> Replay<A> {
     fn end<F: Feeds>(&mut self, line: &Line, feeds: &mut F) -> Came
         requires ready { IsReadyToGo A.cell F.feeds self.old feeds.old }
         requires still { is_still_end line.now ≡ true }
+        requires few { AreFewCounted self.old.numbers }
         ensures ends { LineEnds A.cell F.feeds result line.now self.old feeds.old }
+        ensures counts { EndCounts A.cell F.feeds result line.now self.old feeds.old self.new }
         ensures fails { LineFails A.cell F.feeds result line.now self.old feeds.old }
         ensures no_step { OnGoes result ⊥ }
         ensures failed { OnFeedFails result (ReadFails F.feeds feeds.old feeds.new) }
         ensures feed { IfFeedFails result (IsFeedOf self.old.links.items) }
         ensures elsewhere { PullsInputs (F.feeds feeds.old) (F.feeds feeds.new) }
     {
+        catch_up(&self.state, &self.links, &mut self.numbers);
         match ends_so(
             &mut self.state,
             &self.links,
-            &mut self.sources,
+            &mut self.readers,
+            &mut self.came,
             self.grow,
             line,
             feeds,
@@ -222,8 +277,13 @@ impl<A: Firing> Replay<A> {
     pub(crate) fn come<F: Feeds>(&mut self, line: &Line, feeds: &mut F) -> Came
         requires ready { IsReadyToGo A.cell F.feeds self.old feeds.old }
         requires count { self.old.count ≡ length self.old.state.cells }
+        requires few { AreFewCounted self.old.numbers }
         ensures goes { LineGoes A.cell F.feeds result line.now self.old feeds.old self.new
             feeds.new }
+        ensures counts { LineCounts A.cell F.feeds result line.now self.old feeds.old self.new }
+        ensures counts_all { EndCounts A.cell F.feeds result line.now self.old feeds.old self.new }
+        ensures firings { OnGoes result (self.new.numbers.firings ≤ self.old.numbers.firings + 1) }
+        ensures rounds { OnGoes result (self.new.numbers.rounds ≤ self.old.numbers.rounds + 1) }
         ensures still_ready { OnGoes result (IsReadyToGo A.cell F.feeds self.new feeds.new) }
         ensures ends { LineEnds A.cell F.feeds result line.now self.old feeds.old }
         ensures fails { LineFails A.cell F.feeds result line.now self.old feeds.old }
@@ -268,17 +328,4 @@ fn came_of_end(so: bool) -> Came
         return Came::Ends;
     }
     Came::Fails(Why::End)
-}
-
-/// The same links again.
-fn copy_links(alloc: Global, links: &[Link]) -> Result<Vec<Link>, Memory>
-    ensures { IfOk result (λ copy. copy.items ≡ links.now) }
-{
-    let mut copy = Vec::with_capacity(alloc, links.len())?;
-    let mut left = links;
-    'links: while let Some((link, others)) = left.split_first() {
-        copy.push(*link)?;
-        left = others;
-    }
-    Ok(copy)
 }

@@ -9,14 +9,15 @@ ghost use Rattle.net_state.specs.Held.{seen};
 ghost use Rattle.net_state.specs.Surveyed.{AreSettled, AreUntrapped};
 ghost use Rattle.net_state.specs.Working.{IsAtRest};
 ghost use Rattle.trace_replay.specs.Ending.{AreUnsettled, EndsNotOn, EndsOn, IsEndOf, IsOut, MayGrow};
-ghost use Rattle.trace_replay.specs.Feeding.{HaveSources, PullsInputs, IsFeedOf};
+ghost use Rattle.network_runner.specs.Filling.{ReadersFit};
+ghost use Rattle.trace_replay.specs.Feeding.{PullsInputs, IsFeedOf};
 
-use crate::delivering::deliver_all;
 use crate::head::is_line;
-use crate::source::Source;
 use crate::states::StatesOf;
 use net_model::{End, Firing, Link, stalled_in_one_place};
-use net_state::{NetState, Outlook};
+use net_state::{Filled, NetState, Outlook};
+use network_runner::deliver_all;
+use port_files::TokenFeed;
 use rvc_base::{ActId, InstId, LinkId};
 use rvc_io::Feeds;
 use trace_text::Line;
@@ -118,7 +119,8 @@ fn stall_line(goes_on: bool, inst: InstId, action: ActId, link: LinkId) -> Line
 pub(crate) fn ends_so<A: Firing, F: Feeds>(
     state: &mut NetState<A>,
     links: &[Link],
-    sources: &mut [Option<Source>],
+    readers: &mut [Option<TokenFeed>],
+    came: &mut [Filled],
     grow: u32,
     line: &Line,
     feeds: &mut F,
@@ -126,21 +128,22 @@ pub(crate) fn ends_so<A: Firing, F: Feeds>(
     requires links { state.old.links ≡ links.now }
     requires few { length links.now ≤ max_links }
     requires untrapped { AreUntrapped (map A.cell state.old.cells) }
-    requires sources { HaveSources state.old.links sources.old (F.feeds feeds.old) }
+    requires readers { ReadersFit links.now readers.old (F.feeds feeds.old) }
+    requires as_many { length came.old ≡ length links.now }
     ensures yes { IfOk result (λ so. so ≡ true
-        → EndsOn A.cell F.feeds grow line.now state.old sources.old feeds.old) }
+        → EndsOn A.cell F.feeds grow line.now state.old readers.old feeds.old) }
     ensures no { IfOk result (λ so. so ≡ false
-        → EndsNotOn A.cell F.feeds grow line.now state.old sources.old feeds.old) }
+        → EndsNotOn A.cell F.feeds grow line.now state.old readers.old feeds.old) }
     ensures failed { OnErr result (ReadFails F.feeds feeds.old feeds.new) }
-    ensures feed { IfErr result (IsFeedOf state.old.links) }
+    ensures feed { IfErr result (IsFeedOf links.now) }
     ensures elsewhere { PullsInputs (F.feeds feeds.old) (F.feeds feeds.new) }
 {
     if !is_settled(state, links) {
         return Ok(false);
     }
-    match deliver_all(state, sources, feeds) {
+    match deliver_all(state, links, readers, feeds, came) {
         Ok(()) => {}
-        Err(feed) => return Err(feed),
+        Err(fault) => return Err(fault.feed),
     }
     stalled_in_one_place::<StatesOf<A>>();
     let end = end_line(state, links, grow);

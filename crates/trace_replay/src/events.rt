@@ -1,12 +1,12 @@
 //! The lines of a run, one after another up to the end line.
 
 ghost use Rattle.std.specs.Prelude.{◌≡◌, ◌≤◌, true, false, IfOk, IfErr, length};
-ghost use Rattle.rvc_io.specs.Feeds.{ReadFails};
+ghost use Rattle.rvc_io.specs.Feeds.{PullsOnly, ReadFails};
 ghost use Rattle.net_model.specs.Limits.{max_instances};
 ghost use Rattle.trace_replay.specs.Between.{IsReadyToGo};
-ghost use Rattle.trace_replay.specs.Events.{EndsEvents, EndsTrace, JudgesEvents, JudgesTrace};
+ghost use Rattle.trace_replay.specs.Events.{EndsEvents, EndsTrace, EndsWhole, JudgesEvents, JudgesTrace};
+ghost use Rattle.trace_replay.specs.Feeding.{OnlyPulls};
 ghost use Rattle.trace_replay.specs.Head.{JudgesEnd};
-ghost use Rattle.trace_replay.specs.Tallying.{EndsWhole};
 ghost use Rattle.trace_replay.specs.Reading.{IsCounted, OnReadFault, NamesFeed, NamesTrace};
 ghost use Rattle.trace_replay.specs.declared.bytes.TheConstants.{TRACE_FEED};
 
@@ -14,14 +14,12 @@ use crate::between::Replay;
 use crate::came::Came;
 use crate::head::read_head;
 use crate::reading::{Trace, finish, not_run};
-use crate::replayed::Replayed;
-use crate::tally::{Tally, counted};
 use crate::why::ReplayFault;
 use net_model::Firing;
 use rvc_io::Feeds;
 use trace_text::Line;
 
-/// Reads lines of a run up to its end line, and whether the trace ends there.
+/// Reads lines of a run up to its end line, which counts them, and whether the trace ends there.
 ///
 /// # Errors
 ///
@@ -30,31 +28,30 @@ pub(crate) fn read_events<A: Firing, F: Feeds>(
     trace: &mut Trace,
     replay: &mut Replay<A>,
     feeds: &mut F,
-) -> Result<Replayed, ReplayFault>
+) -> Result<Line, ReplayFault>
     requires open { (F.feeds feeds.old).is_open TRACE_FEED ≡ true }
     requires counted { IsCounted trace.old.count trace.old.lines.passed }
     requires count { replay.old.count ≡ length replay.old.state.cells }
     requires ready { IsReadyToGo A.cell F.feeds replay.old feeds.old }
     requires grow { trace.old.grow ≡ replay.old.grow }
     requires fresh { replay.old.rested ≡ false }
-    ensures ended { IfOk result (EndsEvents A.cell F.feeds trace.old replay.old feeds.old) }
+    requires none_fired { replay.old.numbers.firings ≡ 0 }
+    requires none_delivered { replay.old.numbers.rounds ≡ 0 }
+    ensures ended { IfOk result (λ end. EndsEvents A.cell F.feeds trace.old replay.old feeds.old end
+        replay.new.numbers) }
     ensures judged { IfErr result (JudgesEvents A.cell F.feeds trace.old replay.old feeds.old) }
     ensures failed { OnReadFault result (ReadFails F.feeds feeds.old feeds.new) }
     ensures feed { IfErr result (NamesFeed replay.old.links.items) }
+    ensures feeds_stay { OnlyPulls (F.feeds feeds.old) (F.feeds feeds.new) }
 {
-    let mut tally = Tally {
-        firings: 0,
-        rounds: 0,
-    };
     'lines: loop {
         let read = match trace.next_line(&[], &[], feeds) {
             Ok(read) => read,
             Err(fault) => return Err(fault),
         };
-        tally = counted(tally, &read.line);
         match replay.come(&read.line, feeds) {
             Came::Goes => {}
-            Came::Ends => return end_at::<A, F>(trace, read.line, tally, feeds),
+            Came::Ends => return end_at::<A, F>(trace, read.line, feeds),
             Came::Fails(why) => return Err(not_run(trace.number(), why)),
             Came::FeedFails(feed) => return Err(ReplayFault::ReadFault { feed }),
         }
@@ -65,22 +62,18 @@ pub(crate) fn read_events<A: Firing, F: Feeds>(
 fn end_at<A: Firing, F: Feeds>(
     trace: &mut Trace,
     end: Line,
-    tally: Tally,
     feeds: &mut F,
-) -> Result<Replayed, ReplayFault>
+) -> Result<Line, ReplayFault>
     requires open { (F.feeds feeds.old).is_open TRACE_FEED ≡ true }
     requires counted { IsCounted trace.old.count trace.old.lines.passed }
-    ensures whole { IfOk result (EndsWhole A.State F.feeds end tally trace.old feeds.old) }
+    ensures whole { IfOk result (EndsWhole A.State F.feeds end trace.old feeds.old) }
     ensures judged { IfErr result (JudgesEnd A.State trace.old (F.feeds feeds.old)) }
     ensures failed { OnReadFault result (ReadFails F.feeds feeds.old feeds.new) }
     ensures feed { IfErr result NamesTrace }
+    ensures elsewhere { PullsOnly F.feeds feeds.old feeds.new TRACE_FEED }
 {
     match finish::<A, F>(trace, feeds) {
-        Ok(()) => Ok(Replayed {
-            end,
-            firings: tally.firings,
-            rounds: tally.rounds,
-        }),
+        Ok(()) => Ok(end),
         Err(fault) => Err(fault),
     }
 }
@@ -97,7 +90,7 @@ pub(crate) fn read_trace<A: Firing, F: Feeds>(
     first: &Line,
     names: &[String],
     feeds: &mut F,
-) -> Result<Replayed, ReplayFault>
+) -> Result<Line, ReplayFault>
     requires open { (F.feeds feeds.old).is_open TRACE_FEED ≡ true }
     requires counted { IsCounted trace.old.count trace.old.lines.passed }
     requires few { length names.now ≤ max_instances }
@@ -105,12 +98,15 @@ pub(crate) fn read_trace<A: Firing, F: Feeds>(
     requires ready { IsReadyToGo A.cell F.feeds replay.old feeds.old }
     requires grow { trace.old.grow ≡ replay.old.grow }
     requires fresh { replay.old.rested ≡ false }
-    ensures ended { IfOk result (EndsTrace A.cell F.feeds first.now names.now trace.old replay.old
-        feeds.old) }
+    requires none_fired { replay.old.numbers.firings ≡ 0 }
+    requires none_delivered { replay.old.numbers.rounds ≡ 0 }
+    ensures ended { IfOk result (λ end. EndsTrace A.cell F.feeds first.now names.now trace.old
+        replay.old feeds.old end replay.new.numbers) }
     ensures judged { IfErr result (JudgesTrace A.cell F.feeds first.now names.now trace.old replay.old
         feeds.old) }
     ensures failed { OnReadFault result (ReadFails F.feeds feeds.old feeds.new) }
     ensures feed { IfErr result (NamesFeed replay.old.links.items) }
+    ensures feeds_stay { OnlyPulls (F.feeds feeds.old) (F.feeds feeds.new) }
 {
     match read_head::<A, F>(trace, first, names, feeds) {
         Ok(()) => {}

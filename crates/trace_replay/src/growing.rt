@@ -1,7 +1,7 @@
 //! Lines that say that a link grows.
 
 ghost use Rattle.std.specs.Prelude.{◌≡◌, true, false, Some, map, slice_get};
-ghost use Rattle.net_state.specs.Held.{seen};
+ghost use Rattle.net_state.specs.Held.{HoldFew, seen};
 ghost use Rattle.net_state.specs.Moving.{SameActors, SameMarks};
 ghost use Rattle.net_state.specs.Surveyed.{AreUntrapped};
 ghost use Rattle.net_state.specs.Working.{IsAtRest};
@@ -52,6 +52,7 @@ fn grow_at<A: Firing>(
     ensures yes { result ≡ true → GrewAt grow link.0 capacity (seen A.cell state.old) (seen A.cell state.new) }
     ensures no { result ≡ false → GrewNotAt grow link.0 capacity (seen A.cell state.old) }
     ensures enough { HoldEnough links.now state.old.capacities → HoldEnough links.now state.new.capacities }
+    ensures few { HoldFew state.old.capacities → HoldFew state.new.capacities }
     ensures cells { state.new.cells ≡ state.old.cells }
     ensures links { state.new.links ≡ state.old.links }
     ensures waited { state.new.waited ≡ state.old.waited }
@@ -77,12 +78,14 @@ pub(crate) fn grow_so<A: Firing>(
     requires links { state.old.links ≡ links.now }
     requires queues { CanGrow grow (map A.cell state.old.cells) links.now }
     requires enough { HoldEnough links.now state.old.capacities }
+    requires few { HoldFew state.old.capacities }
     requires untrapped { AreUntrapped (map A.cell state.old.cells) }
     requires rest { IsAtRest (seen A.cell state.old) }
     ensures yes { result ≡ true → GrowsSo grow link capacity (seen A.cell state.old)
         (seen A.cell state.new) }
     ensures no { result ≡ false → GrowsNotSo grow link capacity (seen A.cell state.old) }
     ensures enough { HoldEnough links.now state.new.capacities }
+    ensures few { HoldFew state.new.capacities }
     ensures rests { IsAtRest (seen A.cell state.new) }
     ensures same_actors { SameActors (map A.cell state.old.cells) (map A.cell state.new.cells) }
     ensures same_marks { SameMarks (map A.cell state.old.cells) (map A.cell state.new.cells) }

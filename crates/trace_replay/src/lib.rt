@@ -7,7 +7,7 @@
 mod between;
 mod bytes;
 mod came;
-mod delivering;
+mod counting;
 mod ending;
 mod events;
 mod growing;
@@ -17,10 +17,7 @@ mod reading;
 mod replayed;
 mod replaying;
 mod scan;
-mod source;
-mod sources;
 mod states;
-mod tally;
 mod trying;
 mod why;
 

@@ -1,13 +1,13 @@
 //! What came of a trace that was replayed.
 
+use net_model::Counts;
 use trace_text::Line;
 
 /// What came of a trace that was replayed.
-#[derive(Clone, Copy, Debug)]
+#[derive(Drop)]
 pub struct Replayed {
     /// The line that ends the run.
     pub end: Line,
-    /// How many lines are firings, and how many are deliveries.
-    pub firings: u64,
-    pub rounds: u64,
+    /// The numbers of the run.
+    pub counts: Counts,
 }

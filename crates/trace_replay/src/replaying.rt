@@ -2,6 +2,7 @@
 
 ghost use Rattle.std.specs.Prelude.{◌≡◌, IfOk, IfErr, map, string_bytes};
 ghost use Rattle.rvc_io.specs.Feeds.{ReadFails};
+ghost use Rattle.trace_replay.specs.Feeding.{OnlyPulls};
 ghost use Rattle.trace_replay.specs.Reading.{OnReadFault, NamesFeed};
 ghost use Rattle.trace_replay.specs.Replaying.{CanReplay, RefusesOn, ReplaysOn};
 
@@ -47,6 +48,7 @@ pub fn replay<A: Firing, F: Feeds>(
         feeds.old) }
     ensures failed { OnReadFault result (ReadFails F.feeds feeds.old feeds.new) }
     ensures feed { IfErr result (NamesFeed wiring.links.items) }
+    ensures feeds_stay { OnlyPulls (F.feeds feeds.old) (F.feeds feeds.new) }
 {
     ready_networks_can_work::<StatesOf<A>>();
     traces_are_runs::<StatesOf<A>>();
@@ -59,9 +61,12 @@ pub fn replay<A: Firing, F: Feeds>(
         return Err(ReplayFault::Memory);
     };
     let first = replay.first_line();
-    let replayed = match read_trace(&mut trace, &mut replay, &first, names, feeds) {
-        Ok(replayed) => replayed,
+    let end = match read_trace(&mut trace, &mut replay, &first, names, feeds) {
+        Ok(end) => end,
         Err(fault) => return Err(fault),
     };
-    Ok(replayed)
+    Ok(Replayed {
+        end,
+        counts: replay.into_numbers(),
+    })
 }

@@ -1,5 +1,6 @@
 use Rattle.std.specs.Prelude.{◌≡◌, ◌-◌, ◌≤◌, true, length}
 use Rattle.trace_replay.specs.Between.{IsReadyToGo, stand}
+use Rattle.trace_replay.specs.Feeding.{OnlyPulls}
 use Rattle.trace_replay.specs.Judging.{max_trace_bytes}
 use Rattle.trace_replay.specs.Reading.{IsCounted}
 use Rattle.trace_replay.specs.declared.bytes.TheConstants.{TRACE_FEED}
@@ -10,9 +11,9 @@ abbrev pub invariant-lines : goal.invariant-lines
 invariant-lines g l =
     record {
       led : LedFrom l.initial.trace (stand g.A.Firing.cell g.F.Feeds.feeds l.initial.replay l.initial.feeds) l.initial.replay.grow
-          l.trace (stand g.A.Firing.cell g.F.Feeds.feeds l.replay l.feeds) l.tally.firings l.tally.rounds;
-      firings : l.tally.firings ≤ l.trace.count;
-      rounds : l.tally.rounds ≤ l.trace.count;
+          l.trace (stand g.A.Firing.cell g.F.Feeds.feeds l.replay l.feeds);
+      firings : l.replay.numbers.firings ≤ l.trace.count;
+      rounds : l.replay.numbers.rounds ≤ l.trace.count;
       is_open : (g.F.Feeds.feeds l.feeds).is_open TRACE_FEED ≡ true;
       counted : IsCounted l.trace.count l.trace.lines.passed;
       count : l.replay.count ≡ length l.replay.state.cells;
@@ -20,7 +21,7 @@ invariant-lines g l =
       grow : l.replay.grow ≡ l.initial.replay.grow;
       links : l.replay.links ≡ l.initial.replay.links;
       trace_grow : l.trace.grow ≡ l.replay.grow;
-      faults : (g.F.Feeds.feeds l.initial.feeds).faults ≤ (g.F.Feeds.feeds l.feeds).faults;
+      pulls : OnlyPulls (g.F.Feeds.feeds l.initial.feeds) (g.F.Feeds.feeds l.feeds);
     }
 
 abbrev pub decreases-lines : goal.decreases-lines

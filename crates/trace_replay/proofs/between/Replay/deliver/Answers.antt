@@ -1,32 +1,70 @@
-use Rattle.std.proofs.Common.{◌≡◌, true, length, sym, subst, arith}
+use Rattle.std.proofs.Common.{◌≡◌, ◌++◌, true, length, take, drop, sym, subst, ap, ◌∙◌, arith}
 use Rattle.net_state.specs.Held.{seen}
+use Rattle.network_runner.specs.Delivering.{Delivers}
+use Rattle.network_runner.specs.Filling.{IsFeedOf as IsFeedOfReader, ReadersFit}
 use Rattle.trace_replay.specs.Between.{CanGoOn, GoesBy, between}
-use Rattle.trace_replay.specs.Feeding.{DeliversAll, IsFeedOf}
+use Rattle.trace_replay.specs.Counting.{CatchesUp, CountsDelivery}
 use Rattle.trace_text.specs.declared.line.Line.TheVariants.{Deliver}
 use Rattle.trace_replay.proofs.Chained.{written_back}
-use Rattle.trace_replay.proofs.Stepped.{delivered_goes, delivered_ready}
+use Rattle.trace_replay.proofs.Stepped.{delivered_counts, delivered_goes, delivered_ready, feed_named, fit_delivered}
 use Rattle.trace_replay.proofs.between.Replay.deliver.Goals as goal
 
 pub returns-in-Ok-clause-goes : goal.returns-in-Ok-clause-goes
 returns-in-Ok-clause-goes g c =
-    let len : length c.deliver_all.new.sources ≡ c.args.self.now.sources.len = omega (arith, c.deliver_all.auto.sources, c.deref_mut.ensures.len) in
-    subst (λ xs. GoesBy c.args.self.now.grow Deliver (between g.A.Firing.cell c.args.self.now.state c.args.self.now.sources.items c.args.self.now.rested (g.F.Feeds.feeds c.args.feeds.now))
-    (between g.A.Firing.cell c.deliver_all.new.state xs true (g.F.Feeds.feeds c.deliver_all.new.feeds)))
-    (sym (written_back c.args.self.now.sources.items c.deliver_all.new.sources c.args.self.now.sources.len len))
-    (delivered_goes c.args.self.now.grow (seen g.A.Firing.cell c.args.self.now.state) (seen g.A.Firing.cell c.deliver_all.new.state) c.args.self.now.sources.items c.deliver_all.new.sources c.args.self.now.rested
-    (g.F.Feeds.feeds c.args.feeds.now) (g.F.Feeds.feeds c.deliver_all.new.feeds)
-    (subst (λ xs. DeliversAll (seen g.A.Firing.cell c.args.self.now.state) (seen g.A.Firing.cell c.deliver_all.new.state) xs c.deliver_all.new.sources (g.F.Feeds.feeds c.args.feeds.now) (g.F.Feeds.feeds c.deliver_all.new.feeds))
-    c.deref_mut.ensures.value c.in-Ok.ensures.made))
+    let self = c.args.self.now in
+    let old = seen g.A.Firing.cell self.state in
+    let new = seen g.A.Firing.cell c.deliver_all.new.net in
+    let fo = g.F.Feeds.feeds c.args.feeds.now in
+    let fn = g.F.Feeds.feeds c.deliver_all.new.feeds in
+    let len : length c.deliver_all.new.readers ≡ self.readers.len = omega (arith, c.deliver_all.auto.readers, c.deref_mut.ensures.len) in
+    subst (λ xs. GoesBy self.grow Deliver (between g.A.Firing.cell self.state self.readers.items self.numbers self.rested fo) (between g.A.Firing.cell c.deliver_all.new.net xs c.count_delivery.new.numbers true fn))
+    (sym (written_back self.readers.items c.deliver_all.new.readers self.readers.len len))
+    (delivered_goes self.grow old new self.readers.items c.deliver_all.new.readers self.numbers c.count_delivery.new.numbers self.rested fo fn c.deliver_all.new.came
+    (subst (λ xs. Delivers old new xs c.deliver_all.new.readers fo fn c.deliver_all.new.came) c.deref_mut.ensures.value c.in-Ok.ensures.delivers))
+
+pub returns-in-Ok-clause-counts : goal.returns-in-Ok-clause-counts
+returns-in-Ok-clause-counts g c =
+    let self = c.args.self.now in
+    let old = seen g.A.Firing.cell self.state in
+    let new = seen g.A.Firing.cell c.deliver_all.new.net in
+    let fo = g.F.Feeds.feeds c.args.feeds.now in
+    let fn = g.F.Feeds.feeds c.deliver_all.new.feeds in
+    let long : length c.deliver_all.new.came ≡ self.came.len = omega (arith, c.deliver_all.auto.came, c.deref_mut-2.ensures.len) in
+    let came : c.deref-in-Ok.result.now ≡ c.deliver_all.new.came = c.deref-in-Ok.ensures.value ∙ written_back self.came.items c.deliver_all.new.came self.came.len long in
+    delivered_counts self.grow self.links.items old new self.readers.items c.deliver_all.new.readers self.numbers c.catch_up.new.numbers c.count_delivery.new.numbers self.rested fo fn c.deliver_all.new.came
+    (subst (λ xs. Delivers old new xs c.deliver_all.new.readers fo fn c.deliver_all.new.came) c.deref_mut.ensures.value c.in-Ok.ensures.delivers)
+    c.requires.ready.links_are c.requires.few c.requires.ready.few_held
+    (subst (λ ls. CatchesUp old.cells ls self.numbers c.catch_up.new.numbers) c.deref.ensures.value c.catch_up.ensures)
+    (subst (λ fs. CountsDelivery fs c.catch_up.new.numbers c.count_delivery.new.numbers) came c.count_delivery.ensures)
 
 pub returns-in-Ok-clause-still_ready : goal.returns-in-Ok-clause-still_ready
 returns-in-Ok-clause-still_ready g c =
-    let len : length c.deliver_all.new.sources ≡ c.args.self.now.sources.len = omega (arith, c.deliver_all.auto.sources, c.deref_mut.ensures.len) in
-    subst (λ xs. CanGoOn (between g.A.Firing.cell c.deliver_all.new.state xs true (g.F.Feeds.feeds c.deliver_all.new.feeds)) c.args.self.now.links.items c.args.self.now.grow)
-    (sym (written_back c.args.self.now.sources.items c.deliver_all.new.sources c.args.self.now.sources.len len))
-    (delivered_ready c.args.self.now.grow c.args.self.now.links.items (seen g.A.Firing.cell c.args.self.now.state) (seen g.A.Firing.cell c.deliver_all.new.state) c.args.self.now.sources.items c.deliver_all.new.sources
-    c.args.self.now.rested (g.F.Feeds.feeds c.args.feeds.now) (g.F.Feeds.feeds c.deliver_all.new.feeds)
-    (subst (λ ls. Rattle.trace_replay.specs.Feeding.HaveSources ls c.deliver_all.new.sources (g.F.Feeds.feeds c.deliver_all.new.feeds)) c.requires.ready.links_are c.in-Ok.ensures.still_sources)
-    c.in-Ok.ensures.rests c.in-Ok.ensures.same_actors c.in-Ok.ensures.same_marks c.in-Ok.ensures.links c.in-Ok.ensures.capacities c.requires.ready)
+    let self = c.args.self.now in
+    let old = seen g.A.Firing.cell self.state in
+    let new = seen g.A.Firing.cell c.deliver_all.new.net in
+    let fo = g.F.Feeds.feeds c.args.feeds.now in
+    let fn = g.F.Feeds.feeds c.deliver_all.new.feeds in
+    let len : length c.deliver_all.new.readers ≡ self.readers.len = omega (arith, c.deliver_all.auto.readers, c.deref_mut.ensures.len) in
+    let long : length c.deliver_all.new.came ≡ self.came.len = omega (arith, c.deliver_all.auto.came, c.deref_mut-2.ensures.len) in
+    let back : take self.came.len (c.deliver_all.new.came ++ drop (length c.deliver_all.new.came) self.came.items) ≡ c.deliver_all.new.came = written_back self.came.items c.deliver_all.new.came self.came.len long in
+    let came : c.deref-in-Ok.result.now ≡ c.deliver_all.new.came = c.deref-in-Ok.ensures.value ∙ back in
+    let came_long : length (take self.came.len (c.deliver_all.new.came ++ drop (length c.deliver_all.new.came) self.came.items)) ≡ length self.came.items =
+    ap (λ fs. length fs) back ∙ (c.deliver_all.ensures.still_as_many ∙ ap (λ fs. length fs) c.deref_mut-2.ensures.value) in
+    subst (λ xs. CanGoOn (between g.A.Firing.cell c.deliver_all.new.net xs c.count_delivery.new.numbers true fn) self.links.items
+    (length (take self.came.len (c.deliver_all.new.came ++ drop (length c.deliver_all.new.came) self.came.items))) self.grow)
+    (sym (written_back self.readers.items c.deliver_all.new.readers self.readers.len len))
+    (delivered_ready self.grow self.links.items (length self.came.items) (length (take self.came.len (c.deliver_all.new.came ++ drop (length c.deliver_all.new.came) self.came.items))) old new
+    self.readers.items c.deliver_all.new.readers self.numbers c.count_delivery.new.numbers self.rested fo fn
+    (subst (λ ls. ReadersFit ls c.deliver_all.new.readers fn) c.deref-2.ensures.value c.deliver_all.ensures.still_fit) came_long
+    (fit_delivered old.cells self.links.items c.deliver_all.new.came self.numbers c.catch_up.new.numbers c.count_delivery.new.numbers
+    (subst (λ ls. CatchesUp old.cells ls self.numbers c.catch_up.new.numbers) c.deref.ensures.value c.catch_up.ensures)
+    (subst (λ fs. CountsDelivery fs c.catch_up.new.numbers c.count_delivery.new.numbers) came c.count_delivery.ensures) c.requires.ready.numbers)
+    c.in-Ok.ensures.delivers.rests c.deliver_all.ensures.same_actors c.deliver_all.ensures.same_marks c.deliver_all.ensures.links c.deliver_all.ensures.capacities c.requires.ready)
 
 pub returns-in-Err-clause-feed : goal.returns-in-Err-clause-feed
-returns-in-Err-clause-feed g c = subst (λ links. IsFeedOf links c.in-Err.feed) c.requires.ready.links_are c.in-Err.ensures.feed
+returns-in-Err-clause-feed g c =
+    let self = c.args.self.now in
+    let fn = g.F.Feeds.feeds c.deliver_all.new.feeds in
+    feed_named self.links.items c.deliver_all.new.readers fn c.in-Err.fault.feed
+    (subst (λ ls. ReadersFit ls c.deliver_all.new.readers fn) c.deref-2.ensures.value c.deliver_all.ensures.still_fit)
+    (subst (λ ls. IsFeedOfReader ls c.deliver_all.new.readers c.in-Err.fault.feed) c.deref-2.ensures.value c.in-Err.ensures.feed)
