@@ -1,8 +1,8 @@
 //! The feeds of the generator's network.
 
-ghost use Rattle.std.specs.Prelude.{◌≡◌, ◌≤◌, ◌<◌, ◌++◌, IfOk, IfSome, MatchOption, None, Some, drop, length, min, replicate, slice_index_or, slice_set, take};
+ghost use Rattle.std.specs.Prelude.{◌≡◌, ◌≤◌, ◌<◌, ◌+◌, ◌++◌, IfOk, MatchOption, None, Some, drop, length, min, replicate, slice_set, take, true};
 ghost use Rattle.generated_network.specs.Feed.{bytes_of};
-ghost use Rattle.generated_network.specs.Objects.{FeedsState, feed_is_open, inputs_of, pulled_on};
+ghost use Rattle.generated_network.specs.Objects.{feed_is_open, inputs_of, pulled_on};
 
 use crate::feed::feed_bytes;
 use rvc_base::Memory;
@@ -58,7 +58,8 @@ impl GeneratedFeeds {
     fn rest(&self, count: usize) -> &[u8]
         requires { count ≤ length self.now.bytes }
         ensures rest { result.now ≡ drop count self.now.bytes }
-        ensures fits { count + length result.now ≤ length self.now.bytes }
+        ensures inside { count + length result.now ≤ length self.now.bytes }
+        ensures fits { count + length result.now ≤ usize.MAX }
     {
         &self.bytes[count..]
     }

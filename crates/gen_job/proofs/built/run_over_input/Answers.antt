@@ -9,5 +9,5 @@ returns-in-Ok g c = of_run c.requires.matched (record {
   feeds_after = inputs_of c.run_image.new.feeds;
   given = λ name. ap Some c.in-Ok.ensures.bytes;
   no_fault = refl;
-  answered = c.run_image.ensures;
+  answered = c.run_image.ensures.answered;
 })

@@ -18,7 +18,7 @@ run_image-requires-clause-source g c κs within = c.built_images_can_be_run.ensu
 
 pub returns-in-Ok-clause-answered : goal.returns-in-Ok-clause-answered
 returns-in-Ok-clause-answered g c =
-    c.run_image.ensures (g.L.Library.file c.args.library.now) (record { old = g.L.Library.misses c.args.library.now; new = g.L.Library.misses c.build.new.library })
+    c.run_image.ensures.answered (g.L.Library.file c.args.library.now) (record { old = g.L.Library.misses c.args.library.now; new = g.L.Library.misses c.build.new.library })
     (record { old = g.L.Library.faults c.args.library.now; new = g.L.Library.faults c.build.new.library })
     (subst (λ top. IsBuilt (g.L.Library.file c.args.library.now) (top_asked top) (file_names c.build.new.names) c.in-Ok.image) c.as_str.ensures.value c.in-Ok.ensures.built)
 
