@@ -6,8 +6,8 @@
 //! report.
 //!
 //! What it promises is said of the source network alone: `specs/Replays.antt` says by what a trace is judged, and
-//! `specs/Ends.antt` to what a command comes and what it leaves, with a case for each status. `proofs/LikeTraces.antt` says
-//! that networks which are alike have the same traces, so what is told of cells holds of their sources.
+//! `specs/Ends.antt` to what a command comes and what it leaves, with a case for each status. Networks that are alike have
+//! the same traces (`alike_traces`), so what is told of cells holds of their sources (`proofs/Sourced.antt`).
 #![tactic(auto)]
 
 mod image;
