@@ -187,9 +187,11 @@ module _ {X Y : Type 0} (related : ℕ → X → Y → Type 0) (allowed : Allowe
   event_fails_too opened s first those (Fire i a) why twins h =
       firing_fails_too opened s first those i a why (effect_at t.net s i a) (effect_at (twin_net t.net others) (twin s those) i a)
       (twin_effect related allowed t.net others twins_there s those twins i a) h
-  event_fails_too opened s first those (TrapLine i a c) why twins h =
-      (h.0, (λ comes. h.1 (trap_comes_back opened s first those i a c (effect_at t.net s i a) (effect_at (twin_net t.net others) (twin s those) i a)
-      (twin_effect related allowed t.net others twins_there s those twins i a) comes)))
+  event_fails_too opened s first those (TrapLine i a c) why twins h = (
+    h.0,
+    (λ comes. h.1 (trap_comes_back opened s first those i a c (effect_at t.net s i a) (effect_at (twin_net t.net others) (twin s those) i a)
+        (twin_effect related allowed t.net others twins_there s those twins i a) comes)),
+  )
   event_fails_too opened s first those (Grow l capacity) why twins h = (h.0, (λ grows. h.1 (grows_back s those l capacity twins grows)))
   event_fails_too opened s first those Quiet why twins h = (h.0, (λ quiet. h.1 (quiet_back related allowed t.net others twins_there s those twins quiet)))
   event_fails_too opened s first those (Stall i a l) why twins h = (h.0, (λ stuck. h.1 (stuck_back related allowed t.net others twins_there t.grow s those i a l twins stuck)))

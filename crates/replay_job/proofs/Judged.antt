@@ -94,10 +94,12 @@ module _ {X : Type 0} (cells : List (Cell X)) (flat : Flat) (job : Job) (can_run
     pub fault_leaves : (now : Inputs) (fault : ReplayFault) → IsPermitted flat job → OnlyPulls new now → OnReadFault {T = Replayed} (Err fault) (HasRisen new.faults now.faults) → NamesFeed wiring.links.items fault
         → LeavesFeeds flat job old now (Err (stop.Fault fault))
     fault_leaves now (judged.NotRun line why) permitted pulls failed feed = (permitted, opens now pulls)
-    fault_leaves now (judged.ReadFault feed) permitted pulls failed named =
-        (permitted, inr (
-          risen_from old.faults new.faults now.faults opened.faults_stay failed,
-          subst (λ links. IsReadFeed links feed) prepared.wiring_is.is_of.links named,
-          opens now pulls,
-        ))
+    fault_leaves now (judged.ReadFault feed) permitted pulls failed named = (
+      permitted,
+      inr (
+        risen_from old.faults new.faults now.faults opened.faults_stay failed,
+        subst (λ links. IsReadFeed links feed) prepared.wiring_is.is_of.links named,
+        opens now pulls,
+      ),
+    )
     fault_leaves now judged.Memory permitted pulls failed feed = tt

@@ -16,9 +16,7 @@ ghost use Rattle.replay_job.specs.Replays.{ConformsToReplay, RefusesReplay};
 use crate::image::replay_image;
 use actor_files::Names;
 use network_cells::cells_run_as_sources;
-use network_commands::{
-    conforming_jobs_are_not_refused, report_unbuilt, status_of_build,
-};
+use network_commands::{conforming_jobs_are_not_refused, report_unbuilt, status_of_build};
 use run_report::Status;
 use rvc_engine::build;
 use rvc_io::{Drains, Feeds, Library};

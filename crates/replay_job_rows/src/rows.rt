@@ -282,7 +282,12 @@ fn hold<R: Abort>(rt: &R, alloc: Global, rows: &[Row]) -> Result<(), Fail> {
     for &(line, bytes, trace, failing, code, report) in rows {
         let files = files(alloc)?;
         let answered = replay_line(rt, alloc, files, line, bytes, trace, failing)?;
-        assert!(rt; answered.status.code() == code, "{}: {:?}", line, answered.status);
+        assert!(rt;
+            answered.status.code() == code,
+            "{}: {:?}",
+            line,
+            answered.status
+        );
         assert!(rt;
             answered.drains.held(0) == report.as_bytes(),
             "report of {}",

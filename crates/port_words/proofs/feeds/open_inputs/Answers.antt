@@ -17,7 +17,7 @@ links-preserved g c =
       omega (arith, near.0, so.1),
       (λ n low high. (let above : c.links.number ≤ n = omega (arith, near.0, low) in c.in-Ok.ensures.later n low ∙ so.2 n above high)),
       (λ all start begun. c.in-Ok.ensures.opened all c.in-Some.others.now start
-      (subst (λ ls. FeedsSoFar all (feeds_from c.links.number ls (names_of c.args.ins.now) (map port_text c.args.words.now)) c.links.number start (g.F.Feeds.feeds c.links.feeds)) opened (so.3 all start begun))),
+          (subst (λ ls. FeedsSoFar all (feeds_from c.links.number ls (names_of c.args.ins.now) (map port_text c.args.words.now)) c.links.number start (g.F.Feeds.feeds c.links.feeds)) opened (so.3 all start begun))),
     )
 
 pub returns-in-Err-clause-failed : goal.returns-in-Err-clause-failed
