@@ -1,5 +1,5 @@
 -- Networks that are alike have the same traces, and what is told of a text that is none is told of it in both.
-use Rattle.std.proofs.Common.{◌≡◌, ◌≢◌, inl, inr, ℕ, zero, suc, ◌+◌, Bool, true, false, List, [], ◌∷◌, ◌++◌, length, refl, sym, ap, ◌∙◌, subst, arith}
+use Rattle.std.proofs.Common.{◌≡◌, inl, inr, ℕ, zero, suc, ◌+◌, Bool, true, false, List, [], ◌∷◌, ◌++◌, length, refl, sym, ap, ◌∙◌, subst, arith}
 use Rattle.std.specs.Prelude.{Option, None, Some, slice_get, if◌then◌else◌, ◌==◌, replicate, pos, codes}
 use Rattle.rvc_base.specs.declared.trap.Trap.{Trap as TrapName}
 use Rattle.rvc_base.specs.Behaviour.{Effect, Fires, TrapsInGuard, TrapsInBody}
@@ -13,15 +13,16 @@ use Rattle.net_model.specs.declared.wiring.End.TheVariants.{Leaf as AtLeaf, Net 
 use Rattle.net_model.specs.declared.wiring.Link.{Link}
 use Rattle.net_model.specs.Network.{Leaf, Network}
 use Rattle.net_model.specs.State.{Flow, State, effect_at}
-use Rattle.net_model.specs.Event.{each_flow}
-use Rattle.net_model.specs.Ends.{Grows}
-use Rattle.net_model.specs.Trace.{FitFlows, LineIsTrue, PlaysFrom, TrapFits, counted_flows, goes, opened_by, with_given}
+use Rattle.net_model.specs.Ends.{Grows, IsSettled}
+use Rattle.net_model.specs.Trace.{FitFlows, PlaysFrom, TrapFits, counted_flows, goes, opened_by, with_given}
 use Rattle.net_model.specs.Paced.{HasRoomIn, PassesLink, PassesOn, PassesRoom}
 use Rattle.net_model.specs.Alike.{Allowed, AreAlike, EffectsAlike, LeavesAlike, StatesAlike}
 use Rattle.net_model.proofs.Twins.{StepToo, TwinNets, Twins, each_same, twin, twin_effect, twin_give, twin_net}
 use Rattle.net_model.proofs.LikeLines.{between_back, goes_too, line_too, plays_too, quiet_back, stalled_back, stuck_back}
 use Rattle.network_cells.proofs.Lawlike.{carried, keep_alike, nets, texts_alike, twins_of}
-use Rattle.trace_replay.specs.Judging.{AreOfTable, AtEnd, AtEvents, AtFirst, AtInstance, EventFails, FiringFails, IsInstance, IsNotRun, IsOver, IsTrace, LacksRoomIn, Lead, LeadsOn, LineFails, MayCome, Reached, RestFails, BeginsNone, IsOfNoTable, MayNotCome, IsBehindEnd, IsCutOff, GoesPast, EndsPast, TrapComes, Trial, after_line, due, first_line, instance_text, is_end}
+use Rattle.alike_traces.specs.Traces.{trial}
+use Rattle.trace_replay.specs.Events.{IsUnjudged}
+use Rattle.trace_replay.specs.Judging.{AreOfTable, AtEnd, AtEvents, AtFirst, AtInstance, EventFails, FiringFails, IsNotRun, IsOver, IsTrace, LacksRoomIn, Lead, LeadsOn, LineFails, MayCome, Reached, RestFails, BeginsNone, IsOfNoTable, MayNotCome, IsBehindEnd, IsCutOff, GoesPast, EndsPast, TrapComes, Trial, after_line, due, first_line, instance_text, is_end}
 use Rattle.trace_replay.specs.declared.why.Why.{Why}
 
 -- ---- names of leaves
@@ -56,6 +57,12 @@ record NamedSo {X Y : Type 0} (leaves : List (Leaf X)) (k : ℕ) (other : Leaf Y
 some_is : {A : Type 0} (x y : A) → Some x ≡ Some y → x ≡ y
 some_is x y h = cc
 
+same_path : {Y : Type 0} (one other : Leaf Y) → one ≡ other → one.path ≡ other.path
+same_path one other is = ap (λ l. l.path) is
+
+same_class : {Y : Type 0} (one other : Leaf Y) → one ≡ other → one.class ≡ other.class
+same_class one other is = ap (λ l. l.class) is
+
 named_at : {X Y : Type 0} (leaves : List (Leaf X)) (others : List (Leaf Y)) → SameNames leaves others → (k : ℕ) (other : Leaf Y) → slice_get others k ≡ Some other → NamedSo leaves k other
 named_at [] [] same k other at = cc
 named_at (leaf ∷ leaves) (first ∷ others) same zero other at =
@@ -63,8 +70,8 @@ named_at (leaf ∷ leaves) (first ∷ others) same zero other at =
     record {
       leaf = leaf;
       is_there = refl;
-      path = same.0 ∙ ap (λ (l : Leaf Y). l.path) is;
-      class = same.1 ∙ ap (λ (l : Leaf Y). l.class) is;
+      path = same.0 ∙ same_path first other is;
+      class = same.1 ∙ same_class first other is;
     }
 named_at (leaf ∷ leaves) (first ∷ others) same (suc k) other at =
     let more = named_at leaves others same.2 k other at in
@@ -180,9 +187,11 @@ module _ {X Y : Type 0} (related : ℕ → X → Y → Type 0) (allowed : Allowe
   event_fails_too opened s first those (Fire i a) why twins h =
       firing_fails_too opened s first those i a why (effect_at t.net s i a) (effect_at (twin_net t.net others) (twin s those) i a)
       (twin_effect related allowed t.net others twins_there s those twins i a) h
-  event_fails_too opened s first those (TrapLine i a c) why twins h =
-      (h.0, (λ comes. h.1 (trap_comes_back opened s first those i a c (effect_at t.net s i a) (effect_at (twin_net t.net others) (twin s those) i a)
-      (twin_effect related allowed t.net others twins_there s those twins i a) comes)))
+  event_fails_too opened s first those (TrapLine i a c) why twins h = (
+    h.0,
+    (λ comes. h.1 (trap_comes_back opened s first those i a c (effect_at t.net s i a) (effect_at (twin_net t.net others) (twin s those) i a)
+        (twin_effect related allowed t.net others twins_there s those twins i a) comes)),
+  )
   event_fails_too opened s first those (Grow l capacity) why twins h = (h.0, (λ grows. h.1 (grows_back s those l capacity twins grows)))
   event_fails_too opened s first those Quiet why twins h = (h.0, (λ quiet. h.1 (quiet_back related allowed t.net others twins_there s those twins quiet)))
   event_fails_too opened s first those (Stall i a l) why twins h = (h.0, (λ stuck. h.1 (stuck_back related allowed t.net others twins_there t.grow s those i a l twins stuck)))
@@ -296,24 +305,24 @@ module _ {X Y : Type 0} (related : ℕ → X → Y → Type 0) (allowed : Allowe
     fellows : Fellows next that
 
   leads_too : (reached next : Reached X) (other : Reached Y) (text : List ℕ) (line : Line) → Fellows reached other → LeadsOn t reached text line next → LeadsToo text line other next
-  leads_too AtFirst next AtFirst text line firsts on = record {
+  leads_too reached next that text line firsts on = record {
     that = due 0 others (twin t.start starts);
     leads = (on.0 ∙ first_same, refl);
     fellows = subst (λ r. Fellows r (due 0 others (twin t.start starts))) (sym on.1) (due_too 0 t.net.leaves others all_named);
   }
-  leads_too (AtInstance k leaf leaves) next (AtInstance k other more) text line (instances k leaf leaves other more path class same) on = record {
+  leads_too reached next that text line (instances k leaf leaves other more path class same) on = record {
     that = due (k + 1) more (twin t.start starts);
     leads = ((on.0.0, on.0.1 ∙ text_same k leaf other path class), refl);
     fellows = subst (λ r. Fellows r (due (k + 1) more (twin t.start starts))) (sym on.1) (due_too (k + 1) leaves more same);
   }
-  leads_too (AtEvents opened s) next (AtEvents _ _) text line (events opened s first those twins) (last, comes, is) =
+  leads_too reached next that text line (events opened s first those twins) (last, comes, is) =
       let too = may_come_too opened s last first those line twins comes in
       record {
         that = after_line line (twin opened first) (twin last too.that);
         leads = (twin last too.that, too.comes, refl);
         fellows = subst (λ r. Fellows r (after_line line (twin opened first) (twin last too.that))) (sym is) (after_too line opened last first too.that too.twins);
       }
-  leads_too (AtEnd end last) next (AtEnd _ _) text line (ends end last those twins) on = absurd on
+  leads_too reached next that text line (ends end last those twins) on = absurd on
 
   record LeadToo (texts : List (List ℕ)) (other : Reached Y) (last : Reached X) : Type 0 where
     that : Reached Y
@@ -330,31 +339,31 @@ module _ {X Y : Type 0} (related : ℕ → X → Y → Type 0) (allowed : Allowe
   -- ---- what fails
 
   line_fails_too : (reached : Reached X) (other : Reached Y) (text : List ℕ) (line : Line) (why : Why) → Fellows reached other → LineFails t reached text line why → LineFails fellow other text line why
-  line_fails_too AtFirst AtFirst text line why firsts h = (h.0, (λ is. h.1 (is ∙ sym first_same)))
-  line_fails_too (AtInstance k leaf leaves) (AtInstance k other more) text line why (instances k leaf leaves other more path class same) h =
+  line_fails_too reached that text line why firsts h = (h.0, (λ is. h.1 (is ∙ sym first_same)))
+  line_fails_too reached that text line why (instances k leaf leaves other more path class same) h =
       (h.0, (λ is. h.1 (is.0, is.1 ∙ sym (text_same k leaf other path class))))
-  line_fails_too (AtEvents opened s) (AtEvents _ _) text line why (events opened s first those twins) h = event_fails_too opened s first those line why twins h
-  line_fails_too (AtEnd end last) (AtEnd _ _) text line why (ends end last those twins) h = absurd h
+  line_fails_too reached that text line why (events opened s first those twins) h = event_fails_too opened s first those line why twins h
+  line_fails_too reached that text line why (ends end last those twins) h = absurd h
 
   over_too : (reached : Reached X) (other : Reached Y) → Fellows reached other → IsOver reached → IsOver other
-  over_too AtFirst AtFirst firsts h = absurd h
-  over_too (AtInstance k leaf leaves) (AtInstance k other more) (instances k leaf leaves other more path class same) h = absurd h
-  over_too (AtEvents opened s) (AtEvents _ _) (events opened s first those twins) h = absurd h
-  over_too (AtEnd end last) (AtEnd _ _) (ends end last those twins) h = tt
+  over_too reached that firsts h = absurd h
+  over_too reached that (instances k leaf leaves other more path class same) h = absurd h
+  over_too reached that (events opened s first those twins) h = absurd h
+  over_too reached that (ends end last those twins) h = tt
 
   over_back : (reached : Reached X) (other : Reached Y) → Fellows reached other → IsOver other → IsOver reached
-  over_back AtFirst AtFirst firsts h = absurd h
-  over_back (AtInstance k leaf leaves) (AtInstance k other more) (instances k leaf leaves other more path class same) h = absurd h
-  over_back (AtEvents opened s) (AtEvents _ _) (events opened s first those twins) h = absurd h
-  over_back (AtEnd end last) (AtEnd _ _) (ends end last those twins) h = tt
+  over_back reached that firsts h = absurd h
+  over_back reached that (instances k leaf leaves other more path class same) h = absurd h
+  over_back reached that (events opened s first those twins) h = absurd h
+  over_back reached that (ends end last those twins) h = tt
 
   rest_fails_too : (reached : Reached X) (other : Reached Y) (rest : List ℕ) (longer : Bool) (why : Why) → Fellows reached other → RestFails t reached rest longer why → RestFails fellow other rest longer why
   rest_fails_too reached other rest longer why fellows (BeginsNone going front byte more is fits begins) =
       BeginsNone (λ over. going (over_back reached other fellows over)) front byte more is fits begins
   rest_fails_too reached other rest longer why fellows (IsOfNoTable going line text more is spells of_none) =
       IsOfNoTable (λ over. going (over_back reached other fellows over)) line text more is spells of_none
-  rest_fails_too reached other rest longer why fellows (MayNotCome line why text more is spells of_table fails) =
-      MayNotCome line why text more is spells of_table (line_fails_too reached other text line why fellows fails)
+  rest_fails_too reached other rest longer why fellows (MayNotCome line cause text more is spells of_table fails) =
+      MayNotCome line cause text more is spells of_table (line_fails_too reached other text line cause fellows fails)
   rest_fails_too reached other rest longer why fellows (IsBehindEnd over some_left) = IsBehindEnd (over_too reached other fellows over) some_left
   rest_fails_too reached other rest longer why fellows (IsCutOff going front whole) = IsCutOff (λ over. going (over_back reached other fellows over)) front whole
   rest_fails_too reached other rest longer why fellows (GoesPast going front more) = GoesPast (λ over. going (over_back reached other fellows over)) front more
@@ -376,6 +385,40 @@ module _ {X Y : Type 0} (related : ℕ → X → Y → Type 0) (allowed : Allowe
         fails = rest_fails_too told.reached lead.that told.rest told.longer why lead.fellows told.fails;
       }
 
+  -- a growth that isn't judged isn't judged there either
+  settled_too : (s : State X) (those : List Y) → IsSettled t.net s → IsSettled (twin_net t.net others) (twin s those)
+  settled_too s those settled = record { untrapped = settled.untrapped; arrived = settled.arrived }
+
+  record EventsToo (opened s : State X) (that : Reached Y) : Type 0 where
+    first : List Y
+    those : List Y
+    is : that ≡ AtEvents (twin opened first) (twin s those)
+
+  events_only : (opened s : State X) (that : Reached Y) → Fellows (AtEvents opened s) that → EventsToo opened s that
+  events_only opened s that (events _ _ first those twins) = record { first = first; those = those; is = refl }
+
+  unjudged_too : (text : List ℕ) (n : ℕ) (why : Why) → IsUnjudged t text n why → IsUnjudged fellow text n why
+  unjudged_too text n why told =
+      let lead = lead_too told.texts AtFirst (AtEvents told.opened told.s) AtFirst firsts told.lead in
+      let at = events_only told.opened told.s lead.that lead.fellows in
+      record {
+        texts = told.texts;
+        front = told.front;
+        more = told.more;
+        line = told.line;
+        opened = twin told.opened at.first;
+        s = twin told.s at.those;
+        is_text = told.is_text;
+        lead = subst (λ r. Lead fellow AtFirst told.texts r) at.is lead.lead;
+        late = told.late;
+        settled = settled_too told.s at.those told.settled;
+        spells = told.spells;
+        growth = told.growth;
+        of_table = told.of_table;
+        number = told.number;
+        why_is = told.why_is;
+      }
+
   of_table_too : (lines : List Line) → AreOfTable t lines → AreOfTable fellow lines
   of_table_too lines of_table = record {
     first = subst IsWritten first_same of_table.first;
@@ -389,36 +432,28 @@ module _ {X Y : Type 0} (related : ℕ → X → Y → Type 0) (allowed : Allowe
 
 module _ {X Y : Type 0} (related : ℕ → X → Y → Type 0) (allowed : Allowed) (net : Network X) (other : Network Y) (alike : AreAlike related allowed net other) (grow : ℕ) (s : State X) (that : State Y)
     (states : StatesAlike related allowed net s that) where
-  abbrev one_trial : Trial X
-  one_trial = record { net = net; grow = grow; start = s }
-
-  abbrev other_trial : Trial Y
-  other_trial = record { net = other; grow = grow; start = that }
-
-  -- what isn't a run of the one isn't one of the other
-  pub not_run_alike : (text : List ℕ) (n : ℕ) (why : Why) → IsNotRun (record { net = net; grow = grow; start = s }) text n why → IsNotRun (record { net = other; grow = grow; start = that }) text n why
+  pub not_run_alike : (text : List ℕ) (n : ℕ) (why : Why) → IsNotRun (trial net grow s) text n why → IsNotRun (trial other grow that) text n why
   not_run_alike text n why told =
-      carried related allowed net other alike (λ m w. IsNotRun (record { net = m; grow = grow; start = w }) text n why) s that states
-      (not_run_too related allowed one_trial other.leaves that.actors (nets related allowed net other alike) (twins_of related allowed net other alike s that states) text n why told)
+      carried related allowed net other alike (λ m w. IsNotRun (trial m grow w) text n why) s that states
+      (not_run_too related allowed (trial net grow s) other.leaves that.actors (nets related allowed net other alike) (twins_of related allowed net other alike s that states) text n why told)
 
-  -- a trace of the one is one of the other, and leads to a state that is alike
-  pub record TracedToo (text : List ℕ) (lines : List Line) (end : Line) (last : State X) : Type 0 where
-    pub there : State Y
-    pub is_trace : IsTrace (record { net = other; grow = grow; start = that }) text lines end there
-    pub states_there : StatesAlike related allowed net last there
+  pub unjudged_alike : (text : List ℕ) (n : ℕ) (why : Why) → IsUnjudged (trial net grow s) text n why → IsUnjudged (trial other grow that) text n why
+  unjudged_alike text n why told =
+      carried related allowed net other alike (λ m w. IsUnjudged (trial m grow w) text n why) s that states
+      (unjudged_too related allowed (trial net grow s) other.leaves that.actors (nets related allowed net other alike) (twins_of related allowed net other alike s that states) text n why told)
 
-  pub trace_alike : (text : List ℕ) (lines : List Line) (end : Line) (last : State X) → IsTrace (record { net = net; grow = grow; start = s }) text lines end last → TracedToo text lines end last
+  pub trace_alike : (text : List ℕ) (lines : List Line) (end : Line) (last : State X) → IsTrace (trial net grow s) text lines end last
+      → (there : State Y) × IsTrace (trial other grow that) text lines end there × StatesAlike related allowed net last there
   trace_alike text lines end last is_trace =
-      let too = plays_too related allowed net other.leaves (nets related allowed net other alike) grow lines s last that.actors (twins_of related allowed net other alike s that states) is_trace.plays in
-      record {
-        there = twin last too.0;
-        is_trace = record {
+      let too = plays_too related allowed net other.leaves (nets related allowed net other alike) grow lines s last that.actors (twins_of related allowed net other alike s that states) is_trace.plays in (
+        twin last too.0,
+        record {
           is_text = is_trace.is_text ∙ texts_alike related allowed net other alike grow lines;
-          of_table = carried related allowed net other alike (λ m w. AreOfTable (record { net = m; grow = grow; start = w }) lines) s that states
-              (of_table_too related allowed one_trial other.leaves that.actors (nets related allowed net other alike) (twins_of related allowed net other alike s that states) lines is_trace.of_table);
+          of_table = carried related allowed net other alike (λ m w. AreOfTable (trial m grow w) lines) s that states
+              (of_table_too related allowed (trial net grow s) other.leaves that.actors (nets related allowed net other alike) (twins_of related allowed net other alike s that states) lines is_trace.of_table);
           plays = carried related allowed net other alike (λ m w. PlaysFrom m grow w lines (twin last too.0)) s that states too.1;
           keeps = keep_alike related allowed net other alike s that lines states is_trace.keeps;
           ends = is_trace.ends;
-        };
-        states_there = record { actors = too.2.actors; flows = refl; trapped = refl; holds = too.2.holds };
-      }
+        },
+        record { actors = too.2.actors; flows = refl; trapped = refl; holds = too.2.holds },
+      )

@@ -1,0 +1,5 @@
+mod Opened
+mod Named
+mod Judged
+mod Sourced
+mod Answering

@@ -1,0 +1,4 @@
+pub mod Replays
+pub mod Ends
+pub mod Naming
+pub mod Steps
