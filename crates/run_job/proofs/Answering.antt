@@ -185,28 +185,34 @@ module _ (job : Job) (library : loading.Library) (misses faults : loading.Counts
   how_ended (end.Trapped inst action trap) counts permitted within touches caused leaves = (net, record { counts = counts; ran = some_ran _ counts permitted within touches leaves })
   how_ended (end.Stalled inst action link) counts permitted within touches caused leaves = (net, record { counts = counts; ran = some_ran _ counts permitted within touches leaves })
   how_ended end.Budget counts permitted within touches caused leaves = (net, record { counts = counts; ran = some_ran BudgetLine counts permitted within touches leaves; firings_are = refl })
-  how_ended (end.ReadFault feed) counts permitted within touches caused leaves = (net, record {
-    is_to_run = to_run permitted.matched;
-    fits = within_growth permitted.fits;
-    how = inr (record {
-      counted = caused.0;
-      is_feed = subst (λ ls. IsFeedOf ls (port_names net.ins) (asks.words_of job) feed) (sym links_are)
-          (subst (λ ps. IsFeedOf image.flat.links.items ps (asks.words_of job) feed) (sym ins_are) caused.1);
-      counts = counts;
-      leaves = λ inputs given. cut (run_over cmd net inputs) between new only counts (leaves inputs given);
-      within = within;
+  how_ended (end.ReadFault feed) counts permitted within touches caused leaves = (
+    net,
+    record {
+      is_to_run = to_run permitted.matched;
+      fits = within_growth permitted.fits;
+      how = inr (record {
+        counted = caused.0;
+        is_feed = subst (λ ls. IsFeedOf ls (port_names net.ins) (asks.words_of job) feed) (sym links_are)
+            (subst (λ ps. IsFeedOf image.flat.links.items ps (asks.words_of job) feed) (sym ins_are) caused.1);
+        counts = counts;
+        leaves = λ inputs given. cut (run_over cmd net inputs) between new only counts (leaves inputs given);
+        within = within;
+        touches = touches;
+      });
+      about_is = about_is;
+    },
+  )
+  how_ended (end.WriteFault channel) counts permitted within touches caused leaves = (
+    net,
+    record {
+      is_to_run = to_run permitted.matched;
+      fits = within_growth permitted.fits;
+      counted = risen_to old.faults between.faults new.faults caused.0 only.faults_stay;
+      is_channel = subst (λ ps. IsChannelOf ps (asks.words_of job) channel) (sym outs_are) caused.1;
+      leaves = λ inputs given. broken (run_over cmd net inputs) between new only (leaves inputs given);
       touches = touches;
-    });
-    about_is = about_is;
-  })
-  how_ended (end.WriteFault channel) counts permitted within touches caused leaves = (net, record {
-    is_to_run = to_run permitted.matched;
-    fits = within_growth permitted.fits;
-    counted = risen_to old.faults between.faults new.faults caused.0 only.faults_stay;
-    is_channel = subst (λ ps. IsChannelOf ps (asks.words_of job) channel) (sym outs_are) caused.1;
-    leaves = λ inputs given. broken (run_over cmd net inputs) between new only (leaves inputs given);
-    touches = touches;
-  })
+    },
+  )
 
   -- nothing was opened
   nothing : (feeds_new ≡ feeds) × (between ≡ old) → OpenedNothing cmd
@@ -232,23 +238,29 @@ module _ (job : Job) (library : loading.Library) (misses faults : loading.Counts
   comes (Ok outcome) ran = how_ended outcome.end outcome.counts ran.permitted ran.within (touched ran.only_feeds ran.others) ran.faults (leaves_of (Ok outcome) ran)
   comes (Err (fault.Refused r)) ran = (refused r ran.refused, nothing ran.unstarted)
   comes (Err fault.Memory) ran = nothing ran.unstarted
-  comes (Err (fault.ReadFault feed)) ran = (net, record {
-    is_to_run = to_run ran.permitted.matched;
-    fits = within_growth ran.permitted.fits;
-    how = inl (record {
-      fails = subst (λ ls. IsUnread ls (port_names net.ins) (asks.words_of job) feeds feeds_new feed) (sym links_are)
-          (subst (λ ps. IsUnread image.flat.links.items ps (asks.words_of job) feeds feeds_new feed) (sym ins_are) ran.unread.0);
-      only_report = subst (λ cs. WritesOnlyAt 0 cs new) ran.unread.1 only;
-    });
-    about_is = about_is;
-  })
-  comes (Err (fault.WriteFault channel)) ran = (net, record {
-    is_to_run = to_run ran.permitted.matched;
-    fits = within_growth ran.permitted.fits;
-    counted = risen_to old.faults between.faults new.faults
-        (is_counted (string_bytes job.trace) (asks.out_names image.flat) (asks.words_of job) channel old between ran.unwritten.fails) only.faults_stay;
-    is_channel = subst (λ ps. IsChannelOf ps (asks.words_of job) channel) (sym outs_are)
-        (is_one_of (string_bytes job.trace) (asks.out_names image.flat) (asks.words_of job) channel old between ran.unwritten.fails);
-    leaves = λ inputs given. broken (run_over cmd net inputs) between new only (leaves_of (Err (fault.WriteFault channel)) ran inputs given);
-    touches = touched ran.only_feeds ran.others;
-  })
+  comes (Err (fault.ReadFault feed)) ran = (
+    net,
+    record {
+      is_to_run = to_run ran.permitted.matched;
+      fits = within_growth ran.permitted.fits;
+      how = inl (record {
+        fails = subst (λ ls. IsUnread ls (port_names net.ins) (asks.words_of job) feeds feeds_new feed) (sym links_are)
+            (subst (λ ps. IsUnread image.flat.links.items ps (asks.words_of job) feeds feeds_new feed) (sym ins_are) ran.unread.0);
+        only_report = subst (λ cs. WritesOnlyAt 0 cs new) ran.unread.1 only;
+      });
+      about_is = about_is;
+    },
+  )
+  comes (Err (fault.WriteFault channel)) ran = (
+    net,
+    record {
+      is_to_run = to_run ran.permitted.matched;
+      fits = within_growth ran.permitted.fits;
+      counted = risen_to old.faults between.faults new.faults
+          (is_counted (string_bytes job.trace) (asks.out_names image.flat) (asks.words_of job) channel old between ran.unwritten.fails) only.faults_stay;
+      is_channel = subst (λ ps. IsChannelOf ps (asks.words_of job) channel) (sym outs_are)
+          (is_one_of (string_bytes job.trace) (asks.out_names image.flat) (asks.words_of job) channel old between ran.unwritten.fails);
+      leaves = λ inputs given. broken (run_over cmd net inputs) between new only (leaves_of (Err (fault.WriteFault channel)) ran inputs given);
+      touches = touched ran.only_feeds ran.others;
+    },
+  )

@@ -126,9 +126,17 @@ fn generated_networks_are_run(rt: HostRuntime) -> Result<(), Fail> {
         let (status, drains) = run_line(&rt, rt.alloc(), line)?;
         assert!(rt; status == code, "{}: {}", line, status);
         assert!(rt; drains.held(0) == report.as_bytes(), "report of {}", line);
-        assert!(rt; drains.held(1).starts_with(trace.as_bytes()), "trace of {}", line);
+        assert!(rt;
+            drains.held(1).starts_with(trace.as_bytes()),
+            "trace of {}",
+            line
+        );
         assert!(rt; drains.held(2).starts_with(output), "output of {}", line);
-        assert!(rt; drains.held(2).len() == count, "length of the output of {}", line);
+        assert!(rt;
+            drains.held(2).len() == count,
+            "length of the output of {}",
+            line
+        );
     }
     Ok(())
 }
