@@ -1,12 +1,11 @@
 //! Networks that are generated and run over channels in memory, and what each leaves.
 
 use crate::rows::words;
-use gen_job::gen_job;
+use gen_job::{gen_job, jobs_to_generate_have_numbers};
 use rvc_base::Memory;
 use rvc_io::{MemDrains, OpenGate};
-use rvc_words::{MAX_GENERATED, read_number, read_words};
+use rvc_words::{Verb, read_words};
 use std::alloc::Global;
-use std::process::Abort;
 use std::test::Fail;
 use std::thread::Threads;
 
@@ -105,7 +104,7 @@ const ROWS: &[Row] = &[
 ];
 
 /// Does what the words of a line ask for, on channels of its own.
-fn run_line<R: Abort + Threads + Sync>(
+fn run_line<R: Threads + Sync>(
     rt: &R,
     alloc: Global,
     line: &str,
@@ -115,7 +114,10 @@ fn run_line<R: Abort + Threads + Sync>(
     let Ok(job) = read_words(alloc, words.as_slice()) else {
         return Err(Fail::from(Memory));
     };
-    assert!(rt; read_number(job.top.as_str(), 1, MAX_GENERATED).is_some());
+    let Verb::Gen = job.verb else {
+        return Err(Fail::from(Memory));
+    };
+    jobs_to_generate_have_numbers();
     let status = gen_job(rt, alloc, &job, &mut drains, &OpenGate);
     Ok((status.code(), drains))
 }
