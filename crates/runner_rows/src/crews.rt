@@ -21,8 +21,7 @@ struct Starts {
 impl Gate for Starts {
     fn arrive(&self, _round: u64, worker: u32) {
         self.count.fetch_add(1, Ordering::SeqCst);
-        self.numbers
-            .fetch_add(u64::from(worker), Ordering::SeqCst);
+        self.numbers.fetch_add(u64::from(worker), Ordering::SeqCst);
     }
 }
 
@@ -36,14 +35,74 @@ const INPUT: &[u8] = &[0, 1, 2, 250, 251, 252, 255];
 const OUT: &[u8] = &[5, 6, 7, 255, 0, 1, 4];
 
 const ROWS: &[Row] = &[
-    (2, MUCH, 9, 0xD8A4_7098_4A9B_1F3A, 35, OUT, RunEnd::Quiet, 9, 0),
-    (64, MUCH, 6, 0x3A5E_4B23_99C8_983A, 35, OUT, RunEnd::Quiet, 6, 0),
-    (2, 35, 10, 0x1F94_32E6_F54E_4AF6, 35, OUT, RunEnd::Quiet, 7, 2),
-    (2, 23, 6, 0x14DB_9E08_1CDE_1367, 23, &[], RunEnd::Budget, 4, 1),
-    (1, 13, 6, 0xFE6D_8690_2032_01BC, 13, &[], RunEnd::Budget, 4, 1),
+    (
+        2,
+        MUCH,
+        9,
+        0xD8A4_7098_4A9B_1F3A,
+        35,
+        OUT,
+        RunEnd::Quiet,
+        9,
+        0,
+    ),
+    (
+        64,
+        MUCH,
+        6,
+        0x3A5E_4B23_99C8_983A,
+        35,
+        OUT,
+        RunEnd::Quiet,
+        6,
+        0,
+    ),
+    (
+        2,
+        35,
+        10,
+        0x1F94_32E6_F54E_4AF6,
+        35,
+        OUT,
+        RunEnd::Quiet,
+        7,
+        2,
+    ),
+    (
+        2,
+        23,
+        6,
+        0x14DB_9E08_1CDE_1367,
+        23,
+        &[],
+        RunEnd::Budget,
+        4,
+        1,
+    ),
+    (
+        1,
+        13,
+        6,
+        0xFE6D_8690_2032_01BC,
+        13,
+        &[],
+        RunEnd::Budget,
+        4,
+        1,
+    ),
     (3, 7, 4, 0x9E61_8824_987A_B5B4, 7, &[], RunEnd::Budget, 2, 1),
     (2, 5, 4, 0x6E14_8DD2_6F50_21A4, 5, &[], RunEnd::Budget, 1, 2),
-    (64, 4, 2, 0x43EF_C18D_3595_531D, 4, &[], RunEnd::Budget, 0, 1),
+    (
+        64,
+        4,
+        2,
+        0x43EF_C18D_3595_531D,
+        4,
+        &[],
+        RunEnd::Budget,
+        0,
+        1,
+    ),
 ];
 
 /// There are five instances: so some of these are fewer, some as many, and some more.
