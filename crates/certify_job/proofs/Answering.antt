@@ -55,7 +55,7 @@ same_judged : (cmd : Command) (net : Network State) → FilesAreOne → ActorsAr
     → (conforms : ConformsWith no_ports cmd.library (top_of cmd) (words_of cmd) net)
     → (other : Network State) (is : IsOfCommand no_ports cmd other) → is.files.means.actors ≡ conforms.means.means.actors
 same_judged cmd net files one tells conforms other is =
-    go is.files.reads conforms.means.reads (files cmd.library (top_of cmd) is.files.reads conforms.means.reads tells (is.files.are_read.are_loaded tells) conforms.means.are_loaded)
+    go is.files.reads conforms.means.reads (files cmd.library (top_of cmd) is.files.reads conforms.means.reads tells is.files.are_read.are_loaded conforms.means.are_loaded)
     is.files.means conforms.means.means
   where
     go : (reads others : List Read) → reads ≡ others → (a : IsSourceNetwork (files_of reads) (class_asked (top_of cmd)) other)
@@ -93,7 +93,7 @@ not_judged : (cmd : Command) (lines : List ℕ) → ConformingAreNotRefused
     → (misses : Counts) (names : List (List ℕ)) (r : Refusal) → TellsAll cmd.library → RefusesJob no_ports cmd.library (top_of cmd) (words_of cmd) misses names r
     → Judged cmd lines → ⊥
 not_judged cmd lines law misses names r tells refuses judged =
-    law no_ports cmd.library (top_of cmd) (words_of cmd) judged.net misses names r tells (judged.is_of_command.conforms tells) refuses
+    law no_ports cmd.library (top_of cmd) (words_of cmd) judged.net misses names r tells judged.is_of_command.conforms refuses
 
 undecided_end : (cmd : Command) (lines : List ℕ) (about : About) → ConformingAreNotRefused
     → (misses : Counts) (names : List (List ℕ)) (r : Refusal) → TellsAll cmd.library → RefusesJob no_ports cmd.library (top_of cmd) (words_of cmd) misses names r

@@ -36,8 +36,8 @@ judged ordered none cmd names c v matched h is = record {
   is_of_command = record {
     files = has_files cmd names c h;
     matched = matched;
-    conforms = λ tells. record {
-      means = record { reads = h.reads; are_loaded = h.are_read.are_loaded tells; means = h.source.means };
+    conforms = record {
+      means = record { reads = h.reads; are_loaded = h.are_read.are_loaded; means = h.source.means };
       matched = matched;
     };
   };

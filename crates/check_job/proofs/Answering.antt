@@ -48,7 +48,7 @@ not_done : (cmd : Command) (lines : List ℕ) (about : About) → ConformingAreN
     → (misses : Counts) (names : List (List ℕ)) (r : Refusal) → TellsAll cmd.library → RefusesJob no_ports cmd.library (top_of cmd) (words_of cmd) misses names r
     → Conformed cmd lines about → ⊥
 not_done cmd lines about law misses names r tells refuses d =
-    law no_ports cmd.library (top_of cmd) (words_of cmd) d.net misses names r tells (d.is_of_command.conforms tells) refuses
+    law no_ports cmd.library (top_of cmd) (words_of cmd) d.net misses names r tells d.is_of_command.conforms refuses
 
 pub incomplete : (cmd : Command) (answer : Status) → IsAnswered Comes cmd answer → ConformingAreNotRefused
     → (misses : Counts) (names : List (List ℕ)) (r : Refusal) → TellsAll cmd.library → RefusesJob no_ports cmd.library (top_of cmd) (words_of cmd) misses names r
@@ -69,7 +69,7 @@ complete_end : (cmd : Command) (lines : List ℕ) (about : About) (net : Network
     → IsDoneOrOutside cmd.channels cmd.channels_after net said
 complete_end cmd lines about net law same tells conforms status.Done h put =
     subst (Appends 0 cmd.channels cmd.channels_after)
-    (done_text cmd net lines about h.0 (same no_ports cmd.library (top_of cmd) (words_of cmd) h.0.net net tells (h.0.is_of_command.conforms tells) conforms)) put
+    (done_text cmd net lines about h.0 (same no_ports cmd.library (top_of cmd) (words_of cmd) h.0.net net tells h.0.is_of_command.conforms conforms)) put
 complete_end cmd lines about net law same tells conforms (status.Refused r) h put =
     let why = broken_is_refused no_ports cmd r about tells h.0 in
     law no_ports cmd.library (top_of cmd) (words_of cmd) net cmd.misses why.0 r tells conforms why.1

@@ -76,8 +76,8 @@ conformed cmd names c matched h = record {
   is_of_command = record {
     files = has_files cmd (file_names names) c h;
     matched = matched;
-    conforms = λ tells. record {
-      means = record { reads = h.reads; are_loaded = h.are_read.are_loaded tells; means = h.source.means };
+    conforms = record {
+      means = record { reads = h.reads; are_loaded = h.are_read.are_loaded; means = h.source.means };
       matched = matched;
     };
   };

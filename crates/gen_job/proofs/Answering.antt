@@ -46,7 +46,7 @@ module _ (cmd gen : Command) (is : IsGenerated cmd gen) (untouched : cmd.feeds_a
   module _ (no_file : gen.faults.new ≡ 0) (no_feed : gen.feeds_after.faults ≡ 0) (tells : TellsAll gen.library) (one : LibraryNetworksAreOne)
       (net : Network State) (means : IsLibraryNetwork gen.library (top_of gen) net) (matched : AreMatched (output_names net) (words_of cmd)) where
     here : (other : Network State) → IsToRun gen other → AreMatched (output_names other) (words_of cmd)
-    here other to_run = subst (λ n. AreMatched (output_names n) (words_of cmd)) (one gen.library (top_of gen) net other tells means (to_run.conforms tells).means) matched
+    here other to_run = subst (λ n. AreMatched (output_names n) (words_of cmd)) (one gen.library (top_of gen) net other tells means to_run.conforms.means) matched
 
     abbrev run_here : (other : Network State) (said : Status) (lines : List ℕ) (about : About) → IsToRun gen other → run.ComesFor other gen said lines about → Runs cmd other said lines about
     run_here other said lines about to_run comes = record { gen = gen; is_generated = is; matched = here other to_run; comes = comes }

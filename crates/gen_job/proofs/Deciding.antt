@@ -50,11 +50,11 @@ module _ (cmd : Command) (one : OneConforms) (one_net : LibraryNetworksAreOne) (
       (subst (λ words. Conforms (library_of instances) (top_asked top_name) words net) (sym (ap (λ (j : JobText). j.ports) is.job)) conform.conforms))
 
   is_net : (gen : Command) → IsGenerated cmd gen → (other : Network State) → IsToRun gen other → other ≡ net
-  is_net gen is other to_run = one_net gen.library (top_of gen) other net (tells_of cmd gen is) (to_run.conforms (tells_of cmd gen is)).means (conforms_too gen is).means
+  is_net gen is other to_run = one_net gen.library (top_of gen) other net (tells_of cmd gen is) to_run.conforms.means (conforms_too gen is).means
 
   has_net : (gen : Command) → IsGenerated cmd gen → (other : Network State) → HasFiles gen other → other ≡ net
   has_net gen is other files = one_net gen.library (top_of gen) other net (tells_of cmd gen is)
-      (record { reads = files.reads; are_loaded = files.are_read.are_loaded (tells_of cmd gen is); means = files.means }) (conforms_too gen is).means
+      (record { reads = files.reads; are_loaded = files.are_read.are_loaded; means = files.means }) (conforms_too gen is).means
 
   refused_still : (r : Refusal) (about : About) → IsRefused cmd r about → IsStillRefused cmd net r
   refused_still r about (by_workers asks) = of_workers asks

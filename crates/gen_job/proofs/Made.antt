@@ -108,7 +108,7 @@ module _ (job made : Job) (state : LibraryState) (instances : ℕ) (is_made : Is
     came_answered answer (of_run matched ran) =
         let is : IsGenerated cmd (gen ran.feeds ran.feeds_after) = generated ran.feeds ran.feeds_after ran.given in
         answered_too cmd (gen ran.feeds ran.feeds_after) is refl refl ran.no_fault (tells_of cmd (gen ran.feeds ran.feeds_after) is) one built.is_image.net
-        (record { reads = built.reads; are_loaded = built.are_read.are_loaded (tells_of cmd (gen ran.feeds ran.feeds_after) is); means = built.is_image.means })
+        (record { reads = built.reads; are_loaded = built.are_read.are_loaded; means = built.is_image.means })
         (subst (λ ports. AreMatched ports (map port_text job.ports.items)) (sym outs_are) matched)
         answer (ran.answered (file_told state) misses no_faults built)
 

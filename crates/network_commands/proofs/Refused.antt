@@ -20,6 +20,6 @@ conforming law one opened library top words net misses names r tells conforms (i
 -- what a command names as the cause refuses its job
 pub broken_is_refused : (opened : Opened) (cmd : Command) (r : Refusal) (about : About) → TellsAll cmd.library → BreaksJob opened cmd r about
     → (names : List (List ℕ)) × RefusesJob opened cmd.library (top_of cmd) (words_of cmd) cmd.misses names r
-broken_is_refused opened cmd r _ tells (by_files names h) = (names, in_files (h.why tells))
+broken_is_refused opened cmd r _ tells (by_files names h) = (names, in_files h.why)
 broken_is_refused opened cmd r _ tells (by_words names net h) =
-    (names, in_words net (record { reads = h.files.reads; are_loaded = h.files.are_read.are_loaded tells; means = h.files.means }) h.wrong)
+    (names, in_words net (record { reads = h.files.reads; are_loaded = h.files.are_read.are_loaded; means = h.files.means }) h.wrong)

@@ -7,7 +7,6 @@ use Rattle.rvc_io.specs.Count.{HasRisen}
 use Rattle.channel_writer.specs.Held.{AppendsFront}
 use Rattle.cal_model.specs.Selection.{State}
 use Rattle.net_model.specs.Network.{Network}
-use Rattle.actor_files.specs.Loading.{TellsAll}
 use Rattle.network_files.specs.Loading.{IsFaulted}
 use Rattle.port_words.specs.Matching.{IsWrongWord}
 use Rattle.conforming_jobs.specs.Conforming.{Opened}
@@ -22,7 +21,7 @@ use Rattle.network_commands.specs.Commands.{Command, HasFiles, about_files, top_
 
 -- the files that the top needs break a rule; the file of the refusal is one of these names
 pub record BreaksFiles (cmd : Command) (names : List (List ℕ)) (r : Refusal) : Type 0 where
-  pub why : TellsAll cmd.library → RefusesTop cmd.library (top_of cmd) cmd.misses names r
+  pub why : RefusesTop cmd.library (top_of cmd) cmd.misses names r
 
 -- the first port word that names no port of the network that is opened, or one that a word before it names
 pub record HasWrongWord (opened : Opened) (cmd : Command) (names : List (List ℕ)) (net : Network State) (r : Refusal) : Type 0 where
@@ -41,7 +40,7 @@ pub data BreaksJob (opened : Opened) (cmd : Command) (r : Refusal) : About → T
 pub record FileUnread (cmd : Command) (file : ℕ) (about : About) : Type 0 where
   pub counted : HasRisen cmd.faults.old cmd.faults.new
   pub names : List (List ℕ)
-  pub told : TellsAll cmd.library → IsFaulted cmd.library (top_of cmd) file names
+  pub told : IsFaulted cmd.library (top_of cmd) file names
   pub about_is : about ≡ about_files cmd names
 
 -- ---- the answer

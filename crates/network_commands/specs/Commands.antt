@@ -94,8 +94,7 @@ pub record OpenedNothing (cmd : Command) : Type 0 where
 abbrev pub port_names : List NetPort → List (List ℕ)
 port_names ports = map (λ port. port.name) ports
 
--- Files were read, these are their names, and they mean this network from the top down. They are all that the top needs,
--- if the library tells of each name.
+-- Files were read, which are all that the top needs, these are their names, and they mean this network from the top down.
 pub record HasFiles (cmd : Command) (net : Network State) : Type 0 where
   pub names : List (List ℕ)
   pub reads : List Read
@@ -107,8 +106,7 @@ pub record HasFiles (cmd : Command) (net : Network State) : Type 0 where
 pub record IsOfCommand (opened : Opened) (cmd : Command) (net : Network State) : Type 0 where
   pub files : HasFiles cmd net
   pub matched : AreMatched (opened net) (words_of cmd)
-  pub conforms : TellsAll cmd.library
-      → ConformsWith opened cmd.library (top_of cmd) (words_of cmd) net
+  pub conforms : ConformsWith opened cmd.library (top_of cmd) (words_of cmd) net
 
 -- .. if the inputs and the outputs are opened: this is the network to be run
 abbrev pub IsToRun : Command → Network State → Type 0

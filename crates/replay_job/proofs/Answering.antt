@@ -81,8 +81,8 @@ module _ (cmd : Command) (image : Image) (names : Names) (law : SourcesAreActorN
       record {
         files = files;
         matched = fits;
-        conforms = λ tells. record {
-          means = record { reads = built.reads; are_loaded = built.are_read.are_loaded tells; means = built.is_image.means };
+        conforms = record {
+          means = record { reads = built.reads; are_loaded = built.are_read.are_loaded; means = built.is_image.means };
           matched = fits;
         };
       }
@@ -208,7 +208,7 @@ module _ (cmd : Command) (image : Image) (names : Names) (law : SourcesAreActorN
   pub image_complete : (answer : Status) (other : Network ActorState) → LibraryNetworksAreOne → TellsAll cmd.library → ConformsToReplay cmd.library (top_of cmd) (words_of cmd) cmd.job.grow other
       → ImageReplayed image names cmd.job cmd.feeds cmd.feeds_after cmd.channels cmd.channels_after answer → IsJudgedOrOutside cmd other answer
   image_complete answer other one tells conforms ran =
-      let here : IsLibraryNetwork cmd.library (top_of cmd) net = record { reads = built.reads; are_loaded = built.are_read.are_loaded tells; means = built.is_image.means } in
+      let here : IsLibraryNetwork cmd.library (top_of cmd) net = record { reads = built.reads; are_loaded = built.are_read.are_loaded; means = built.is_image.means } in
       let same : other ≡ net = one cmd.library (top_of cmd) other net tells conforms.conforms.means here in
       subst (λ n. IsJudgedOrOutside cmd n answer) (sym same)
       (put_so (status_of ran.came) answer _
@@ -243,9 +243,9 @@ module _ (cmd : Command) (names : Names) (same : cmd.feeds_after ≡ cmd.feeds) 
 
 module _ (cmd : Command) (law : ConformingAreNotRefused) (one : LibraryNetworksAreOne) (misses : Counts) (found : List (List ℕ)) (r : Refusal) (tells : TellsAll cmd.library) where
   not_refused : (net : Network ActorState) → IsToReplay cmd net → RefusesReplay cmd.library (top_of cmd) (words_of cmd) cmd.job.grow misses found r → ⊥
-  not_refused net is (in_job refuses) = law input_names cmd.library (top_of cmd) (words_of cmd) net misses found r tells (is.is_of.conforms tells) refuses
+  not_refused net is (in_job refuses) = law input_names cmd.library (top_of cmd) (words_of cmd) net misses found r tells is.is_of.conforms refuses
   not_refused net is (in_growth other means far rule) =
-      is.little (subst (λ (n : Network ActorState). GrowTooFar n.links cmd.job.grow) (one cmd.library (top_of cmd) other net tells means (is.is_of.conforms tells).means) far)
+      is.little (subst (λ (n : Network ActorState). GrowTooFar n.links cmd.job.grow) (one cmd.library (top_of cmd) other net tells means is.is_of.conforms.means) far)
 
   by_status : (said : Status) (lines : List ℕ) (about : About) → RefusesReplay cmd.library (top_of cmd) (words_of cmd) cmd.job.grow misses found r → Comes cmd said lines about → IsNoVerdict said
   by_status status.Done lines about refuses came = not_refused came.replayed.net came.replayed.is_to_replay refuses

@@ -21,7 +21,6 @@ use Rattle.run_report.specs.declared.status.ReadAt.TheVariants.{File, Feed}
 use Rattle.run_report.specs.declared.status.Status.{Status}
 use Rattle.run_report.specs.declared.status.Status.TheVariants as status
 use Rattle.rvc_engine.specs.NotBuilt.{LacksForm}
-use Rattle.actor_files.specs.Loading.{TellsAll}
 use Rattle.rvc_engine.specs.Refused.{RefusesTop}
 use Rattle.network_commands.specs.Answers.{FileUnread, HasWrongWord}
 use Rattle.network_commands.specs.Commands.{AreCertified, Command, IsOfCommand, OpenedNothing, about_files, about_net, port_names, top_of, words_of}
@@ -84,8 +83,7 @@ pub record WasUnread (cmd : Command) (feed : ℕ) (about : About) : Type 0 where
 -- The files that the top needs break a rule, or mean a network of which an actor has a form without code. The file of the
 -- refusal is one of these names.
 pub record BreaksFiles (cmd : Command) (names : List (List ℕ)) (r : Refusal) : Type 0 where
-  pub why : TellsAll cmd.library
-      → RefusesTop cmd.library (top_of cmd) cmd.misses names r ⊎ LacksForm cmd.library (top_of cmd) names r
+  pub why : RefusesTop cmd.library (top_of cmd) cmd.misses names r ⊎ LacksForm cmd.library (top_of cmd) names r
 
 -- the words conform, and the links may not grow as far as the job asks
 pub record GrowsTooFar (cmd : Command) (names : List (List ℕ)) (net : Network State) (r : Refusal) : Type 0 where

@@ -120,8 +120,8 @@ module _ (job : Job) (library : loading.Library) (misses faults : loading.Counts
   to_run matched = record {
     files = files;
     matched = fitting matched;
-    conforms = λ tells. record {
-      means = record { reads = built.reads; are_loaded = built.are_read.are_loaded tells; means = built.is_image.means };
+    conforms = record {
+      means = record { reads = built.reads; are_loaded = built.are_read.are_loaded; means = built.is_image.means };
       matched = fitting matched;
     };
   }

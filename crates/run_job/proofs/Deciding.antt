@@ -20,20 +20,20 @@ use Rattle.run_job.specs.Ends.{Comes, ComesFor, IsNoEnd, IsRefused, IsStillRefus
 module _ (cmd : Command) (one : OneConforms) (one_net : LibraryNetworksAreOne) (law : ConformingAreNotRefused) (tells : TellsAll cmd.library)
     (net : Network State) (conforms : Conforms cmd.library (top_of cmd) (words_of cmd) net) where
   is_net : (other : Network State) → IsToRun cmd other → other ≡ net
-  is_net other is = one names_of_ports cmd.library (top_of cmd) (words_of cmd) other net tells (is.conforms tells) conforms
+  is_net other is = one names_of_ports cmd.library (top_of cmd) (words_of cmd) other net tells is.conforms conforms
 
   has_net : (other : Network State) → HasFiles cmd other → other ≡ net
-  has_net other files = one_net cmd.library (top_of cmd) other net tells (record { reads = files.reads; are_loaded = files.are_read.are_loaded tells; means = files.means }) conforms.means
+  has_net other files = one_net cmd.library (top_of cmd) other net tells (record { reads = files.reads; are_loaded = files.are_read.are_loaded; means = files.means }) conforms.means
 
   pub still_refused : (r : Refusal) (about : About) → IsRefused cmd r about → IsStillRefused cmd net r
   still_refused r about (by_workers asks) = of_workers asks
   still_refused r about (by_files names breaks) = ⊎_elim
       (λ refuses. absurd (law names_of_ports cmd.library (top_of cmd) (words_of cmd) net cmd.misses names r tells conforms (in_files refuses)))
       (λ lacks. of_actor names lacks)
-      (breaks.why tells)
+      breaks.why
   still_refused r about (by_words names other wrong) =
       absurd (law names_of_ports cmd.library (top_of cmd) (words_of cmd) net cmd.misses names r tells conforms
-      (in_words other (record { reads = wrong.files.reads; are_loaded = wrong.files.are_read.are_loaded tells; means = wrong.files.means }) wrong.wrong))
+      (in_words other (record { reads = wrong.files.reads; are_loaded = wrong.files.are_read.are_loaded; means = wrong.files.means }) wrong.wrong))
   still_refused r about (by_growth names other grows) = of_growth (subst (WouldGrowTooFar cmd) (has_net other grows.files) grows.too_far) grows.refusal
 
   pub comes_for : (said : Status) (lines : List ℕ) (about : About) → Comes cmd said lines about → ComesFor net cmd said lines about
@@ -81,7 +81,7 @@ module _ (cmd : Command) (one : OneConforms) (one_net : LibraryNetworksAreOne) (
 module _ (cmd : Command) (law : ConformingAreNotRefused) (tells : TellsAll cmd.library) (misses : Counts) (names : List (List ℕ)) (r : Refusal)
     (refuses : RefusesJob names_of_ports cmd.library (top_of cmd) (words_of cmd) misses names r) where
   none_of : (net : Network State) → IsToRun cmd net → ⊥
-  none_of net is = law names_of_ports cmd.library (top_of cmd) (words_of cmd) net misses names r tells (is.conforms tells) refuses
+  none_of net is = law names_of_ports cmd.library (top_of cmd) (words_of cmd) net misses names r tells is.conforms refuses
 
   no_run : (said : Status) (lines : List ℕ) (about : About) → Comes cmd said lines about → IsNoEnd said
   no_run status.Quiet lines about c = none_of c.0 c.1.ran.is_to_run

@@ -12,7 +12,6 @@ use Rattle.cal_model.specs.Selection.{State}
 use Rattle.cal_model.specs.Sound.{Each, IsSound}
 use Rattle.net_model.specs.declared.wiring.Counts.{Counts}
 use Rattle.net_model.specs.Network.{Network}
-use Rattle.actor_files.specs.Loading.{TellsAll}
 use Rattle.grown_links.specs.Growth.{GrowTooFar, IsGrownTooMuch}
 use Rattle.port_words.specs.Matching.{AreMatched}
 use Rattle.port_words.specs.Opening.{FeedFails, feeds_of}
@@ -111,8 +110,8 @@ pub record AsksForWorkers (job : Job) (r : Refusal) : Type 0 where
 -- The files that the top needs break a rule, or mean a network of which an actor has a form without code. The file of the
 -- refusal is one of these names.
 pub record BreaksOrLacks (cmd : Command) (names : List (List ℕ)) (r : Refusal) : Type 0 where
-  pub why : TellsAll cmd.library
-      → RefusesTop cmd.library (top_of cmd) cmd.misses names r ⊎ LacksForm cmd.library (top_of cmd) names r
+  pub why : RefusesTop cmd.library (top_of cmd) cmd.misses names r
+      ⊎ LacksForm cmd.library (top_of cmd) names r
 
 -- each port word names a port of its own, and the links of the network would grow too far
 pub record GrowsTooMuch (cmd : Command) (names : List (List ℕ)) (net : Network State) (r : Refusal) : Type 0 where
