@@ -17,7 +17,8 @@ use crate::seats::seen_names;
 use cal_ast::Expr;
 use cal_model::{Bound, actions_fire_or_trap};
 use code_ir::Instr;
-use expr_lower::{Draft, LowerFault, Named, lower_expr};
+use expr_lower::{Draft, LowerFault, Named};
+use list_lower::lower_expr;
 use std::alloc::Global;
 
 /// Appends the code of the guards of an action, one after the other: for each that of its expression, and an answer.

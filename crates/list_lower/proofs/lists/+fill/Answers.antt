@@ -21,7 +21,7 @@ use Rattle.list_lower.specs.declared.lists.Target.{Target}
 use Rattle.list_lower.specs.CounterView.{counter_view, gens_of}
 use Rattle.list_lower.specs.FillWords.{BeginsAt, left_out_elements}
 use Rattle.list_lower.specs.Filling.{AreFills, IsFill, in_parens}
-use Rattle.list_lower.specs.Generators.{how_many}
+use Rattle.expr_lower.specs.Generators.{how_many}
 use Rattle.list_lower.specs.LeftOut.{left_out_element, left_out_fill, left_out_fills, left_out_gens, left_out_many}
 use Rattle.list_lower.proofs.Adding.{all_count, choice_adds, comp_adds, each_adds, items_add, list_element_adds, more_add, none_add, one_many}
 use Rattle.list_lower.proofs.Erased.{each_left, many_left, many_not}

@@ -7,7 +7,7 @@ use Rattle.expr_lower.specs.Coding.{IsCode}
 use Rattle.expr_lower.specs.Seen.{called, seen}
 use Rattle.expr_lower.specs.Starting.{IsStart, at_value}
 use Rattle.expr_lower.proofs.Adding.{then_put}
-use Rattle.expr_lower.proofs.starts.given.Goals as goal
+use Rattle.list_lower.proofs.starts.given.Goals as goal
 
 pub returns-clause-ok : goal.returns-clause-ok
 returns-clause-ok c =

@@ -13,7 +13,7 @@ use Rattle.expr_lower.specs.Names.{local}
 use Rattle.expr_lower.specs.Routining.{IsBody, left_out_body}
 use Rattle.expr_lower.specs.Seen.{called, seen}
 use Rattle.expr_lower.proofs.AddingRoutines.{local_adds, local_open}
-use Rattle.expr_lower.proofs.routines.+in_locals.Goals as goal
+use Rattle.list_lower.proofs.routines.+in_locals.Goals as goal
 
 pub returns-clause-ok : goal.returns-clause-ok
 returns-clause-ok t c =

@@ -10,7 +10,7 @@ use Rattle.expr_lower.specs.Names.{Name, names_view}
 use Rattle.expr_lower.specs.Routining.{IsFaultOfFun, StandForFormals, behind_formals, left_out_body, left_out_formals}
 use Rattle.expr_lower.specs.Seen.{called}
 use Rattle.expr_lower.proofs.AddingRoutines.{fun_open}
-use Rattle.expr_lower.proofs.routines.lower_function.Goals as goal
+use Rattle.list_lower.proofs.routines.lower_function.Goals as goal
 
 pub returns-clause-whole : goal.returns-clause-whole
 returns-clause-whole c =

@@ -8,7 +8,7 @@ use Rattle.expr_lower.specs.Seen.{called, seen}
 use Rattle.expr_lower.specs.SeenWords.{AddsStart}
 use Rattle.expr_lower.specs.Starting.{IsStart, at_zero}
 use Rattle.expr_lower.proofs.Adding.{put_adds}
-use Rattle.expr_lower.proofs.starts.start.Goals as goal
+use Rattle.list_lower.proofs.starts.start.Goals as goal
 
 pub returns-in-None-clause-ok : goal.returns-in-None-clause-ok
 returns-in-None-clause-ok c =

@@ -2,7 +2,7 @@ use Rattle.std.proofs.Common.{◌+◌, map}
 use Rattle.cal_ast.specs.Tree.{listed}
 use Rattle.cal_ast.specs.View.{expr_tree}
 use Rattle.expr_lower.proofs.Weights.{size}
-use Rattle.expr_lower.proofs.exprs.+lower.Given as goal
+use Rattle.list_lower.proofs.exprs.+lower.Given as goal
 
 abbrev pub decreases-lower : goal.decreases-lower
 decreases-lower l = size (expr_tree l.e.now)

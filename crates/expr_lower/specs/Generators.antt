@@ -8,7 +8,7 @@ use Rattle.cal_ast.specs.declared.expr.PrefixOp.TheVariants.{Neg}
 use Rattle.cal_ast.specs.Tree as tree
 use Rattle.cal_ast.specs.Tree.{Tree}
 use Rattle.cal_model.specs.Expression.{span}
-use Rattle.list_lower.specs.Meant.{single_meant}
+use Rattle.expr_lower.specs.Meant.{single_meant}
 
 -- the number that is written, if it is a literal, with a minus sign before it or without one
 abbrev pub literal_of : Tree → Option ℤ

@@ -18,7 +18,7 @@ use Rattle.expr_lower.specs.Lowered.{Adds, IsPut}
 use Rattle.expr_lower.proofs.Adding.{args_none, no_items, put_adds, same_adds, then_put, then_adds, strict_adds, row_adds, test_coded, tests_coded, if_adds, both_adds, either_adds}
 use Rattle.expr_lower.proofs.Literals.{negative_coded}
 use Rattle.expr_lower.proofs.PartValues.{item_has_rows}
-use Rattle.expr_lower.proofs.exprs.+lower.Goals as goal
+use Rattle.list_lower.proofs.exprs.+lower.Goals as goal
 
 pub both-returns-clause-ok : goal.both-returns-clause-ok
 both-returns-clause-ok t c =

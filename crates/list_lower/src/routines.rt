@@ -9,15 +9,13 @@ ghost use Rattle.expr_lower.specs.Routining.{AddsRoutine, IsFaultOfFun, IsWholeF
 ghost use Rattle.expr_lower.specs.Routining.{left_out_formals};
 ghost use Rattle.expr_lower.specs.Seen.{seen};
 
-use crate::callees::{Callee, Formal};
-use crate::draft::{Draft, next_place, put_all, take_cell};
 use crate::exprs::lower;
-use crate::fault::LowerFault;
-use crate::names::{Named, single};
-use crate::scope::{Frame, Scope};
 use crate::starts::start;
 use cal_model::{BoundFun, BoundLocal, Shape};
 use code_ir::{Instr, Routine};
+use expr_lower::{
+    Callee, Draft, Formal, Frame, LowerFault, Named, Scope, next_place, put_all, single, take_cell,
+};
 use std::alloc::Global;
 
 /// Appends the routine of a function, and answers how it is called.

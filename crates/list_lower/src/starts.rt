@@ -4,12 +4,10 @@ ghost use Rattle.std.specs.Prelude.{◌≡◌, IfErr, None, OnOk, Some};
 ghost use Rattle.expr_lower.specs.Growing.{IsFault};
 ghost use Rattle.expr_lower.specs.SeenWords.{AddsStart, left_out_first};
 
-use crate::draft::{Draft, put, put_all};
 use crate::exprs::lower;
-use crate::fault::LowerFault;
-use crate::scope::Scope;
 use cal_ast::Expr;
 use code_ir::Instr;
+use expr_lower::{Draft, LowerFault, Scope, put, put_all};
 use rvc_base::Scalar;
 
 /// Appends the start of a local in its cell, which is zero or false if none is written.

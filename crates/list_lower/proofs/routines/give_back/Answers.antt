@@ -2,7 +2,7 @@ use Rattle.std.proofs.lemmas.Result.{on_ok_weaker}
 use Rattle.cal_ast.specs.View.{expr_tree}
 use Rattle.expr_lower.specs.Seen.{seen}
 use Rattle.expr_lower.proofs.AddingRoutines.{return_adds}
-use Rattle.expr_lower.proofs.routines.give_back.Goals as goal
+use Rattle.list_lower.proofs.routines.give_back.Goals as goal
 
 pub returns-clause-ok : goal.returns-clause-ok
 returns-clause-ok c =
