@@ -1,5 +1,5 @@
 -- The code of an item of a list that is filled apart is code of an expression.
-use Rattle.std.proofs.Common.{◌≡◌, ℕ, ◌+◌, ◌*◌, ◌<◌, ◌≤◌, List, [], ◌∷◌, ◌++◌, length, pos, true, refl, sym, ap, ◌∙◌, subst, None, Some, arith, append_assoc, length-append}
+use Rattle.std.proofs.Common.{◌≡◌, ℕ, zero, suc, ◌+◌, ◌*◌, ◌<◌, ◌≤◌, List, [], ◌∷◌, ◌++◌, length, pos, true, refl, sym, ap, ◌∙◌, subst, Option, None, Some, arith, append_assoc, length-append}
 use Rattle.std.specs.Prelude.{◌^◌, nat_lt}
 use Rattle.std.proofs.lemmas.Bool.Decides.{nat_tests}
 use Rattle.rvc_base.specs.declared.scalar.Scalar.{Scalar}
@@ -16,6 +16,7 @@ use Rattle.expr_lower.specs.Callees.{Function}
 use Rattle.expr_lower.specs.Calling.{EvaluatesWith, Prepared, Serves}
 use Rattle.expr_lower.specs.Coding.{IsCode, IsOtherCode, in_another_way}
 use Rattle.expr_lower.specs.Following.{CutsOff, Follows, MayUse, Pushes}
+use Rattle.expr_lower.specs.Growing.{unless_none}
 use Rattle.expr_lower.specs.Held.{AreBelow}
 use Rattle.expr_lower.specs.Lowered.{Adds, IsPut}
 use Rattle.expr_lower.specs.Names.{Name}
@@ -154,3 +155,9 @@ apart_adds fs names e place t many size each first at c old d0 d1 d2 d3 new is e
           (subst (λ x. IsFill fs names (tree.index e place at) t c base n (f.code ++ op.Const (pos 0) ∷ (g.code ++ op.Index many each ∷ op.CopyFrom c n x each ∷ [])) d3.cells) all
           (subst (λ x. IsFill fs names (tree.index e place at) t c base n (f.code ++ op.Const (pos 0) ∷ (g.code ++ op.Index many x ∷ op.CopyFrom c n (many * scalars_of_type t) x ∷ [])) d3.cells) one made)));
     }
+
+-- a number that isn't 0
+pub unless_some : (o : Option ℕ) (n : ℕ) → unless_none o ≡ Some n → (o ≡ Some n) × (0 < n)
+unless_some None n e = cc
+unless_some (Some zero) n e = cc
+unless_some (Some (suc k)) n e = let same : suc k ≡ n = cc in (ap Some same, omega (arith, same))
