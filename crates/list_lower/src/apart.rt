@@ -7,7 +7,7 @@ ghost use Rattle.cal_model.specs.Value.{Many};
 ghost use Rattle.cal_model.specs.View.{shape_view};
 ghost use Rattle.expr_lower.specs.declared.fault.LowerFault.TheVariants.{Memory};
 ghost use Rattle.expr_lower.specs.Growing.{one, unless_none};
-ghost use Rattle.expr_lower.specs.ItemsSeen.{first_seen, items_at, items_seen};
+ghost use Rattle.expr_lower.specs.ItemsSeen.{few, first_seen, items_at, items_seen};
 ghost use Rattle.expr_lower.specs.Parted.{sized};
 ghost use Rattle.expr_lower.specs.PartView.{places_of};
 ghost use Rattle.expr_lower.specs.Seen.{seen};
@@ -131,9 +131,20 @@ fn items_listed(scope: &Scope, items: &[Expr], depth: u32) -> Option<u32>
     ensures { result ≡ items_seen (seen scope.now) (list_of items.now 0) depth }
 {
     if depth == 0 {
-        return u32::try_from(items.len()).ok();
+        few(items.len())
+    } else {
+        first_seen(scope, items, depth - 1)
     }
-    first_seen(scope, items, depth - 1)
+}
+
+/// A count, if 32 bits hold it.
+fn few(count: usize) -> Option<u32>
+    ensures { result ≡ few count }
+{
+    match u32::try_from(count) {
+        Ok(number) => Some(number),
+        Err(_) => None,
+    }
 }
 
 /// How many items the first of some lists has.
