@@ -10,7 +10,7 @@ ghost use Rattle.expr_lower.specs.Growing.{IsFault};
 ghost use Rattle.expr_lower.specs.Held.{AreBelow};
 ghost use Rattle.expr_lower.specs.Listed.{single_of};
 ghost use Rattle.expr_lower.specs.Names.{names_view};
-ghost use Rattle.expr_lower.specs.Parted.{part_named, sized};
+ghost use Rattle.expr_lower.specs.Parted.{sized};
 ghost use Rattle.expr_lower.specs.PartView.{places_of};
 ghost use Rattle.expr_lower.specs.Seen.{called, seen};
 ghost use Rattle.expr_lower.specs.SeenWords.{IsAll, IsWhy};
@@ -24,7 +24,7 @@ ghost use Rattle.list_lower.specs.FillWords.{IsFaultOfList, IsWholeList};
 ghost use Rattle.list_lower.specs.FillWords.{Lays, LaysAll, comp_of, list_of};
 ghost use Rattle.list_lower.specs.FillWords.{left_out_elements, left_out_inside, left_out_item};
 ghost use Rattle.expr_lower.specs.Growing.{first_cell, left_out_named, left_out_whole};
-ghost use Rattle.list_lower.specs.LeftOut.{left_out_single};
+ghost use Rattle.list_lower.specs.LeftOut.{left_out_item_apart, left_out_part, left_out_single};
 
 use crate::apart::{items_seen, list_like, some_scalars};
 use crate::counting::{put_first, put_more, put_next};
@@ -217,14 +217,13 @@ fn part(
     draft: &mut Draft,
 ) -> Result<(), LowerFault>
     requires index { expr_tree e.now ≡ index_of base.now place.now at }
-    requires list { single_of (shape_view shape.now) ≡ None }
     requires cells { HasCells (shape_view shape.now) cell draft.old }
     ensures ok { OnOk result
         (Lays scope.now (index_of base.now place.now at) (shape_view shape.now) cell draft.old draft.new) }
     ensures whole { OnOk result
-        (IsAllLaid scope.now (shape_view shape.now) (index_of base.now place.now at)) }
-    ensures fault { IfErr result
-        (IsWhyNotLaid scope.now (shape_view shape.now) (index_of base.now place.now at) draft.new) }
+        (left_out_part (called scope.now) (seen scope.now) (shape_view shape.now) (expr_tree base.now) (expr_tree place.now) at ≡ None) }
+    ensures fault { IfErr result (IsFault
+        (left_out_part (called scope.now) (seen scope.now) (shape_view shape.now) (expr_tree base.now) (expr_tree place.now) at) draft.new) }
 {
     let Some(part) = part_named(scope, e) else {
         return apart_list(scope, base, place, shape, cell, at, draft);
@@ -254,15 +253,13 @@ fn apart_list(
     at: u32,
     draft: &mut Draft,
 ) -> Result<(), LowerFault>
-    requires not_part { part_named (seen scope.now) (index_of base.now place.now at) ≡ None }
-    requires list { single_of (shape_view shape.now) ≡ None }
     requires cells { HasCells (shape_view shape.now) cell draft.old }
     ensures ok { OnOk result
         (Lays scope.now (index_of base.now place.now at) (shape_view shape.now) cell draft.old draft.new) }
     ensures whole { OnOk result
-        (IsAllLaid scope.now (shape_view shape.now) (index_of base.now place.now at)) }
-    ensures fault { IfErr result
-        (IsWhyNotLaid scope.now (shape_view shape.now) (index_of base.now place.now at) draft.new) }
+        (left_out_item_apart (called scope.now) (seen scope.now) (shape_view shape.now) (expr_tree base.now) (expr_tree place.now) at ≡ None) }
+    ensures fault { IfErr result (IsFault
+        (left_out_item_apart (called scope.now) (seen scope.now) (shape_view shape.now) (expr_tree base.now) (expr_tree place.now) at) draft.new) }
 {
     let Some(count) = items_seen(scope, base, 0) else {
         return Err(LowerFault::NotLowered { at });

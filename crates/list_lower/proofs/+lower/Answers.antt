@@ -40,8 +40,8 @@ use Rattle.rvc_base.specs.declared.scalar.Scalar.TheVariants as scalar
 use Rattle.list_lower.proofs.ApartItems.{apart_adds, item_adds, unless_some}
 use Rattle.list_lower.proofs.+lower.Goals as goal
 
-pub both-returns-clause-ok : goal.both-returns-clause-ok
-both-returns-clause-ok t c =
+pub exprs::both-returns-clause-ok : goal.exprs::both-returns-clause-ok
+exprs::both-returns-clause-ok t c =
     both_adds (seen c.args.scope.now) (expr_tree c.args.left.now) (expr_tree c.args.right.now) c.args.at c.args.draft.now c.lower_test.new.draft c.lower.new.draft c.put.new.draft c.put-2.new.draft c.link.new.draft (op.Jump 0)
     c.len-start.result c.len-exits.result c.in_ok-out.out c.len-jump.result c.in_ok-end.end
     (sym c.is_truth.ensures ∙ c.if-not-is_truth.false)
@@ -49,16 +49,16 @@ both-returns-clause-ok t c =
     (search rules) (search rules) (search rules) c.in_ok-out.ensures.place c.in_ok-end.ensures.place
     c.link.ensures.linked c.link.ensures.routines c.link.ensures.cells
 
-pub choice-returns-clause-ok : goal.choice-returns-clause-ok
-choice-returns-clause-ok t c = λ at.
+pub exprs::choice-returns-clause-ok : goal.exprs::choice-returns-clause-ok
+exprs::choice-returns-clause-ok t c = λ at.
     if_adds (seen c.args.scope.now) (expr_tree c.args.test.now) (expr_tree c.args.yes.now) (expr_tree c.args.no.now) at c.args.draft.now c.lower_test.new.draft c.lower.new.draft c.put.new.draft c.lower-2.new.draft c.link.new.draft (op.Jump 0)
     c.len-start.result c.len-exits.result c.in_ok-out.out c.len-jump.result c.in_ok-end.end
     c.in_ok-lower_test.ensures.ok c.in_ok-lower.ensures.ok c.in_ok-put.ensures.added c.in_ok-lower-2.ensures.ok
     (search rules) (search rules) (search rules) c.in_ok-out.ensures.place c.in_ok-end.ensures.place
     c.link.ensures.linked c.link.ensures.routines c.link.ensures.cells
 
-pub either-returns-clause-ok : goal.either-returns-clause-ok
-either-returns-clause-ok t c =
+pub exprs::either-returns-clause-ok : goal.exprs::either-returns-clause-ok
+exprs::either-returns-clause-ok t c =
     either_adds (seen c.args.scope.now) (expr_tree c.args.left.now) (expr_tree c.args.right.now) c.args.at c.args.draft.now c.lower_test.new.draft c.put.new.draft c.put-2.new.draft c.lower.new.draft c.link.new.draft (op.Jump 0)
     c.len-start.result c.len-exits.result c.in_ok-out.out c.len-jump.result c.in_ok-end.end
     (sym c.is_truth.ensures ∙ c.if-not-is_truth.false)
@@ -66,15 +66,15 @@ either-returns-clause-ok t c =
     (search rules) (search rules) (search rules) c.in_ok-out.ensures.place c.in_ok-end.ensures.place
     c.link.ensures.linked c.link.ensures.routines c.link.ensures.cells
 
-pub paren-returns-clause-ok : goal.paren-returns-clause-ok
-paren-returns-clause-ok t c = λ at.
+pub exprs::paren-returns-clause-ok : goal.exprs::paren-returns-clause-ok
+exprs::paren-returns-clause-ok t c = λ at.
     on_ok_weaker c.lower.result
     (same_adds (IsCode (called c.args.scope.now) (seen c.args.scope.now) (expr_tree c.args.inner.now)) (IsCode (called c.args.scope.now) (seen c.args.scope.now) (tree.paren (expr_tree c.args.inner.now) at)) c.args.draft.now c.lower.new.draft
     (λ base n m code h. coding.paren (expr_tree c.args.inner.now) at base n m code h))
     c.lower.ensures.ok
 
-pub operation-returns-in-Some-clause-ok : goal.operation-returns-in-Some-clause-ok
-operation-returns-in-Some-clause-ok t c = λ at.
+pub exprs::operation-returns-in-Some-clause-ok : goal.exprs::operation-returns-in-Some-clause-ok
+exprs::operation-returns-in-Some-clause-ok t c = λ at.
     let fits : SFits num_width c.in-Some.value = search rules in
     let same : to_z num_width (of_z num_width c.in-Some.value) ≡ c.in-Some.value = to_z-of_z num_width c.in-Some.value fits in
     on_ok_weaker c.put_const.result
@@ -83,8 +83,8 @@ operation-returns-in-Some-clause-ok t c = λ at.
     (λ base n. negative_coded (seen c.args.scope.now) c.args.op (expr_tree c.args.of.now) c.in-Some.value at base n c.in-Some.ensures))
     c.put_const.ensures.added
 
-pub operation-returns-clause-ok : goal.operation-returns-clause-ok
-operation-returns-clause-ok t c = λ at.
+pub exprs::operation-returns-clause-ok : goal.exprs::operation-returns-clause-ok
+exprs::operation-returns-clause-ok t c = λ at.
     let names : List Name = seen c.args.scope.now in
     on_ok_weaker c.put.result
     (λ (p : IsPut (c.prefix_instr.result ∷ []) c.lower.new.draft c.put.new.draft).
@@ -93,14 +93,14 @@ operation-returns-clause-ok t c = λ at.
     (subst (λ i. IsPut (i ∷ []) c.lower.new.draft c.put.new.draft) c.prefix_instr.ensures p))
     c.put.ensures.added
 
-pub strict-returns-clause-ok : goal.strict-returns-clause-ok
-strict-returns-clause-ok t c =
+pub exprs::strict-returns-clause-ok : goal.exprs::strict-returns-clause-ok
+exprs::strict-returns-clause-ok t c =
     on_ok_weaker c.put.result
     (λ p o at e. strict_adds (seen c.args.scope.now) o c.args.instr (expr_tree c.args.left.now) (expr_tree c.args.right.now) at c.args.draft.now c.lower.new.draft c.lower-2.new.draft c.put.new.draft e c.in_ok-lower.ensures.ok c.in_ok-lower-2.ensures.ok p)
     c.put.ensures.added
 
-pub test_both-returns-clause-ok : goal.test_both-returns-clause-ok
-test_both-returns-clause-ok t c =
+pub exprs::test_both-returns-clause-ok : goal.exprs::test_both-returns-clause-ok
+exprs::test_both-returns-clause-ok t c =
     let names : List Name = seen c.args.scope.now in
     on_ok_weaker c.lower_test-2.result
     (then_adds (IsOpenTest (called c.args.scope.now) names (expr_tree c.args.left.now)) (IsOpenTest (called c.args.scope.now) names (expr_tree c.args.right.now)) (IsOpenTest (called c.args.scope.now) names (tree.binary binaries.And (expr_tree c.args.left.now) (expr_tree c.args.right.now) c.args.at)) c.args.draft.now c.lower_test.new.draft c.lower_test-2.new.draft
@@ -108,16 +108,16 @@ test_both-returns-clause-ok t c =
     c.in_ok-lower_test.ensures.ok)
     c.lower_test-2.ensures.ok
 
-pub test_value-returns-clause-ok : goal.test_value-returns-clause-ok
-test_value-returns-clause-ok t c =
+pub exprs::test_value-returns-clause-ok : goal.exprs::test_value-returns-clause-ok
+exprs::test_value-returns-clause-ok t c =
     let names : List Name = seen c.args.scope.now in
     on_ok_weaker c.put.result
     (then_put (IsCode (called c.args.scope.now) names (expr_tree c.args.e.now)) (IsOpenTest (called c.args.scope.now) names (expr_tree c.args.e.now)) (op.Done ∷ []) c.args.draft.now c.lower.new.draft c.put.new.draft
     (λ base n m code h. test_coded names (expr_tree c.args.e.now) base n m code h) c.in_ok-lower.ensures.ok)
     c.put.ensures.added
 
-pub item-returns-clause-ok : goal.item-returns-clause-ok
-item-returns-clause-ok t c =
+pub exprs::item-returns-clause-ok : goal.exprs::item-returns-clause-ok
+exprs::item-returns-clause-ok t c =
     let names : List Name = seen c.args.scope.now in
     on_ok_weaker c.put.result
     (λ (p : IsPut (c.item_instr.result ∷ []) c.lower.new.draft c.put.new.draft).
@@ -126,8 +126,8 @@ item-returns-clause-ok t c =
     (subst (λ i. IsPut (i ∷ []) c.lower.new.draft c.put.new.draft) c.item_instr.ensures p))
     c.put.ensures.added
 
-pub deep_item-returns-clause-ok : goal.deep_item-returns-clause-ok
-deep_item-returns-clause-ok t c =
+pub exprs::deep_item-returns-clause-ok : goal.exprs::deep_item-returns-clause-ok
+exprs::deep_item-returns-clause-ok t c =
     let names : List Name = seen c.args.scope.now in
     on_ok_weaker c.put.result
     (λ (p : IsPut (c.item_instr.result ∷ []) c.row.new.draft c.put.new.draft).
@@ -136,24 +136,24 @@ deep_item-returns-clause-ok t c =
     (subst (λ i. IsPut (i ∷ []) c.row.new.draft c.put.new.draft) c.item_instr.ensures p))
     c.put.ensures.added
 
-pub row-returns-clause-ok : goal.row-returns-clause-ok
-row-returns-clause-ok t c = λ at.
+pub exprs::row-returns-clause-ok : goal.exprs::row-returns-clause-ok
+exprs::row-returns-clause-ok t c = λ at.
     on_ok_weaker c.put.result
     (row_adds (seen c.args.scope.now) (expr_tree c.args.base.now) (expr_tree c.args.place.now) at c.in-Some.rows c.args.draft.now c.offset.new.draft c.lower.new.draft c.put.new.draft (sym c.in-Some.ensures) c.in_ok-offset.ensures.ok c.in_ok-lower.ensures.ok)
     c.put.ensures.added
 
-pub row-unreachable-requires : goal.row-unreachable-requires
-row-unreachable-requires t c =
+pub exprs::row-unreachable-requires : goal.exprs::row-unreachable-requires
+exprs::row-unreachable-requires t c =
     item_has_rows (seen c.args.scope.now) (expr_tree c.args.base.now) (expr_tree c.args.place.now) 0 c.requires.part (sym c.rows_named.ensures ∙ c.in_default.is)
 
-pub lower_args-returns-in_default-clause-ok : goal.lower_args-returns-in_default-clause-ok
-lower_args-returns-in_default-clause-ok t c =
+pub exprs::lower_args-returns-in_default-clause-ok : goal.exprs::lower_args-returns-in_default-clause-ok
+exprs::lower_args-returns-in_default-clause-ok t c =
     let none : length c.args.args.now ≡ 0 = search rules in
     subst (λ xs. Adds (AreArgs (called c.args.scope.now) (seen c.args.scope.now) (listed (map expr_tree xs))) c.args.draft.now c.args.draft.now) (sym (no_items c.args.args.now none))
     (args_none (seen c.args.scope.now) c.args.draft.now)
 
-pub lower_args-returns-clause-ok : goal.lower_args-returns-clause-ok
-lower_args-returns-clause-ok t c =
+pub exprs::lower_args-returns-clause-ok : goal.exprs::lower_args-returns-clause-ok
+exprs::lower_args-returns-clause-ok t c =
     let opened : map expr_tree c.args.args.now ≡ expr_tree c.in-Some.first.now ∷ map expr_tree c.in-Some.rest.now = search rules in
     on_ok_weaker c.lower_args.result
     (λ h. subst (λ xs. Adds (AreArgs (called c.args.scope.now) (seen c.args.scope.now) (listed xs)) c.args.draft.now c.lower_args.new.draft) (sym opened)
@@ -162,53 +162,53 @@ lower_args-returns-clause-ok t c =
     (λ base n k m a b g d. arg_more (expr_tree c.in-Some.first.now) (listed (map expr_tree c.in-Some.rest.now)) base n k m a b g d) c.in_ok-lower.ensures.ok h))
     c.lower_args.ensures.ok
 
-pub call-returns-clause-ok : goal.call-returns-clause-ok
-call-returns-clause-ok t c =
+pub exprs::call-returns-clause-ok : goal.exprs::call-returns-clause-ok
+exprs::call-returns-clause-ok t c =
     on_ok_weaker c.put_call.result
     (then_put (AreArgs (called c.args.scope.now) (seen c.args.scope.now) (places_of c.args.args.now)) (IsCode (called c.args.scope.now) (seen c.args.scope.now) (call_of c.args.name.now c.args.args.now c.args.at)) (call_code (function_view c.in-Some.callee.now))
     c.args.draft.now c.lower_args.new.draft c.put_call.new.draft
     (λ base n m code h. coding.call c.args.name.now (places_of c.args.args.now) c.args.at base n m code (function_view c.in-Some.callee.now) (sym c.in-Some.ensures) h) c.in_ok-lower_args.ensures.ok)
     c.put_call.ensures.added
 
-pub fill_paren-returns-clause-ok : goal.fill_paren-returns-clause-ok
-fill_paren-returns-clause-ok t c = λ at.
+pub lists::fill_paren-returns-clause-ok : goal.lists::fill_paren-returns-clause-ok
+lists::fill_paren-returns-clause-ok t c = λ at.
     on_ok_weaker c.fill.result
     (same_adds (IsFill (called c.args.scope.now) (seen c.args.scope.now) (expr_tree c.args.inner.now) (shape_view c.args.shape.now) c.args.cell) (IsFill (called c.args.scope.now) (seen c.args.scope.now) (tree.paren (expr_tree c.args.inner.now) at) (shape_view c.args.shape.now) c.args.cell) c.args.draft.now c.fill.new.draft
     (λ base n m code h. in_parens (seen c.args.scope.now) (expr_tree c.args.inner.now) (shape_view c.args.shape.now) at c.args.cell base n m code h))
     c.fill.ensures.ok
 
-pub fill_choice-returns-clause-ok : goal.fill_choice-returns-clause-ok
-fill_choice-returns-clause-ok t c = λ at.
+pub lists::fill_choice-returns-clause-ok : goal.lists::fill_choice-returns-clause-ok
+lists::fill_choice-returns-clause-ok t c = λ at.
     choice_adds (called c.args.scope.now) (seen c.args.scope.now) (expr_tree c.args.test.now) (expr_tree c.args.yes.now) (expr_tree c.args.no.now) (shape_view c.args.shape.now) at c.args.cell c.args.draft.now c.lower_test.new.draft c.fill.new.draft c.put.new.draft c.fill-2.new.draft c.link.new.draft (op.Jump 0)
     c.len-start.result c.len-exits.result c.in_ok-out.out c.len-jump.result c.in_ok-end.end
     c.in_ok-lower_test.ensures.ok c.in_ok-fill.ensures.ok c.in_ok-put.ensures.added c.in_ok-fill-2.ensures.ok
     (search rules) (search rules) (search rules) c.in_ok-out.ensures.place c.in_ok-end.ensures.place
     c.link.ensures.linked c.link.ensures.routines c.link.ensures.cells
 
-pub fill_all-returns-in_default-clause-ok : goal.fill_all-returns-in_default-clause-ok
-fill_all-returns-in_default-clause-ok t c =
+pub lists::fill_all-returns-in_default-clause-ok : goal.lists::fill_all-returns-in_default-clause-ok
+lists::fill_all-returns-in_default-clause-ok t c =
     let none : length c.args.items.now ≡ 0 = search rules in
     subst (λ xs. Adds (AreFills (called c.args.scope.now) (seen c.args.scope.now) (listed (map expr_tree xs)) (shape_view c.args.shape.now) c.args.cell) c.args.draft.now c.args.draft.now) (sym (no_items c.args.items.now none))
     (none_add (called c.args.scope.now) (seen c.args.scope.now) (shape_view c.args.shape.now) c.args.cell c.args.draft.now)
 
-pub fill_all-returns-clause-ok : goal.fill_all-returns-clause-ok
-fill_all-returns-clause-ok t c =
+pub lists::fill_all-returns-clause-ok : goal.lists::fill_all-returns-clause-ok
+lists::fill_all-returns-clause-ok t c =
     let opened : map expr_tree c.args.items.now ≡ expr_tree c.in-Some.first.now ∷ map expr_tree c.in-Some.rest.now = search rules in
     on_ok_weaker c.fill_all.result
     (λ h. subst (λ xs. Adds (AreFills (called c.args.scope.now) (seen c.args.scope.now) (listed xs) (shape_view c.args.shape.now) c.args.cell) c.args.draft.now c.fill_all.new.draft) (sym opened)
     (more_add (called c.args.scope.now) (seen c.args.scope.now) (expr_tree c.in-Some.first.now) (listed (map expr_tree c.in-Some.rest.now)) (shape_view c.args.shape.now) c.args.cell c.args.each c.args.draft.now c.fill.new.draft c.fill_all.new.draft c.requires.size c.in_ok-fill.ensures.ok h))
     c.fill_all.ensures.ok
 
-pub fill_choice-fill-requires-2 : goal.fill_choice-fill-requires-2
-fill_choice-fill-requires-2 t c =
+pub lists::fill_choice-fill-requires-2 : goal.lists::fill_choice-fill-requires-2
+lists::fill_choice-fill-requires-2 t c =
     let grown = grows_fill c.in_ok-fill.ensures.ok.has in
     let first = grows_test (c.in_ok-lower_test.ensures.ok.has 0) in
     let last = c.put.ensures.cells in
     let enough = c.requires.cells.2 in
     (omega arith, (c.requires.cells.0, c.requires.cells.1, omega (arith, grown, first, last, enough)))
 
-pub fill_all-fill-requires : goal.fill_all-fill-requires
-fill_all-fill-requires t c =
+pub lists::fill_all-fill-requires : goal.lists::fill_all-fill-requires
+lists::fill_all-fill-requires t c =
     let opened : map expr_tree c.args.items.now ≡ expr_tree c.in-Some.first.now ∷ map expr_tree c.in-Some.rest.now = search rules in
     let heavy : weight (places_of c.args.items.now) ≡ 20 + weight (expr_tree c.in-Some.first.now) + weight (places_of c.in-Some.rest.now) = ap (λ xs. weight (listed xs)) opened in
     let many : length c.args.items.now ≡ suc (length c.in-Some.rest.now) = search rules in
@@ -217,8 +217,8 @@ fill_all-fill-requires t c =
     let enough = c.requires.cells in
     (omega (arith, heavy), (c.args.each, c.requires.size, omega (arith, sum, wide, enough)))
 
-pub fill_all-overflow_add-cell : goal.fill_all-overflow_add-cell
-fill_all-overflow_add-cell t c =
+pub lists::fill_all-overflow_add-cell : goal.lists::fill_all-overflow_add-cell
+lists::fill_all-overflow_add-cell t c =
     let many : length c.args.items.now ≡ suc (length c.in-Some.rest.now) = search rules in
     let sum : suc (length c.in-Some.rest.now) * c.args.each ≡ c.args.each + length c.in-Some.rest.now * c.args.each = omega arith in
     let wide = ap (λ n. n * c.args.each) many in
@@ -226,8 +226,8 @@ fill_all-overflow_add-cell t c =
     let fits = c.fitting.ensures in
     omega (arith, sum, wide, enough, fits)
 
-pub fill_all-fill_all-requires : goal.fill_all-fill_all-requires
-fill_all-fill_all-requires t c =
+pub lists::fill_all-fill_all-requires : goal.lists::fill_all-fill_all-requires
+lists::fill_all-fill_all-requires t c =
     let opened : map expr_tree c.args.items.now ≡ expr_tree c.in-Some.first.now ∷ map expr_tree c.in-Some.rest.now = search rules in
     let heavy : weight (places_of c.args.items.now) ≡ 20 + weight (expr_tree c.in-Some.first.now) + weight (places_of c.in-Some.rest.now) = ap (λ xs. weight (listed xs)) opened in
     let many : length c.args.items.now ≡ suc (length c.in-Some.rest.now) = search rules in
@@ -239,8 +239,8 @@ fill_all-fill_all-requires t c =
 
 -- ---- lists that are written out
 
-pub list-returns-then-items-count-clause-fault : goal.list-returns-then-items-count-clause-fault
-list-returns-then-items-count-clause-fault t c =
+pub lists::list-returns-then-items-count-clause-fault : goal.lists::list-returns-then-items-count-clause-fault
+lists::list-returns-then-items-count-clause-fault t c =
     let es : Tree = places_of c.args.items.now in
     let f : Shape → Option ℕ = λ items. left_out_fills (called c.args.scope.now) (seen c.args.scope.now) items es in
     let shaped : shape_view c.args.shape.now ≡ Many c.in-List.count (shape_view c.in-List.of.value) = search (rules, shapes.the_lemmas) in
@@ -248,8 +248,8 @@ list-returns-then-items-count-clause-fault t c =
     ap (λ s. left_out_many s c.args.at (Some (number_of es)) f) shaped
     ∙ many_not c.in-List.count (number_of es) c.args.at (shape_view c.in-List.of.value) f (λ e. differ (places_number expr_tree c.args.items.now ∙ e))
 
-pub list-returns-in-Some-clause-ok : goal.list-returns-in-Some-clause-ok
-list-returns-in-Some-clause-ok t c =
+pub lists::list-returns-in-Some-clause-ok : goal.lists::list-returns-in-Some-clause-ok
+lists::list-returns-in-Some-clause-ok t c =
     let es : Tree = places_of c.args.items.now in
     let shaped : shape_view c.args.shape.now ≡ Many c.in-List.count (shape_view c.deref-in-List.result.now) = search (rules, shapes.the_lemmas) in
     let same : length c.args.items.now ≡ c.in-List.count = search rules in
@@ -258,8 +258,8 @@ list-returns-in-Some-clause-ok t c =
     (items_add (called c.args.scope.now) (seen c.args.scope.now) es (shape_view c.deref-in-List.result.now) c.args.at c.args.cell c.in-List.count c.args.draft.now c.fill_all.new.draft (sym (places_number expr_tree c.args.items.now) ∙ same) a))
     c.fill_all.ensures.ok
 
-pub list-returns-in-Some-clause-whole : goal.list-returns-in-Some-clause-whole
-list-returns-in-Some-clause-whole t c =
+pub lists::list-returns-in-Some-clause-whole : goal.lists::list-returns-in-Some-clause-whole
+lists::list-returns-in-Some-clause-whole t c =
     let es : Tree = places_of c.args.items.now in
     let f : Shape → Option ℕ = λ items. left_out_fills (called c.args.scope.now) (seen c.args.scope.now) items es in
     let shaped : shape_view c.args.shape.now ≡ Many c.in-List.count (shape_view c.deref-in-List.result.now) = search (rules, shapes.the_lemmas) in
@@ -269,8 +269,8 @@ list-returns-in-Some-clause-whole t c =
     ∙ many_left c.in-List.count c.args.at (shape_view c.deref-in-List.result.now) (Some (number_of es)) f (ap Some (sym (places_number expr_tree c.args.items.now) ∙ same)) in
     subst (λ o. OnOk c.fill_all.result (o ≡ None)) (sym is) c.fill_all.ensures.whole
 
-pub list-returns-in-Some-clause-fault : goal.list-returns-in-Some-clause-fault
-list-returns-in-Some-clause-fault t c =
+pub lists::list-returns-in-Some-clause-fault : goal.lists::list-returns-in-Some-clause-fault
+lists::list-returns-in-Some-clause-fault t c =
     let es : Tree = places_of c.args.items.now in
     let f : Shape → Option ℕ = λ items. left_out_fills (called c.args.scope.now) (seen c.args.scope.now) items es in
     let shaped : shape_view c.args.shape.now ≡ Many c.in-List.count (shape_view c.deref-in-List.result.now) = search (rules, shapes.the_lemmas) in
@@ -282,8 +282,8 @@ list-returns-in-Some-clause-fault t c =
 
 -- ---- comprehensions
 
-pub comp-returns-in-Some-scalars-clause-fault : goal.comp-returns-in-Some-scalars-clause-fault
-comp-returns-in-Some-scalars-clause-fault t c =
+pub lists::comp-returns-in-Some-scalars-clause-fault : goal.lists::comp-returns-in-Some-scalars-clause-fault
+lists::comp-returns-in-Some-scalars-clause-fault t c =
     let gens : Tree = gens_of c.args.gens.now in
     let f : Shape → Option ℕ = λ items. left_out_elements c.args.scope.now c.args.gens.now items c.args.item.now in
     let shaped : shape_view c.args.shape.now ≡ Many c.in-List.count (shape_view c.deref.result.now) = search (rules, shapes.the_lemmas) in
@@ -293,8 +293,8 @@ comp-returns-in-Some-scalars-clause-fault t c =
     ∙ many_left c.in-List.count c.args.at (shape_view c.deref.result.now) (how_many gens) f (sym c.in-Some.ensures ∙ ap Some same) in
     subst (λ o. IfErr c.generate.result (IsFault o c.generate.new.draft)) (sym is) c.generate.ensures.fault
 
-pub generate-elements-requires : goal.generate-elements-requires
-generate-elements-requires t c =
+pub lists::generate-elements-requires : goal.lists::generate-elements-requires
+lists::generate-elements-requires t c =
     let many = c.requires.many in
     let inside = sized_list many.0 (shape_view c.args.items.now) c.args.all many.2 in
     let taken = c.in_ok-filled.ensures.taken.cells in
@@ -304,8 +304,8 @@ generate-elements-requires t c =
     let begins : BeginsAt _ c.args.gens.now (c.in_ok-filled.filled + 1) c.put_first.new.draft = record { turn = c.in_ok-turn.ensures.place; cells = omega (arith, taken, is, one, two) } in
     (omega arith, (begins, (all_count (gens_of c.args.gens.now) many.0 many.1, (inside.each, inside.items_are))))
 
-pub generate-returns-clause-ok : goal.generate-returns-clause-ok
-generate-returns-clause-ok t c = λ at count e.
+pub lists::generate-returns-clause-ok : goal.lists::generate-returns-clause-ok
+lists::generate-returns-clause-ok t c = λ at count e.
     let many = c.requires.many in
     let same : many.0 ≡ count = one_many many.0 count (sym many.1 ∙ e) in
     let to : Target = record { cell = c.args.cell; all = c.args.all; filled = c.in_ok-filled.filled; turn = c.in_ok-turn.turn } in
@@ -315,49 +315,49 @@ generate-returns-clause-ok t c = λ at count e.
     e (subst (λ n. sized (Many n (shape_view c.args.items.now)) ≡ Some c.args.all) same many.2) c.in_ok-filled.ensures.taken c.in_ok-put.ensures.added c.in_ok-put_first.ensures.added c.in_ok-turn.ensures.place a)
     c.elements.ensures.ok
 
-pub each_number-put_next-requires : goal.each_number-put_next-requires
-each_number-put_next-requires t c =
+pub lists::each_number-put_next-requires : goal.lists::each_number-put_next-requires
+lists::each_number-put_next-requires t c =
     let cells = c.requires.begins.cells in
     let fits = c.fitting.ensures in
     record { room = omega (arith, cells, fits) }
 
-pub each_number-returns-clause-ok : goal.each_number-returns-clause-ok
-each_number-returns-clause-ok t c =
+pub lists::each_number-returns-clause-ok : goal.lists::each_number-returns-clause-ok
+lists::each_number-returns-clause-ok t c =
     on_ok_weaker c.put_next.result
     (λ n. each_adds (called c.args.scope.now) (seen c.args.scope.now) (gen_tree c.args.first.now) (gens_of c.args.rest.now) (expr_tree c.args.item.now) (shape_view c.args.items.now) (counter_view c.in-Some.x) c.args.to c.args.k c.args.draft.now c.inside.new.draft c.put_next.new.draft
     (sym c.in-Some.ensures) c.requires.begins.turn c.in_ok-inside.ensures.ok n)
     c.put_next.ensures.added
 
-pub each_number-returns-clause-whole : goal.each_number-returns-clause-whole
-each_number-returns-clause-whole t c =
+pub lists::each_number-returns-clause-whole : goal.lists::each_number-returns-clause-whole
+lists::each_number-returns-clause-whole t c =
     let is = each_left (called c.args.scope.now) (seen c.args.scope.now) (counter_view c.in-Some.x) (c.args.k + 1) (shape_view c.args.items.now) (expr_tree c.args.item.now) (gen_tree c.args.first.now) (gens_of c.args.rest.now) (sym c.in-Some.ensures) in
     on_ok_weaker c.put_next.result (λ n. sym is ∙ c.in_ok-inside.ensures.whole) c.put_next.ensures.added
 
-pub each_number-returns-clause-fault : goal.each_number-returns-clause-fault
-each_number-returns-clause-fault t c = c.put_next.ensures.fault (left_out_elements c.args.scope.now (c.args.first.now ∷ c.args.rest.now) (shape_view c.args.items.now) c.args.item.now)
+pub lists::each_number-returns-clause-fault : goal.lists::each_number-returns-clause-fault
+lists::each_number-returns-clause-fault t c = c.put_next.ensures.fault (left_out_elements c.args.scope.now (c.args.first.now ∷ c.args.rest.now) (shape_view c.args.items.now) c.args.item.now)
 
-pub each_number-returns-in_err-inside-clause-fault : goal.each_number-returns-in_err-inside-clause-fault
-each_number-returns-in_err-inside-clause-fault t c =
+pub lists::each_number-returns-in_err-inside-clause-fault : goal.lists::each_number-returns-in_err-inside-clause-fault
+lists::each_number-returns-in_err-inside-clause-fault t c =
     let left : Option ℕ = left_out_elements c.args.scope.now (c.args.first.now ∷ c.args.rest.now) (shape_view c.args.items.now) c.args.item.now in
     let is = each_left (called c.args.scope.now) (seen c.args.scope.now) (counter_view c.in-Some.x) (c.args.k + 1) (shape_view c.args.items.now) (expr_tree c.args.item.now) (gen_tree c.args.first.now) (gens_of c.args.rest.now) (sym c.in-Some.ensures) in
     let made : IsFault left c.inside.new.draft c.in_err-inside.field-0.0 = subst (λ o. IsFault o c.inside.new.draft c.in_err-inside.field-0.0) is c.in_err-inside.ensures.fault in
     let same : c.from_residual.result ≡ Err c.in_err-inside.field-0.0 = search rules in
     subst (λ r. IfErr r (IsFault left c.inside.new.draft)) (sym same) made
 
-pub inside-overflow_add-frame : goal.inside-overflow_add-frame
-inside-overflow_add-frame t c =
+pub lists::inside-overflow_add-frame : goal.lists::inside-overflow_add-frame
+lists::inside-overflow_add-frame t c =
     let cells = c.requires.begins.cells in
     let fits = c.fitting.ensures in
     omega (arith, cells, fits)
 
-pub inside-overflow_add-k : goal.inside-overflow_add-k
-inside-overflow_add-k t c =
+pub lists::inside-overflow_add-k : goal.lists::inside-overflow_add-k
+lists::inside-overflow_add-k t c =
     let cells = c.requires.begins.cells in
     let fits = c.fitting.ensures in
     omega (arith, cells, fits)
 
-pub inside-returns-clause-fault : goal.inside-returns-clause-fault
-inside-returns-clause-fault t c =
+pub lists::inside-returns-clause-fault : goal.lists::inside-returns-clause-fault
+lists::inside-returns-clause-fault t c =
     let gens : Tree = gens_of c.args.rest.now in
     let item : Tree = expr_tree c.args.item.now in
     let items : Shape = shape_view c.args.items.now in
@@ -366,8 +366,8 @@ inside-returns-clause-fault t c =
     (subst (λ fs. IfErr c.elements.result (IsFault (left_out_gens (seen c.under-inner.result) gens (λ ns. left_out_element items (left_out_in fs ns item) (left_out_fill fs ns items item))) c.elements.new.draft)) c.under-inner.ensures.callees
     c.elements.ensures.fault)
 
-pub list_element-returns-clause-ok : goal.list_element-returns-clause-ok
-list_element-returns-clause-ok t c =
+pub lists::list_element-returns-clause-ok : goal.lists::list_element-returns-clause-ok
+lists::list_element-returns-clause-ok t c =
     on_ok_weaker c.put_more.result
     (λ r. list_element_adds (called c.args.scope.now) (seen c.args.scope.now) (expr_tree c.args.item.now) (shape_view c.args.items.now) c.in-Some.each c.in_ok-area.area c.args.to c.args.draft.now c.take_row.new.draft c.put.new.draft c.fill.new.draft c.put_all.new.draft c.put_more.new.draft
     c.requires.list c.requires.turn (sym c.in-Some.ensures) c.in_ok-area.ensures.taken c.in_ok-put.ensures.added c.in_ok-fill.ensures.ok c.in_ok-put_all.ensures.added r)
@@ -375,30 +375,30 @@ list_element-returns-clause-ok t c =
 
 -- ---- single values, names and parts
 
-pub one-returns-clause-ok : goal.one-returns-clause-ok
-one-returns-clause-ok t c = λ t.
+pub lists::one-returns-clause-ok : goal.lists::one-returns-clause-ok
+lists::one-returns-clause-ok t c = λ t.
     on_ok_weaker c.put.result
     (then_put (IsCode (called c.args.scope.now) (seen c.args.scope.now) (expr_tree c.args.e.now)) (IsFill (called c.args.scope.now) (seen c.args.scope.now) (expr_tree c.args.e.now) (Single t) c.args.cell) (op.Store c.args.cell None ∷ []) c.args.draft.now c.lower.new.draft c.put.new.draft
     (λ base n m code h. one_cell (seen c.args.scope.now) (expr_tree c.args.e.now) t c.args.cell base n m code h) c.in_ok-lower.ensures.ok)
     c.put.ensures.added
 
-pub one_element-returns-clause-ok : goal.one_element-returns-clause-ok
-one_element-returns-clause-ok t c = λ t.
+pub lists::one_element-returns-clause-ok : goal.lists::one_element-returns-clause-ok
+lists::one_element-returns-clause-ok t c = λ t.
     on_ok_weaker c.put_more.result
     (one_adds (called c.args.scope.now) (seen c.args.scope.now) (expr_tree c.args.item.now) t c.args.to c.args.draft.now c.put_all.new.draft c.lower.new.draft c.put.new.draft c.put_more.new.draft
     c.requires.turn c.in_ok-put_all.ensures.added c.in_ok-lower.ensures.ok c.in_ok-put.ensures.added)
     c.put_more.ensures.added
 
-pub part-returns-clause-ok : goal.part-returns-clause-ok
-part-returns-clause-ok t c =
+pub lists::part-returns-clause-ok : goal.lists::part-returns-clause-ok
+lists::part-returns-clause-ok t c =
     on_ok_weaker c.put.result
     (λ p. subst (λ e. Adds (IsFill (called c.args.scope.now) (seen c.args.scope.now) e (shape_view c.args.shape.now) c.args.cell) c.args.draft.now c.put.new.draft) c.requires.index
     (part_adds (called c.args.scope.now) (seen c.args.scope.now) (expr_tree c.args.e.now) (shape_view c.args.shape.now) c.args.cell c.in-Some-scalars.size c.in-Some-first_cell.from (part_view c.in-Some.part) c.args.draft.now c.offset.new.draft c.put.new.draft
     (sym c.in-Some.ensures) (sym c.alike.ensures ∙ c.if-not-alike.false) (sym c.in-Some-first_cell.ensures) (sym c.in-Some-scalars.ensures) c.in_ok-offset.ensures.ok p))
     c.put.ensures.added
 
-pub apart_item-returns-clause-ok : goal.apart_item-returns-clause-ok
-apart_item-returns-clause-ok t c =
+pub exprs::apart_item-returns-clause-ok : goal.exprs::apart_item-returns-clause-ok
+exprs::apart_item-returns-clause-ok t c =
     let n : ℕ = c.in-Some.count in
     let is : shape_view c.in_ok-list.list ≡ Many n (Single scalar.Bool) = c.in_ok-list.ensures.made ∙ ap (λ u. Many n u) c.one_type.ensures in
     let size = unless_some (sized (shape_view c.in_ok-list.list)) c.in-Some-some_scalars.size (sym c.in-Some-some_scalars.ensures) in
@@ -408,8 +408,8 @@ apart_item-returns-clause-ok t c =
     (subst (λ u. Adds (IsFill (called c.args.scope.now) (seen c.args.scope.now) (expr_tree c.args.base.now) u c.in_ok-first.first) c.take_row.new.draft c.fill.new.draft) is c.in_ok-fill.ensures.ok) c.in_ok-lower.ensures.ok p)
     c.put.ensures.added
 
-pub apart_list-returns-clause-ok : goal.apart_list-returns-clause-ok
-apart_list-returns-clause-ok t c =
+pub lists::apart_list-returns-clause-ok : goal.lists::apart_list-returns-clause-ok
+lists::apart_list-returns-clause-ok t c =
     let n : ℕ = c.in-Some.count in
     let u : Shape = shape_view c.args.shape.now in
     let is : shape_view c.in_ok-list.list ≡ Many n u = c.in_ok-list.ensures.made in
