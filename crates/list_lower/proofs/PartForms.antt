@@ -35,7 +35,7 @@ use Rattle.list_lower.proofs.Moving.{AreMoved, copied_are}
 use Rattle.list_lower.proofs.Shapes.{alike_sizes, flat_shaped, kind_shaped}
 use Rattle.list_lower.proofs.Steps.{cut_on, straight_reaches}
 
-copy_from_leaves : (d s n m i : ℕ) (tokens : ℕ → List ℤ) (stack cells : List ℤ) → i + m ≤ n → d + m ≤ length cells → s + i + m ≤ length cells
+pub copy_from_leaves : (d s n m i : ℕ) (tokens : ℕ → List ℤ) (stack cells : List ℤ) → i + m ≤ n → d + m ≤ length cells → s + i + m ≤ length cells
     → effect tokens (op.CopyFrom d s n m) (pos i ∷ stack) cells ≡ Leaves stack (copied None d (s + i) m cells)
 copy_from_leaves d s n m i tokens stack cells fit to from =
     let near : nat_le (i + m) n ≡ true = grind (arith, nat_tests, fit) in
