@@ -16,7 +16,7 @@ use Rattle.expr_lower.proofs.Erased.{element_same, erase, gens_erased, inside_ge
 pub use Rattle.expr_lower.proofs.Erased.{fill_erased, fills_erased}
 use Rattle.list_lower.specs.Filling.{alike}
 use Rattle.expr_lower.specs.Generators.{Counted, counted_by, how_many}
-use Rattle.list_lower.specs.LeftOut.{first_cell, left_out_element, left_out_fill, left_out_fills, left_out_gens, left_out_index, left_out_many, left_out_name, left_out_single}
+use Rattle.list_lower.specs.LeftOut.{first_cell, left_out_element, left_out_fill, left_out_fills, left_out_gens, left_out_many, left_out_single}
 
 -- in any cell the variable of a generator leaves out the same
 pub any_cell : (fs : List Function) (names : List Name) (text : List ℕ) (t : Scalar) (c : ℕ) (items : Shape) (item gens : Tree)
