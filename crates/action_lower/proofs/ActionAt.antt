@@ -10,6 +10,7 @@ use Rattle.cal_model.specs.Sound.{IsAction, IsSound, max_rate}
 use Rattle.cal_model.specs.View.{action_view, actor_of}
 use Rattle.cal_model.proofs.KeptByFirings.{action-at}
 use Rattle.expr_lower.specs.declared.draft.Draft.{Draft}
+use Rattle.expr_lower.specs.Callees.{Function}
 use Rattle.expr_lower.specs.Lowered.{Adds}
 use Rattle.expr_lower.specs.Names.{Name}
 use Rattle.action_lower.specs.GuardWords.{AddsGuards, left_out_action, left_out_guards}
@@ -31,15 +32,15 @@ module _ (b : Bound) (a n : ℕ) (act : BoundAction) (same : n ≡ a) (there : a
       let e : need (actor_of b) a port ≡ taken_on port (action_view act).patterns = ap (λ o. elim o [ None ↦ 0 | Some x ↦ taken_on port x.patterns ]) at-place in
       subst (λ k. k ≤ max_rate) e (sound.takes a port)
 
-  module _ (ns : List Name) (gs : List Tree) (names : ns ≡ seen_seats (actor_of b) (action_view act)) (guards : gs ≡ (action_view act).guards) where
-    pub adds-guards : (es : List ℕ) (old new : Draft) → Adds (AreGuards ns gs es) old new → AddsGuards (actor_of b) a es old new
+  module _ (fs : List Function) (ns : List Name) (gs : List Tree) (names : ns ≡ seen_seats (actor_of b) (action_view act)) (guards : gs ≡ (action_view act).guards) where
+    pub adds-guards : (es : List ℕ) (old new : Draft) → Adds (AreGuards fs ns gs es) old new → AddsGuards fs (actor_of b) a es old new
     adds-guards es old new added other e =
         let one : action_view act ≡ other = let f = at-place in cc in
-        subst (λ x. Adds (AreGuards (seen_seats (actor_of b) x) x.guards es) old new) one
-        (subst (λ hs. Adds (AreGuards (seen_seats (actor_of b) (action_view act)) hs es) old new) guards
-        (subst (λ ms. Adds (AreGuards ms gs es) old new) names added))
+        subst (λ x. Adds (AreGuards fs (seen_seats (actor_of b) x) x.guards es) old new) one
+        (subst (λ hs. Adds (AreGuards fs (seen_seats (actor_of b) (action_view act)) hs es) old new) guards
+        (subst (λ ms. Adds (AreGuards fs ms gs es) old new) names added))
 
-    pub left-out : left_out_action (actor_of b) a ≡ left_out_guards ns gs
+    pub left-out : left_out_action fs (actor_of b) a ≡ left_out_guards fs ns gs
     left-out =
-        ap (λ o. elim o [ None ↦ None | Some x ↦ left_out_guards (seen_seats (actor_of b) x) x.guards ]) at-place
-        ∙ ap (λ ms. left_out_guards ms (action_view act).guards) (sym names) ∙ ap (left_out_guards ns) (sym guards)
+        ap (λ o. elim o [ None ↦ None | Some x ↦ left_out_guards fs (seen_seats (actor_of b) x) x.guards ]) at-place
+        ∙ ap (λ ms. left_out_guards fs ms (action_view act).guards) (sym names) ∙ ap (left_out_guards fs ns) (sym guards)

@@ -1,5 +1,5 @@
 -- Code of guards answers as the guards do.
-use Rattle.std.proofs.Common.{◌≡◌, ℕ, zero, suc, ◌+◌, ◌<◌, ◌≤◌, inl, inr, Bool, ℤ, List, [], ◌∷◌, ◌++◌, length, take, refl, sym, ap, subst, ◌∙◌, Some, arith, append_assoc, length-append}
+use Rattle.std.proofs.Common.{◌≡◌, ℕ, zero, suc, ◌+◌, ◌<◌, ◌≤◌, inl, inr, Bool, true, ℤ, List, [], ◌∷◌, ◌++◌, length, take, refl, sym, ap, subst, ◌∙◌, Some, arith, append_assoc, length-append}
 use Rattle.std.specs.Prelude.{if◌then◌else◌, slice_get}
 use Rattle.rvc_base.specs.Arithmetic.{is_true, truth}
 use Rattle.rvc_base.specs.Turns.{max_turns}
@@ -7,12 +7,13 @@ use Rattle.cal_ast.specs.Tree.{Tree}
 use Rattle.cal_model.specs.Actor.{Action, Actor}
 use Rattle.cal_model.specs.ActorState.{AreTokensOf, IsActorState}
 use Rattle.cal_model.specs.Call.{calls_of}
+use Rattle.cal_model.specs.Env.{Env}
 use Rattle.cal_model.specs.Expression.{eval}
 use Rattle.cal_model.specs.Keeping.{GivesOrTraps}
 use Rattle.cal_model.specs.Outcome.{Out, Gives, Traps, Lacks, Clashes}
-use Rattle.cal_model.specs.Selection.{State as ActorState, seen_by}
+use Rattle.cal_model.specs.Selection.{State as ActorState, has_its_tokens, seen_by}
 use Rattle.cal_model.specs.Sound.{IsSound}
-use Rattle.cal_model.specs.Value.{BoolKind, HasKind, Items, Num, Truth, Value, scalars_of_type}
+use Rattle.cal_model.specs.Value.{BoolKind, HasKind, Items, Num, Truth, Value}
 use Rattle.cal_model.specs.Laws.{GuardsAreTruths}
 use Rattle.code_ir.specs.declared.instr.Instr.{Instr}
 use Rattle.code_ir.specs.declared.instr.Instr.TheVariants as op
@@ -21,18 +22,21 @@ use Rattle.code_ir.specs.Code.{Code}
 use Rattle.code_ir.specs.Running.{Ends, Over, step, stop}
 use Rattle.code_ir.proofs.Ends.{one-end}
 use Rattle.expr_lower.specs.declared.draft.Draft.{Draft}
-use Rattle.expr_lower.specs.Following.{CutsOff, Follows, Pushes}
-use Rattle.expr_lower.specs.Held.{AllApart, Keeps, SeatIsApart}
+use Rattle.expr_lower.specs.Following.{CutsOff, Follows, MayUse, Pushes}
+use Rattle.expr_lower.specs.Callees.{Function}
+use Rattle.expr_lower.specs.Calling.{Prepared}
+use Rattle.expr_lower.specs.Held.{Keeps}
 use Rattle.expr_lower.specs.Lowered.{Adds}
 use Rattle.expr_lower.specs.Names.{Name}
 use Rattle.expr_lower.specs.Placed.{StandsAt, World, state}
-use Rattle.expr_lower.specs.declared.names.Seat.{Seat}
-use Rattle.expr_lower.specs.declared.names.Seat.TheVariants.{Cell, Tokens}
 use Rattle.expr_lower.proofs.Effects.{same_number, true_again}
 use Rattle.expr_lower.proofs.Runs.{ends_join, obeys, stands_left, stands_right}
-use Rattle.action_lower.specs.Guarding.{AnswersAs, AreGuards, AreGuardsOf, IsGuardCode, IsGuardOf, guard_more, no_guard}
-use Rattle.action_lower.specs.Seats.{seen_seats, state_cells, taken}
-use Rattle.action_lower.proofs.Holding.{get-after, seen-is-held}
+use Rattle.action_lower.specs.FiringCode.{globals_of, round}
+use Rattle.action_lower.specs.Guarding.{AnswerAs, AnswersAs, AreGuards, AreGuardsOf, HasFunctionsOf, IsGuardCode, IsGuardOf, guard_more, no_guard}
+use Rattle.action_lower.specs.Seats.{HoldVars, seen_seats, state_cells, taken}
+use Rattle.action_lower.proofs.BelowState.{each-below, seen-below, vars-below}
+use Rattle.action_lower.proofs.Holding.{get-after, seen-is-held, state-held}
+use Rattle.action_lower.proofs.StateSeats.{below-apart, globals-held, globals-laid}
 
 -- ---- lists
 
@@ -57,23 +61,15 @@ stands-in before (i ∷ code) after =
           (subst (λ p. StandsAt ((before ++ i ∷ []) ++ (code ++ after)) p code) (length-append before (i ∷ [])) (stands-in (before ++ i ∷ []) code after)),
     )
 
--- no cell is one of routines, of which there are none
-pub none-apart : (names : List Name) → AllApart 0 0 names
-none-apart names text x e = by x.seat
-  where
-    by : (seat : Seat) → SeatIsApart 0 0 (scalars_of_type x.shape) seat
-    by (Cell c) = inr (omega arith)
-    by (Tokens port first far) = tt
-
 -- ---- one guard
 
 answer-is : (b : Bool) (number : ℤ) → truth b ∷ [] ≡ number ∷ [] → is_true number ≡ b
 answer-is b number e = let same : truth b ≡ number = same_number (truth b) number e in ap is_true (sym same) ∙ true_again b
 
-module _ (w : World) (low : w.low ≡ 0) (high : w.high ≡ 0) (kept n m base : ℕ) (body : List Instr) (cells : List ℤ) (le : kept ≤ n)
+module _ (w : World) (kept n m base : ℕ) (body : List Instr) (cells : List ℤ) (le : kept ≤ n) (behind : kept ≤ w.low)
     (stands : StandsAt w.code.instrs base (body ++ op.Answer ∷ [])) where
   kept-same : (after : List ℤ) → Keeps n m w.low w.high cells after → take kept after ≡ take kept cells
-  kept-same after keeps = same-take kept after cells (λ c small. keeps.cell c (inl (omega (arith, le, small))) (inr (omega (arith, high))))
+  kept-same after keeps = same-take kept after cells (λ c small. keeps.cell c (inl (omega (arith, le, small))) (inl (omega (arith, behind, small))))
 
   answer-step : (b : Bool) (number : ℤ) (after : List ℤ) (left : ℕ) → truth b ∷ [] ≡ number ∷ []
       → step w.code w.tokens (state (base + length body) (number ∷ []) [] after left) ≡ Over (if b then outcome.True else outcome.False) after
@@ -113,32 +109,62 @@ module _ (w : World) (low : w.low ≡ 0) (high : w.high ≡ 0) (kept n m base : 
 
 -- ---- the guards of an action
 
-module _ (actor : Actor) (a : ℕ) (act : Action) (code : Code) (sound : IsSound actor) (is_act : slice_get actor.actions a ≡ Some act) where
+pub guards-grow : {fs : List Function} {names : List Name} {gs : List Tree} {es : List ℕ} {base n m : ℕ} {code : List Instr} → AreGuards fs names gs es base n code m → n ≤ m
+guards-grow (no_guard base n) = omega arith
+guards-grow (guard_more g gs es base n k m a b first rest) = let le = first.lowered.cells in let ge = guards-grow rest in omega (arith, le, ge)
+
+module _ (fs : List Function) (actor : Actor) (a : ℕ) (act : Action) (code : Code) (sound : IsSound actor) (is_act : slice_get actor.actions a ≡ Some act)
+    (x : ActorState) (u : List (List ℤ)) (cells : List ℤ) (first last : ℕ) (functions : HasFunctionsOf actor a fs code first last u cells) (in_state : IsActorState actor x) (of_ports : AreTokensOf actor u)
+    (has : has_its_tokens actor u a ≡ true) (hold : HoldVars actor x cells) where
+  abbrev w : World
+  w = round actor a u code functions.low functions.high
+
+  abbrev env : Env
+  env = seen_by actor x u act
+
   abbrev IsTruth : Tree → Type 0
-  IsTruth g = (x : ActorState) (u : List (List ℤ)) → IsActorState actor x → AreTokensOf actor u
-      → GivesOrTraps (HasKind BoolKind) (eval g (calls_of actor.funs) (seen_by actor x u act) max_turns)
+  IsTruth g = GivesOrTraps (HasKind BoolKind) (eval g (calls_of actor.funs) env max_turns)
 
-  guard-answers : (g : Tree) (base n m : ℕ) (part : List Instr) → IsGuardCode (seen_seats actor act) g base n part m → StandsAt code.instrs base part → state_cells actor ≤ n
-      → IsTruth g → IsGuardOf actor a act code g base
-  guard-answers g base n m part is stands le good x u cells in_state of_ports has hold =
-      let w : World = record { code = code; tokens = taken actor u a; calls = calls_of actor.funs; low = 0; high = 0 } in
+  prepared : (n : ℕ) → state_cells actor ≤ n → Prepared w (globals_of actor) (seen_seats actor act) fs n cells env
+  prepared n le =
+      let laid = globals-laid actor.vars functions.low functions.high functions.low sound.vars functions.behind (omega arith) in
+      record {
+        apart = below-apart functions.low functions.high (seen_seats actor act) (seen-below functions.low actor act functions.behind);
+        globals_apart = laid.3;
+        globals_below = each-below n (globals_of actor) (vars-below n 0 actor.vars (omega (arith, le)));
+        holds = seen-is-held actor x u a act cells sound is_act in_state of_ports has hold;
+        holds_globals = (globals-held (taken actor u a) cells actor.vars x.vars in_state.vars (state-held actor x u a act cells sound is_act in_state of_ports has hold)).0;
+        room = functions.room;
+      }
+
+  usable : (n m : ℕ) → first ≤ n → m ≤ last → MayUse w n m cells
+  usable n m from to more =
+      let before = functions.before in
+      let own = functions.own in
+      (inr (omega (arith, before, from)), omega (arith, own, to))
+
+  guard-answers : (g : Tree) (base n m : ℕ) (part : List Instr) → IsGuardCode fs (seen_seats actor act) g base n part m → StandsAt code.instrs base part → state_cells actor ≤ n → first ≤ n → m ≤ last
+      → IsTruth g → IsGuardOf actor a act code x u cells g base
+  guard-answers g base n m part is stands le from to good =
       let there : StandsAt code.instrs base (is.body ++ op.Answer ∷ []) = subst (StandsAt code.instrs base) is.is stands in
-      let held = seen-is-held actor x u a act cells sound is_act in_state of_ports has hold in
-      answers w refl refl (state_cells actor) n m base is.body cells le there (eval g (calls_of actor.funs) (seen_by actor x u act) max_turns) (good x u in_state of_ports)
-      (is.lowered.evaluates.goes w (seen_by actor x u act) [] [] cells max_turns (stands_left code.instrs base is.body (op.Answer ∷ []) there) (none-apart (seen_seats actor act)) held)
+      answers w (state_cells actor) n m base is.body cells le functions.behind there (eval g (calls_of actor.funs) env max_turns) good
+      (is.lowered.evaluates.goes w (globals_of actor) env [] [] cells max_turns (stands_left code.instrs base is.body (op.Answer ∷ []) there) functions.serve (prepared n le) (usable n m from to))
 
-  guards-answer : {gs : List Tree} {es : List ℕ} {base n m : ℕ} {part : List Instr} → AreGuards (seen_seats actor act) gs es base n part m → StandsAt code.instrs base part → state_cells actor ≤ n
-      → ((k : ℕ) (g : Tree) → slice_get gs k ≡ Some g → IsTruth g) → AreGuardsOf actor a act code gs es
-  guards-answer (no_guard base n) stands le good = tt
-  guards-answer (guard_more g gs es base n k m one more first rest) stands le good = (
-    guard-answers g base n k one first (stands_left code.instrs base one more stands) le (good 0 g refl),
-    guards-answer rest (stands_right code.instrs base one more stands) (let grows = first.lowered.cells in omega (arith, le, grows)) (λ j h e. good (suc j) h e),
-  )
+  guards-answer : {gs : List Tree} {es : List ℕ} {base n m : ℕ} {part : List Instr} → AreGuards fs (seen_seats actor act) gs es base n part m → StandsAt code.instrs base part → state_cells actor ≤ n → first ≤ n → m ≤ last
+      → ((k : ℕ) (g : Tree) → slice_get gs k ≡ Some g → IsTruth g) → AreGuardsOf actor a act code x u cells gs es
+  guards-answer (no_guard base n) stands le from to good = tt
+  guards-answer (guard_more g gs es base n k m one more head rest) stands le from to good =
+      let up = head.lowered.cells in
+      let grown = guards-grow rest in
+      (
+        guard-answers g base n k one head (stands_left code.instrs base one more stands) le from (omega (arith, grown, to)) (good 0 g refl),
+        guards-answer rest (stands_right code.instrs base one more stands) (omega (arith, le, up)) (omega (arith, from, up)) to (λ j h e. good (suc j) h e),
+      )
 
-pub answer-as-guards : GuardsAreTruths → (actor : Actor) (a : ℕ) (act : Action) (code : Code) (es : List ℕ) (more : List Instr) (old new : Draft) → IsSound actor → slice_get actor.actions a ≡ Some act
-    → state_cells actor ≤ old.cells → Adds (AreGuards (seen_seats actor act) act.guards es) old new → code.instrs ≡ new.instrs.items ++ more → AreGuardsOf actor a act code act.guards es
-answer-as-guards law actor a act code es more old new sound is_act le added whole =
+pub answer-as-guards : GuardsAreTruths → (fs : List Function) (actor : Actor) (a : ℕ) (act : Action) (code : Code) (es : List ℕ) (more : List Instr) (old new : Draft) → IsSound actor → slice_get actor.actions a ≡ Some act
+    → state_cells actor ≤ old.cells → Adds (AreGuards fs (seen_seats actor act) act.guards es) old new → code.instrs ≡ new.instrs.items ++ more → AnswerAs actor a act fs code old.cells new.cells es
+answer-as-guards law fs actor a act code es more old new sound is_act le added whole x u cells functions in_state of_ports has hold =
     let all : code.instrs ≡ old.instrs.items ++ (added.code ++ more) = whole ∙ ap (λ is. is ++ more) added.is ∙ append_assoc old.instrs.items added.code more in
-    guards-answer actor a act code sound is_act added.has
-    (subst (λ all. StandsAt all (length old.instrs.items) added.code) (sym all) (stands-in old.instrs.items added.code more)) le
-    (λ k g e x u in_state of_ports. law actor x u a k max_turns act g sound in_state of_ports is_act e)
+    guards-answer fs actor a act code sound is_act x u cells old.cells new.cells functions in_state of_ports has hold added.has
+    (subst (λ all. StandsAt all (length old.instrs.items) added.code) (sym all) (stands-in old.instrs.items added.code more)) le (omega arith) (omega arith)
+    (λ k g e. law actor x u a k max_turns act g sound in_state of_ports is_act e)

@@ -8,9 +8,11 @@ use Rattle.code_ir.specs.declared.instr.Instr.TheVariants as op
 use Rattle.expr_lower.specs.declared.draft.Draft.{Draft}
 use Rattle.expr_lower.specs.declared.fault.LowerFault.{LowerFault}
 use Rattle.expr_lower.specs.declared.fault.LowerFault.TheVariants.{Memory, NotLowered, TooLong, TooManyCells}
-use Rattle.expr_lower.specs.Growing.{IsFault, left_out, ◌or_else◌}
+use Rattle.expr_lower.specs.Callees.{Function}
+use Rattle.expr_lower.specs.Calling.{IsLoweredWith}
+use Rattle.expr_lower.specs.Growing.{IsFault, left_out_in, ◌or_else◌}
 use Rattle.expr_lower.specs.Held.{AreBelow}
-use Rattle.expr_lower.specs.Lowered.{Adds, IsLowered, IsPut}
+use Rattle.expr_lower.specs.Lowered.{Adds, IsPut}
 use Rattle.expr_lower.specs.Names.{Name}
 use Rattle.expr_lower.proofs.Adding.{then_put}
 use Rattle.expr_lower.proofs.Keeping.{below_more}
@@ -18,60 +20,60 @@ use Rattle.action_lower.specs.GuardWords.{AddsGuard, left_out_guards}
 use Rattle.action_lower.specs.Guarding.{AreGuards, IsGuardCode, guard_more, no_guard}
 
 -- an answer behind the code of the expression
-pub answered : (names : List Name) (g : Tree) (old mid new : Draft) → Adds (IsLowered names g) old mid → IsPut (op.Answer ∷ []) mid new → Adds (IsGuardCode names g) old new
-answered names g old mid new a p =
-    then_put (IsLowered names g) (IsGuardCode names g) (op.Answer ∷ []) old mid new (λ base n m code lowered. record { body = code; is = refl; lowered = lowered }) a p
+pub answered : (fs : List Function) (names : List Name) (g : Tree) (old mid new : Draft) → Adds (IsLoweredWith fs names g) old mid → IsPut (op.Answer ∷ []) mid new → Adds (IsGuardCode fs names g) old new
+answered fs names g old mid new a p =
+    then_put (IsLoweredWith fs names g) (IsGuardCode fs names g) (op.Answer ∷ []) old mid new (λ base n m code lowered. record { body = code; is = refl; lowered = lowered }) a p
 
 -- one guard behind others
-guard-last : (names : List Name) (g : Tree) (m : ℕ) (b : List Instr) {gs : List Tree} {es : List ℕ} {base n k : ℕ} {a : List Instr} → AreGuards names gs es base n a k → IsGuardCode names g (base + length a) k b m
-    → AreGuards names (gs ++ g ∷ []) (es ++ (base + length a) ∷ []) base n (a ++ b) m
-guard-last names g m b (no_guard base n) last =
+guard-last : (fs : List Function) (names : List Name) (g : Tree) (m : ℕ) (b : List Instr) {gs : List Tree} {es : List ℕ} {base n k : ℕ} {a : List Instr} → AreGuards fs names gs es base n a k → IsGuardCode fs names g (base + length a) k b m
+    → AreGuards fs names (gs ++ g ∷ []) (es ++ (base + length a) ∷ []) base n (a ++ b) m
+guard-last fs names g m b (no_guard base n) last =
     let place : base + 0 ≡ base = omega arith in
-    subst (λ p. AreGuards names (g ∷ []) (p ∷ []) base n b m) (sym place)
-    (subst (λ c. AreGuards names (g ∷ []) (base ∷ []) base n c m) (append-nil b)
-    (guard_more g [] [] base n m m b [] (subst (λ p. IsGuardCode names g p n b m) place last) (no_guard (base + length b) m)))
-guard-last names g m b (guard_more h gs es base n j k a c first more) last =
+    subst (λ p. AreGuards fs names (g ∷ []) (p ∷ []) base n b m) (sym place)
+    (subst (λ c. AreGuards fs names (g ∷ []) (base ∷ []) base n c m) (append-nil b)
+    (guard_more g [] [] base n m m b [] (subst (λ p. IsGuardCode fs names g p n b m) place last) (no_guard (base + length b) m)))
+guard-last fs names g m b (guard_more h gs es base n j k a c first more) last =
     let place : base + length (a ++ c) ≡ base + length a + length c = omega (arith, length-append a c) in
-    let rest : AreGuards names (gs ++ g ∷ []) (es ++ (base + length a + length c) ∷ []) (base + length a) j (c ++ b) m =
-    guard-last names g m b more (subst (λ p. IsGuardCode names g p k b m) place last) in
-    subst (λ p. AreGuards names (h ∷ (gs ++ g ∷ [])) (base ∷ (es ++ p ∷ [])) base n ((a ++ c) ++ b) m) (sym place)
-    (subst (λ d. AreGuards names (h ∷ (gs ++ g ∷ [])) (base ∷ (es ++ (base + length a + length c) ∷ [])) base n d m) (sym (append_assoc a c b))
+    let rest : AreGuards fs names (gs ++ g ∷ []) (es ++ (base + length a + length c) ∷ []) (base + length a) j (c ++ b) m =
+    guard-last fs names g m b more (subst (λ p. IsGuardCode fs names g p k b m) place last) in
+    subst (λ p. AreGuards fs names (h ∷ (gs ++ g ∷ [])) (base ∷ (es ++ p ∷ [])) base n ((a ++ c) ++ b) m) (sym place)
+    (subst (λ d. AreGuards fs names (h ∷ (gs ++ g ∷ [])) (base ∷ (es ++ (base + length a + length c) ∷ [])) base n d m) (sym (append_assoc a c b))
     (guard_more h (gs ++ g ∷ []) (es ++ (base + length a + length c) ∷ []) base n j m a (c ++ b) first rest))
 
 -- ---- what is left out
 
-left-more : (names : List Name) (gs : List Tree) (g : Tree) → left_out_guards names gs ≡ None → left_out_guards names (gs ++ g ∷ []) ≡ left_out names g
-left-more names [] g e = none-after (left_out names g)
+left-more : (fs : List Function) (names : List Name) (gs : List Tree) (g : Tree) → left_out_guards fs names gs ≡ None → left_out_guards fs names (gs ++ g ∷ []) ≡ left_out_in fs names g
+left-more fs names [] g e = none-after (left_out_in fs names g)
   where
     none-after : (o : Option ℕ) → o or_else None ≡ o
     none-after None = refl
     none-after (Some x) = refl
-left-more names (h ∷ gs) g e =
-    let parts = both-none (left_out names h) (left_out_guards names gs) e in
-    ap (λ o. o or_else left_out_guards names (gs ++ g ∷ [])) parts.0 ∙ left-more names gs g parts.1
+left-more fs names (h ∷ gs) g e =
+    let parts = both-none (left_out_in fs names h) (left_out_guards fs names gs) e in
+    ap (λ o. o or_else left_out_guards fs names (gs ++ g ∷ [])) parts.0 ∙ left-more fs names gs g parts.1
   where
     both-none : (a b : Option ℕ) → a or_else b ≡ None → (a ≡ None) × (b ≡ None)
     both-none None b e = (refl, e)
     both-none (Some x) b e = cc
 
-left-first : (names : List Name) (gs hs : List Tree) (at : ℕ) → left_out_guards names gs ≡ Some at → left_out_guards names (gs ++ hs) ≡ Some at
-left-first names [] hs at e = cc
-left-first names (g ∷ gs) hs at e = go (left_out names g) (left-first names gs hs at) e
+left-first : (fs : List Function) (names : List Name) (gs hs : List Tree) (at : ℕ) → left_out_guards fs names gs ≡ Some at → left_out_guards fs names (gs ++ hs) ≡ Some at
+left-first fs names [] hs at e = cc
+left-first fs names (g ∷ gs) hs at e = go (left_out_in fs names g) (left-first fs names gs hs at) e
   where
-    go : (o : Option ℕ) → (left_out_guards names gs ≡ Some at → left_out_guards names (gs ++ hs) ≡ Some at) → o or_else left_out_guards names gs ≡ Some at → o or_else left_out_guards names (gs ++ hs) ≡ Some at
+    go : (o : Option ℕ) → (left_out_guards fs names gs ≡ Some at → left_out_guards fs names (gs ++ hs) ≡ Some at) → o or_else left_out_guards fs names gs ≡ Some at → o or_else left_out_guards fs names (gs ++ hs) ≡ Some at
     go None later e = later e
     go (Some x) later e = e
 
 -- ---- the loop over guards
 
 -- these guards are added, with these entries
-pub record AreAdded (names : List Name) (gs : List Tree) (es : List ℕ) (old new : Draft) : Type 0 where
-  pub added : Adds (AreGuards names gs es) old new
-  pub whole : left_out_guards names gs ≡ None
+pub record AreAdded (fs : List Function) (names : List Name) (gs : List Tree) (es : List ℕ) (old new : Draft) : Type 0 where
+  pub added : Adds (AreGuards fs names gs es) old new
+  pub whole : left_out_guards fs names gs ≡ None
   pub below : AreBelow new.cells names
 
-pub none-added : (names : List Name) (old : Draft) → AreBelow old.cells names → AreAdded names [] [] old old
-none-added names old below = record {
+pub none-added : (fs : List Function) (names : List Name) (old : Draft) → AreBelow old.cells names → AreAdded fs names [] [] old old
+none-added fs names old below = record {
   added = record { code = []; is = sym (append-nil old.instrs.items); routines = refl; has = no_guard (length old.instrs.items) old.cells };
   whole = refl;
   below = below;
@@ -80,30 +82,30 @@ none-added names old below = record {
 first-taken : {X : Type 0} (f : X → Tree) (xs : List X) (x : X) (i : ℕ) → i < length xs → x ≡ get_or xs i x → map f (take (i + 1) xs) ≡ map f (take i xs) ++ f x ∷ []
 first-taken f xs x i small is = ap (map f) (take_more xs i x small ∙ ap (λ y. take i xs ++ y ∷ []) (sym is)) ∙ map-append f (take i xs) (x ∷ [])
 
-pub more-added : {X : Type 0} (f : X → Tree) (names : List Name) (xs : List X) (x : X) (i : ℕ) (es fs : List ℕ) (entry : ℕ) (old mid new : Draft) → i < length xs → x ≡ get_or xs i x
-    → AreAdded names (map f (take i xs)) es old mid → AddsGuard names (f x) entry mid new → left_out names (f x) ≡ None → fs ≡ es ++ entry ∷ [] → AreAdded names (map f (take (i + 1) xs)) fs old new
-more-added f names xs x i es fs entry old mid new small is before now whole entries =
+pub more-added : {X : Type 0} (f : X → Tree) (fs : List Function) (names : List Name) (xs : List X) (x : X) (i : ℕ) (es hs : List ℕ) (entry : ℕ) (old mid new : Draft) → i < length xs → x ≡ get_or xs i x
+    → AreAdded fs names (map f (take i xs)) es old mid → AddsGuard fs names (f x) entry mid new → left_out_in fs names (f x) ≡ None → hs ≡ es ++ entry ∷ [] → AreAdded fs names (map f (take (i + 1) xs)) hs old new
+more-added f fs names xs x i es hs entry old mid new small is before now whole entries =
     let a = before.added in
     let b = now.1 in
     let place : length mid.instrs.items ≡ length old.instrs.items + length a.code = ap length a.is ∙ length-append old.instrs.items a.code in
-    subst (λ ts. AreAdded names ts fs old new) (sym (first-taken f xs x i small is)) (record {
+    subst (λ ts. AreAdded fs names ts hs old new) (sym (first-taken f xs x i small is)) (record {
       added = record {
         code = a.code ++ b.code;
         is = b.is ∙ ap (λ is. is ++ b.code) a.is ∙ append_assoc old.instrs.items a.code b.code;
         routines = b.routines ∙ a.routines;
-        has = subst (λ fs. AreGuards names (map f (take i xs) ++ f x ∷ []) fs (length old.instrs.items) old.cells (a.code ++ b.code) new.cells) (ap (λ p. es ++ p ∷ []) (sym place ∙ sym now.0) ∙ sym entries)
-            (guard-last names (f x) new.cells b.code a.has (subst (λ p. IsGuardCode names (f x) p mid.cells b.code new.cells) place b.has));
+        has = subst (λ ks. AreGuards fs names (map f (take i xs) ++ f x ∷ []) ks (length old.instrs.items) old.cells (a.code ++ b.code) new.cells) (ap (λ p. es ++ p ∷ []) (sym place ∙ sym now.0) ∙ sym entries)
+            (guard-last fs names (f x) new.cells b.code a.has (subst (λ p. IsGuardCode fs names (f x) p mid.cells b.code new.cells) place b.has));
       };
-      whole = left-more names (map f (take i xs)) (f x) before.whole ∙ whole;
+      whole = left-more fs names (map f (take i xs)) (f x) before.whole ∙ whole;
       below = below_more mid.cells new.cells names b.has.lowered.cells before.below;
     })
 
-pub fault-among : {X : Type 0} (f : X → Tree) (names : List Name) (xs : List X) (x : X) (i : ℕ) (draft : Draft) (fault : LowerFault) → i < length xs → x ≡ get_or xs i x
-    → left_out_guards names (map f (take i xs)) ≡ None → IsFault (left_out names (f x)) draft fault → IsFault (left_out_guards names (map f xs)) draft fault
-fault-among f names xs x i draft Memory small is whole h = tt
-fault-among f names xs x i draft TooLong small is whole h = h
-fault-among f names xs x i draft TooManyCells small is whole h = h
-fault-among f names xs x i draft (NotLowered at) small is whole h =
-    let first : left_out_guards names (map f (take (i + 1) xs)) ≡ Some at = ap (left_out_guards names) (first-taken f xs x i small is) ∙ left-more names (map f (take i xs)) (f x) whole ∙ h in
+pub fault-among : {X : Type 0} (f : X → Tree) (fs : List Function) (names : List Name) (xs : List X) (x : X) (i : ℕ) (draft : Draft) (fault : LowerFault) → i < length xs → x ≡ get_or xs i x
+    → left_out_guards fs names (map f (take i xs)) ≡ None → IsFault (left_out_in fs names (f x)) draft fault → IsFault (left_out_guards fs names (map f xs)) draft fault
+fault-among f fs names xs x i draft Memory small is whole h = tt
+fault-among f fs names xs x i draft TooLong small is whole h = h
+fault-among f fs names xs x i draft TooManyCells small is whole h = h
+fault-among f fs names xs x i draft (NotLowered at) small is whole h =
+    let first : left_out_guards fs names (map f (take (i + 1) xs)) ≡ Some at = ap (left_out_guards fs names) (first-taken f xs x i small is) ∙ left-more fs names (map f (take i xs)) (f x) whole ∙ h in
     let all : map f (take (i + 1) xs) ++ map f (drop (i + 1) xs) ≡ map f xs = sym (map-append f (take (i + 1) xs) (drop (i + 1) xs)) ∙ ap (map f) (take-append-drop (i + 1) xs) in
-    ap (left_out_guards names) (sym all) ∙ left-first names (map f (take (i + 1) xs)) (map f (drop (i + 1) xs)) at first
+    ap (left_out_guards fs names) (sym all) ∙ left-first fs names (map f (take (i + 1) xs)) (map f (drop (i + 1) xs)) at first

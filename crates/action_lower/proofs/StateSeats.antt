@@ -117,7 +117,7 @@ vars-apart c (h ∷ hs) text other x y e f differ =
     tail : List Name
     tail = var_seats (c + size) hs
 
-below-apart : (low high : ℕ) (names : List Name) → AreBelow low names → AllApart low high names
+pub below-apart : (low high : ℕ) (names : List Name) → AreBelow low names → AllApart low high names
 below-apart low high names below text x e = by x.seat (below text x e)
   where
     by : (seat : Seat) → SeatIsBelow low (scalars_of_type x.shape) seat → SeatIsApart low high (scalars_of_type x.shape) seat

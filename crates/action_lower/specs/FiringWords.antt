@@ -3,24 +3,30 @@
 use Rattle.std.specs.Prelude.{◌≡◌, ℕ, ◌+◌, List, [], ◌∷◌, ◌++◌, length, map, Option, None, Some, slice_get}
 use Rattle.cal_model.specs.declared.bound.Bound.{Bound}
 use Rattle.cal_model.specs.declared.bound.BoundAction.{BoundAction}
+use Rattle.cal_model.specs.declared.bound.Port.{Port as BoundPort}
 use Rattle.cal_model.specs.Actor.{Action, Actor, Local, Port}
-use Rattle.cal_model.specs.View.{action_view, actor_of, local_view}
+use Rattle.cal_model.specs.View.{action_view, actor_of, local_view, port_view}
 use Rattle.code_ir.specs.declared.instr.Instr.{Instr}
 use Rattle.code_ir.specs.declared.instr.Instr.TheVariants as op
+use Rattle.expr_lower.specs.declared.callees.Callee.{Callee}
 use Rattle.expr_lower.specs.declared.draft.Draft.{Draft}
+use Rattle.expr_lower.specs.declared.fault.LowerFault.{LowerFault}
+use Rattle.expr_lower.specs.declared.names.Named.{Named}
 use Rattle.expr_lower.specs.Growing.{◌or_else◌}
 use Rattle.expr_lower.specs.Lowered.{Adds}
-use Rattle.expr_lower.specs.Names.{Name}
+use Rattle.expr_lower.specs.Names.{Name, names_view}
 use Rattle.stmt_lower.specs.Bodies.{IsExecutedCalling}
 use Rattle.stmt_lower.specs.ListStarting.{local_of}
-use Rattle.stmt_lower.specs.Procedures.{Routines}
+use Rattle.stmt_lower.specs.declared.callees.ProcCallee.{ProcCallee}
+use Rattle.stmt_lower.specs.Procedures.{Routines, routines_of}
 use Rattle.stmt_lower.specs.StmtGrowing.{left_out_all}
 use Rattle.stmt_lower.specs.StmtWords.{body_of}
 use Rattle.action_lower.specs.FiringCode.{FiresAs, IsFiringCode}
 use Rattle.action_lower.specs.LocalCode.{left_out_locals}
 use Rattle.action_lower.specs.Seats.{seen_seats}
-use Rattle.action_lower.specs.SendWords.{left_out_outputs}
+use Rattle.action_lower.specs.SendWords.{IsSendFault, left_out_outputs}
 use Rattle.action_lower.specs.Sending.{AreOutputs}
+use Rattle.action_lower.specs.declared.firing.Firing.{Firing}
 
 -- ---- what is left out
 
@@ -68,3 +74,50 @@ AddsFiring rs actor a entry firsts old new = (entry ≡ length old.instrs.items)
 abbrev pub AddsFired : Routines → Actor → ℕ → List ℕ → Draft → Draft → Type 0
 AddsFired rs actor a firsts old new = (act : Action) → slice_get actor.actions a ≡ Some act
     → Adds (FiresAs actor a act rs firsts) old new
+
+-- ---- over names, routines and actions as the code has them
+
+abbrev pub AddsFiringOver : List Callee → List ProcCallee → Bound → ℕ → Firing → Draft → Draft → Type 0
+AddsFiringOver callees procedures b a f old new =
+    AddsFiring (routines_of callees procedures) (actor_of b) a f.entry f.firsts.items old new
+
+abbrev pub AddsFiredOver : List Callee → List ProcCallee → Bound → ℕ → Firing → Draft → Draft → Type 0
+AddsFiredOver callees procedures b a f old new =
+    AddsFired (routines_of callees procedures) (actor_of b) a f.firsts.items old new
+
+-- why the firing of an action isn't lowered
+abbrev pub IsFiringFaultAt : List Callee → List ProcCallee → Bound → ℕ → Draft → LowerFault → Type 0
+IsFiringFaultAt callees procedures b a draft fault =
+    IsSendFault (left_out_of (routines_of callees procedures) b a) draft fault
+
+-- code of a firing was added, over the names that its patterns and the actor's variables have
+abbrev pub AddsFiringCode : List Callee → List ProcCallee → List Named → List BoundPort → BoundAction → List ℕ → Draft → Draft → Type 0
+AddsFiringCode callees procedures names ports act firsts old new =
+    Adds (IsFiringCode (routines_of callees procedures) (names_view names) (map port_view ports)
+    (action_view act) firsts) old new
+
+-- no part of it is left out
+abbrev pub IsWholeFiring : List Callee → List ProcCallee → List Named → BoundAction → Type 0
+IsWholeFiring callees procedures names act =
+    left_out_firing (routines_of callees procedures) (names_view names) act ≡ None
+
+-- why it isn't lowered
+abbrev pub IsFiringFault : List Callee → List ProcCallee → List Named → BoundAction → Draft → LowerFault → Type 0
+IsFiringFault callees procedures names act draft fault =
+    IsSendFault (left_out_firing (routines_of callees procedures) (names_view names) act) draft
+    fault
+
+-- .. and the same of what is behind the locals
+abbrev pub AddsBehind : List Callee → List ProcCallee → List Named → List BoundPort → BoundAction → List ℕ → Draft → Draft → Type 0
+AddsBehind callees procedures names ports act firsts old new =
+    Adds (IsBehindCode (routines_of callees procedures) (names_view names) (map port_view ports)
+    (action_view act) firsts) old new
+
+abbrev pub IsWholeBehind : List Callee → List ProcCallee → List Named → BoundAction → Type 0
+IsWholeBehind callees procedures names act =
+    left_out_behind (routines_of callees procedures) (names_view names) act ≡ None
+
+abbrev pub IsBehindFault : List Callee → List ProcCallee → List Named → BoundAction → Draft → LowerFault → Type 0
+IsBehindFault callees procedures names act draft fault =
+    IsSendFault (left_out_behind (routines_of callees procedures) (names_view names) act) draft
+    fault

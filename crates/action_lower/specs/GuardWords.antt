@@ -1,39 +1,80 @@
 -- The words of the contracts of calls that lower guards.
 -- Trusted: part of what a promise means.
-use Rattle.std.specs.Prelude.{◌≡◌, ℕ, List, [], ◌∷◌, ◌++◌, length, Option, None, Some, slice_get}
+use Rattle.std.specs.Prelude.{◌≡◌, ℕ, List, [], ◌∷◌, ◌++◌, length, map, Option, None, Some, slice_get}
+use Rattle.cal_ast.specs.declared.expr.Expr.{Expr}
 use Rattle.cal_ast.specs.Tree.{Tree}
+use Rattle.cal_ast.specs.View.{expr_tree}
+use Rattle.cal_model.specs.declared.bound.Bound.{Bound}
 use Rattle.cal_model.specs.Actor.{Action, Actor}
+use Rattle.cal_model.specs.View.{actor_of}
 use Rattle.code_ir.specs.declared.instr.Instr.{Instr}
 use Rattle.code_ir.specs.Code.{Code}
+use Rattle.expr_lower.specs.declared.callees.Callee.{Callee}
 use Rattle.expr_lower.specs.declared.draft.Draft.{Draft}
-use Rattle.expr_lower.specs.Growing.{left_out, ◌or_else◌}
+use Rattle.expr_lower.specs.declared.fault.LowerFault.{LowerFault}
+use Rattle.expr_lower.specs.declared.names.Named.{Named}
+use Rattle.expr_lower.specs.Callees.{Function, functions_view}
+use Rattle.expr_lower.specs.Growing.{IsFault, left_out_in, ◌or_else◌}
 use Rattle.expr_lower.specs.Lowered.{Adds}
-use Rattle.expr_lower.specs.Names.{Name}
-use Rattle.action_lower.specs.Guarding.{AreGuards, AreGuardsOf, IsGuardCode}
+use Rattle.expr_lower.specs.Names.{Name, names_view}
+use Rattle.action_lower.specs.Guarding.{AnswerAs, AreGuards, IsGuardCode}
 use Rattle.action_lower.specs.Seats.{seen_seats}
 
 -- the place of the first part of guards for which no code is made
-abbrev pub left_out_guards : List Name → List Tree → Option ℕ
-left_out_guards names [] = None
-left_out_guards names (g ∷ guards) = left_out names g or_else left_out_guards names guards
+abbrev pub left_out_guards : List Function → List Name → List Tree → Option ℕ
+left_out_guards fs names [] = None
+left_out_guards fs names (g ∷ guards) =
+    left_out_in fs names g or_else left_out_guards fs names guards
 
 -- .. of the guards of an action
-abbrev pub left_out_action : Actor → ℕ → Option ℕ
-left_out_action actor a = elim (slice_get actor.actions a)
-    [ None ↦ None | Some act ↦ left_out_guards (seen_seats actor act) act.guards ]
+abbrev pub left_out_action : List Function → Actor → ℕ → Option ℕ
+left_out_action fs actor a = elim (slice_get actor.actions a)
+    [ None ↦ None | Some act ↦ left_out_guards fs (seen_seats actor act) act.guards ]
 
 -- the code of a guard was added to a draft, and begins at its entry
-abbrev pub AddsGuard : List Name → Tree → ℕ → Draft → Draft → Type 0
-AddsGuard names g entry old new = (entry ≡ length old.instrs.items)
-    × Adds (IsGuardCode names g) old new
+abbrev pub AddsGuard : List Function → List Name → Tree → ℕ → Draft → Draft → Type 0
+AddsGuard fs names g entry old new = (entry ≡ length old.instrs.items)
+    × Adds (IsGuardCode fs names g) old new
 
 -- the code of an action's guards was added to a draft, with these entries
-abbrev pub AddsGuards : Actor → ℕ → List ℕ → Draft → Draft → Type 0
-AddsGuards actor a entries old new = (act : Action) → slice_get actor.actions a ≡ Some act
-    → Adds (AreGuards (seen_seats actor act) act.guards entries) old new
+abbrev pub AddsGuards : List Function → Actor → ℕ → List ℕ → Draft → Draft → Type 0
+AddsGuards fs actor a entries old new = (act : Action) → slice_get actor.actions a ≡ Some act
+    → Adds (AreGuards fs (seen_seats actor act) act.guards entries) old new
 
 -- whatever is written behind the draft, the code at these entries answers as the guards of the action
-abbrev pub AnswerAsGuards : Actor → ℕ → List ℕ → Draft → Type 0
-AnswerAsGuards actor a entries draft = (act : Action) (code : Code) (more : List Instr)
-    → slice_get actor.actions a ≡ Some act → code.instrs ≡ draft.instrs.items ++ more
-    → AreGuardsOf actor a act code act.guards entries
+abbrev pub AnswerAsGuards : List Function → Actor → ℕ → List ℕ → Draft → Draft → Type 0
+AnswerAsGuards fs actor a entries old new = (act : Action) (code : Code) (more : List Instr)
+    → slice_get actor.actions a ≡ Some act → code.instrs ≡ new.instrs.items ++ more
+    → AnswerAs actor a act fs code old.cells new.cells entries
+
+-- ---- over names, functions and guards as the code has them
+
+-- the code of a guard was added, which begins at its entry
+abbrev pub AddsGuardOver : List Callee → List Named → Expr → ℕ → Draft → Draft → Type 0
+AddsGuardOver callees names guard entry old new =
+    AddsGuard (functions_view callees) (names_view names) (expr_tree guard) entry old new
+
+-- .. of guards, with these entries
+abbrev pub AddsGuardsOver : List Callee → List Named → List Expr → List ℕ → Draft → Draft → Type 0
+AddsGuardsOver callees names guards entries old new =
+    Adds (AreGuards (functions_view callees) (names_view names) (map expr_tree guards) entries)
+    old new
+
+-- no part of them is left out
+abbrev pub AreWholeGuards : List Callee → List Named → List Expr → Type 0
+AreWholeGuards callees names guards =
+    left_out_guards (functions_view callees) (names_view names) (map expr_tree guards) ≡ None
+
+-- why they aren't lowered
+abbrev pub IsGuardsFault : List Callee → List Named → List Expr → Draft → LowerFault → Type 0
+IsGuardsFault callees names guards draft fault =
+    IsFault (left_out_guards (functions_view callees) (names_view names) (map expr_tree guards))
+    draft fault
+
+-- .. the guards of an action
+abbrev pub IsWholeAction : List Callee → Bound → ℕ → Type 0
+IsWholeAction callees b a = left_out_action (functions_view callees) (actor_of b) a ≡ None
+
+abbrev pub IsActionFault : List Callee → Bound → ℕ → Draft → LowerFault → Type 0
+IsActionFault callees b a draft fault =
+    IsFault (left_out_action (functions_view callees) (actor_of b) a) draft fault

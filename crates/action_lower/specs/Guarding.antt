@@ -1,6 +1,6 @@
 -- Code of guards, and what it answers.
 -- Trusted: part of what a promise means.
-use Rattle.std.specs.Prelude.{◌≡◌, ℕ, ◌+◌, ℤ, true, List, [], ◌∷◌, ◌++◌, length, take, if◌then◌else◌, Option, None, Some}
+use Rattle.std.specs.Prelude.{◌≡◌, ℕ, ◌+◌, ◌≤◌, ℤ, true, List, [], ◌∷◌, ◌++◌, length, take, if◌then◌else◌, Option, None, Some}
 use Rattle.rvc_base.specs.Turns.{max_turns}
 use Rattle.cal_ast.specs.Tree.{Tree}
 use Rattle.cal_model.specs.Value.{Value, Num, Truth, Items}
@@ -16,27 +16,28 @@ use Rattle.code_ir.specs.declared.outcome.Outcome.{Outcome}
 use Rattle.code_ir.specs.declared.outcome.Outcome.TheVariants as outcome
 use Rattle.code_ir.specs.Code.{Code}
 use Rattle.code_ir.specs.Running.{runs}
+use Rattle.expr_lower.specs.Callees.{Function}
+use Rattle.expr_lower.specs.Calling.{HasRoom, IsLoweredWith, Serves}
 use Rattle.expr_lower.specs.Names.{Name}
-use Rattle.expr_lower.specs.Lowered.{IsLowered}
+use Rattle.action_lower.specs.FiringCode.{globals_of, round}
 use Rattle.action_lower.specs.Seats.{HoldVars, state_cells, taken}
 
 -- ---- code
 
--- code of a guard: that of its expression, and an answer
-pub record IsGuardCode (names : List Name) (g : Tree) (base n : ℕ) (code : List Instr) (m : ℕ) :
-    Type 0 where
+-- code of a guard: that of its expression, which may call functions, and an answer
+pub record IsGuardCode (fs : List Function) (names : List Name) (g : Tree) (base n : ℕ) (code : List Instr) (m : ℕ) : Type 0 where
   pub body : List Instr
   pub is : code ≡ body ++ op.Answer ∷ []
-  pub lowered : IsLowered names g base n body m
+  pub lowered : IsLoweredWith fs names g base n body m
 
 -- code of guards, one after the other, and the entries of each, where its code begins
-pub data AreGuards (names : List Name) :
+pub data AreGuards (fs : List Function) (names : List Name) :
     List Tree → List ℕ → ℕ → ℕ → List Instr → ℕ → Type 0 where
-  no_guard : (base n : ℕ) → AreGuards names [] [] base n [] n
+  no_guard : (base n : ℕ) → AreGuards fs names [] [] base n [] n
   guard_more : (g : Tree) (guards : List Tree) (entries : List ℕ) (base n k m : ℕ)
-      (a b : List Instr) → IsGuardCode names g base n a k
-      → AreGuards names guards entries (base + length a) k b m
-      → AreGuards names (g ∷ guards) (base ∷ entries) base n (a ++ b) m
+      (a b : List Instr) → IsGuardCode fs names g base n a k
+      → AreGuards fs names guards entries (base + length a) k b m
+      → AreGuards fs names (g ∷ guards) (base ∷ entries) base n (a ++ b) m
 
 -- ---- answers
 
@@ -61,19 +62,37 @@ pub record AnswersAs (code : Code) (entry kept : ℕ) (cells : List ℤ) (tokens
   pub only : (o : Outcome) (last : List ℤ) → runs code entry cells tokens o last
       → (o ≡ outcome) × (last ≡ left)
 
--- The code that begins at an entry answers as a guard of an action: in each state of the actor, whose variables the
--- state cells hold, over the tokens that the action takes of those before it.
-abbrev pub IsGuardOf : Actor → ℕ → Action → Code → Tree → ℕ → Type 0
-IsGuardOf actor a act code g entry =
-    (x : State) (u : List (List ℤ)) (cells : List ℤ)
-    → IsActorState actor x → AreTokensOf actor u → has_its_tokens actor u a ≡ true
-    → HoldVars actor x cells
-    → AnswersAs code entry (state_cells actor) cells (taken actor u a)
+-- The code that begins at an entry answers as a guard of an action in a state, over the tokens that the action takes of
+-- those before it. What the guard calls is evaluated with the turns that are left; so it may trap or run out of turns
+-- there.
+abbrev pub IsGuardOf : Actor → ℕ → Action → Code → State → List (List ℤ) → List ℤ → Tree → ℕ → Type 0
+IsGuardOf actor a act code x u cells g entry =
+    AnswersAs code entry (state_cells actor) cells (taken actor u a)
     (eval g (calls_of actor.funs) (seen_by actor x u act) max_turns)
 
 -- guard by guard
-abbrev pub AreGuardsOf : Actor → ℕ → Action → Code → List Tree → List ℕ → Type 0
-AreGuardsOf actor a act code [] [] = Unit {0}
-AreGuardsOf actor a act code (g ∷ guards) (entry ∷ entries) =
-    IsGuardOf actor a act code g entry × AreGuardsOf actor a act code guards entries
-AreGuardsOf actor a act code guards entries = ⊥
+abbrev pub AreGuardsOf : Actor → ℕ → Action → Code → State → List (List ℤ) → List ℤ → List Tree → List ℕ → Type 0
+AreGuardsOf actor a act code x u cells [] [] = Unit {0}
+AreGuardsOf actor a act code x u cells (g ∷ guards) (entry ∷ entries) =
+    IsGuardOf actor a act code x u cells g entry
+    × AreGuardsOf actor a act code x u cells guards entries
+AreGuardsOf actor a act code x u cells guards entries = ⊥
+
+-- Code has routines of functions that do what those of the actor do. Their cells lie behind the state cells and before
+-- those of the guards, which are the ones from n to m; and all are there.
+pub record HasFunctionsOf (actor : Actor) (a : ℕ) (fs : List Function) (code : Code) (n m : ℕ) (u : List (List ℤ)) (cells : List ℤ) : Type 0 where
+  pub low : ℕ
+  pub high : ℕ
+  pub serve : Serves (round actor a u code low high) (globals_of actor) fs
+  pub behind : state_cells actor ≤ low
+  pub before : high ≤ n
+  pub room : HasRoom fs high cells
+  pub own : m ≤ length cells
+
+-- The code at these entries answers as the guards of an action, if it has the routines that they call: in each state of
+-- the actor, whose variables the state cells hold, over tokens of its ports.
+abbrev pub AnswerAs : Actor → ℕ → Action → List Function → Code → ℕ → ℕ → List ℕ → Type 0
+AnswerAs actor a act fs code n m entries =
+    (x : State) (u : List (List ℤ)) (cells : List ℤ) → HasFunctionsOf actor a fs code n m u cells
+    → IsActorState actor x → AreTokensOf actor u → has_its_tokens actor u a ≡ true
+    → HoldVars actor x cells → AreGuardsOf actor a act code x u cells act.guards entries

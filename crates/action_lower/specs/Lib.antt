@@ -8,3 +8,4 @@ pub mod LocalCode
 pub mod LocalWords
 pub mod FiringCode
 pub mod FiringWords
+pub mod OutputWords

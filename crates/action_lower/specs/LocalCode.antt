@@ -16,10 +16,12 @@ use Rattle.code_ir.specs.declared.outcome.Outcome.{Outcome}
 use Rattle.code_ir.specs.declared.outcome.Outcome.TheVariants as outcome
 use Rattle.code_ir.specs.Running.{State, Reaches, Ends}
 use Rattle.expr_lower.specs.declared.draft.Draft.{Draft}
+use Rattle.expr_lower.specs.declared.callees.Callee.{Callee}
+use Rattle.expr_lower.specs.declared.fault.LowerFault.{LowerFault}
 use Rattle.expr_lower.specs.declared.names.Named.{Named}
-use Rattle.expr_lower.specs.Callees.{Function}
+use Rattle.expr_lower.specs.Callees.{Function, functions_view}
 use Rattle.expr_lower.specs.Following.{Follows}
-use Rattle.expr_lower.specs.Growing.{◌or_else◌}
+use Rattle.expr_lower.specs.Growing.{IsFault, ◌or_else◌}
 use Rattle.expr_lower.specs.Held.{Keeps}
 use Rattle.expr_lower.specs.Lowered.{Adds}
 use Rattle.expr_lower.specs.Names.{Name, local, names_view}
@@ -103,6 +105,27 @@ left_out_locals fs names (x ∷ xs) = left_out_local fs names x
     or_else left_out_locals fs (local_of x.name x.shape 0 ∷ names) xs
 
 -- the code of locals was added to a draft, and the names that are seen behind them
-abbrev pub AddsLocals : List Function → List BoundLocal → List Named → List Named → Draft → Draft → Type 0
-AddsLocals fs xs before behind old new =
-    Adds (AreStarted fs (names_view before) (map local_view xs) (names_view behind)) old new
+abbrev pub AddsLocals : List Callee → List BoundLocal → List Named → List Named → Draft → Draft → Type 0
+AddsLocals callees xs before behind old new =
+    Adds (AreStarted (functions_view callees) (names_view before) (map local_view xs)
+    (names_view behind)) old new
+
+-- no part of them is left out
+abbrev pub AreWholeLocals : List Callee → List Named → List BoundLocal → Type 0
+AreWholeLocals callees names xs =
+    left_out_locals (functions_view callees) (names_view names) (map local_view xs) ≡ None
+
+-- why they aren't lowered
+abbrev pub IsLocalsFault : List Callee → List Named → List BoundLocal → Draft → LowerFault → Type 0
+IsLocalsFault callees names xs draft fault =
+    IsFault (left_out_locals (functions_view callees) (names_view names) (map local_view xs)) draft
+    fault
+
+-- .. of one
+abbrev pub IsWholeLocal : List Callee → List Named → BoundLocal → Type 0
+IsWholeLocal callees names x =
+    left_out_local (functions_view callees) (names_view names) (local_view x) ≡ None
+
+abbrev pub IsLocalFault : List Callee → List Named → BoundLocal → Draft → LowerFault → Type 0
+IsLocalFault callees names x draft fault =
+    IsFault (left_out_local (functions_view callees) (names_view names) (local_view x)) draft fault

@@ -7,7 +7,11 @@ use Rattle.expr_lower.specs.declared.names.Named.{Named}
 use Rattle.expr_lower.specs.Names.{names_view}
 use Rattle.stmt_lower.specs.ListStarting.{local_of}
 
--- the name of a local, which stands in some cells, was put in front of names
+-- the name of a local, which stands in the cells from one on, was put in front of names
+abbrev pub IsInFrontAt : BoundLocal → ℕ → List Named → List Named → Type 0
+IsInFrontAt x c old new =
+    names_view new ≡ local_of (string_bytes x.name) (shape_view x.shape) c ∷ names_view old
+
+-- .. which stands in some cells
 abbrev pub IsInFront : BoundLocal → List Named → List Named → Type 0
-IsInFront x old new = (c : ℕ) × (names_view new
-    ≡ local_of (string_bytes x.name) (shape_view x.shape) c ∷ names_view old)
+IsInFront x old new = (c : ℕ) × IsInFrontAt x c old new

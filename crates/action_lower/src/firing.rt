@@ -1,18 +1,17 @@
 //! The firing of an action as code.
 
-ghost use Rattle.std.specs.Prelude.{◌≡◌, ◌<◌, ◌≤◌, IfErr, IfOk, None, length, map};
+ghost use Rattle.std.specs.Prelude.{◌≡◌, ◌<◌, ◌≤◌, IfErr, IfOk, None, OnOk, length};
 ghost use Rattle.cal_model.specs.Sound.{Each, IsSound, max_rate};
-ghost use Rattle.cal_model.specs.View.{action_view, actor_of, port_view};
+ghost use Rattle.cal_model.specs.View.{action_view, actor_of};
 ghost use Rattle.expr_lower.specs.Held.{AreBelow};
-ghost use Rattle.expr_lower.specs.Lowered.{Adds};
 ghost use Rattle.expr_lower.specs.Names.{names_view};
 ghost use Rattle.expr_lower.specs.Routining.{LocalsSized};
 ghost use Rattle.stmt_lower.specs.Changing.{AreTyped};
 ghost use Rattle.stmt_lower.specs.Procedures.{routines_of};
-ghost use Rattle.action_lower.specs.FiringCode.{IsFiringCode};
-ghost use Rattle.action_lower.specs.FiringWords.{AddsFired, AddsFiring, IsBehindCode, left_out_behind, left_out_firing, left_out_of};
+ghost use Rattle.action_lower.specs.FiringWords.{AddsBehind, AddsFiredOver, AddsFiringCode, AddsFiringOver};
+ghost use Rattle.action_lower.specs.FiringWords.{IsBehindFault, IsFiringFault, IsFiringFaultAt, IsWholeBehind, IsWholeFiring};
+ghost use Rattle.action_lower.specs.FiringWords.{left_out_of};
 ghost use Rattle.action_lower.specs.Seats.{state_cells};
-ghost use Rattle.action_lower.specs.SendWords.{IsSendFault};
 
 use crate::laws::firings_are_fired;
 use crate::locals::lower_locals;
@@ -58,14 +57,14 @@ pub fn lower_firing(
     requires sound { IsSound (actor_of b.now) }
     requires action { a < length b.now.actions.items }
     requires cells { state_cells (actor_of b.now) ≤ draft.old.cells }
-    ensures code { IfOk result (λ f. AddsFiring (routines_of callees.now procedures.now)
-        (actor_of b.now) a f.entry f.firsts.items draft.old draft.new) }
-    ensures fired { IfOk result (λ f. AddsFired (routines_of callees.now procedures.now)
-        (actor_of b.now) a f.firsts.items draft.old draft.new) }
+    ensures code { IfOk result
+        (λ f. AddsFiringOver callees.now procedures.now b.now a f draft.old draft.new) }
+    ensures fired { IfOk result
+        (λ f. AddsFiredOver callees.now procedures.now b.now a f draft.old draft.new) }
     ensures whole { IfOk result
         (λ f. left_out_of (routines_of callees.now procedures.now) b.now a ≡ None) }
     ensures fault { IfErr result
-        (IsSendFault (left_out_of (routines_of callees.now procedures.now) b.now a) draft.new) }
+        (IsFiringFaultAt callees.now procedures.now b.now a draft.new) }
 {
     // it tells what the code of a firing does
     firings_are_fired();
@@ -89,13 +88,11 @@ fn put_behind(
     requires below { AreBelow draft.old.cells (names_view names.now) }
     requires typed { AreTyped (names_view names.now) }
     requires few { Each (λ o. length o.values.items ≤ max_rate) act.now.outputs.items }
-    ensures code { IfOk result (λ firsts. Adds
-        (IsBehindCode (routines_of callees.now procedures.now) (names_view names.now)
-        (map port_view ports.now) (action_view act.now) firsts.items) draft.old draft.new) }
-    ensures whole { IfOk result (λ firsts. left_out_behind
-        (routines_of callees.now procedures.now) (names_view names.now) act.now ≡ None) }
-    ensures fault { IfErr result (IsSendFault (left_out_behind
-        (routines_of callees.now procedures.now) (names_view names.now) act.now) draft.new) }
+    ensures code { IfOk result (λ firsts. AddsBehind callees.now procedures.now names.now
+        ports.now act.now firsts.items draft.old draft.new) }
+    ensures whole { OnOk result (IsWholeBehind callees.now procedures.now names.now act.now) }
+    ensures fault { IfErr result
+        (IsBehindFault callees.now procedures.now names.now act.now draft.new) }
 {
     lower_calling_stmts(names, callees, procedures, &act.body, draft)?;
     let firsts = lower_outputs(alloc, names, callees, ports, &act.outputs, draft)?;
@@ -117,13 +114,12 @@ fn put_firing(
     requires typed { AreTyped (names_view names.old.items) }
     requires sized { LocalsSized (action_view act.now).locals }
     requires few { Each (λ o. length o.values.items ≤ max_rate) act.now.outputs.items }
-    ensures code { IfOk result (λ firsts. Adds
-        (IsFiringCode (routines_of callees.now procedures.now) (names_view names.old.items)
-        (map port_view ports.now) (action_view act.now) firsts.items) draft.old draft.new) }
-    ensures whole { IfOk result (λ firsts. left_out_firing
-        (routines_of callees.now procedures.now) (names_view names.old.items) act.now ≡ None) }
-    ensures fault { IfErr result (IsSendFault (left_out_firing
-        (routines_of callees.now procedures.now) (names_view names.old.items) act.now) draft.new) }
+    ensures code { IfOk result (λ firsts. AddsFiringCode callees.now procedures.now
+        names.old.items ports.now act.now firsts.items draft.old draft.new) }
+    ensures whole { OnOk result
+        (IsWholeFiring callees.now procedures.now names.old.items act.now) }
+    ensures fault { IfErr result
+        (IsFiringFault callees.now procedures.now names.old.items act.now draft.new) }
 {
     lower_locals(names, callees, &act.locals, draft)?;
     put_behind(alloc, names, callees, procedures, ports, act, draft)

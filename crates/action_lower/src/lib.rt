@@ -22,3 +22,4 @@ pub use first::first_cells;
 pub use guards::lower_guards;
 pub use locals::lower_locals;
 pub use outputs::lower_outputs;
+pub use seats::global_names;

@@ -1,14 +1,9 @@
 //! The locals of an action as code.
 
-ghost use Rattle.std.specs.Prelude.{◌≡◌, ◌∷◌, [], IfErr, None, OnOk, map, string_bytes};
-ghost use Rattle.cal_model.specs.View.{local_view, shape_view};
-ghost use Rattle.expr_lower.specs.Callees.{functions_view};
+ghost use Rattle.std.specs.Prelude.{◌≡◌, ◌∷◌, [], IfErr, OnOk};
 ghost use Rattle.expr_lower.specs.declared.fault.LowerFault.TheVariants.{Memory};
-ghost use Rattle.expr_lower.specs.Growing.{IsFault};
-ghost use Rattle.expr_lower.specs.Names.{names_view};
-ghost use Rattle.stmt_lower.specs.ListStarting.{left_out_local, local_of};
-ghost use Rattle.action_lower.specs.LocalCode.{AddsLocals, left_out_locals};
-ghost use Rattle.action_lower.specs.LocalWords.{IsInFront};
+ghost use Rattle.action_lower.specs.LocalCode.{AddsLocals, AreWholeLocals, IsLocalFault, IsLocalsFault, IsWholeLocal};
+ghost use Rattle.action_lower.specs.LocalWords.{IsInFront, IsInFrontAt};
 
 use crate::shapes::copy_shape;
 use cal_model::BoundLocal;
@@ -32,12 +27,11 @@ pub fn lower_locals(
     locals: &[BoundLocal],
     draft: &mut Draft,
 ) -> Result<(), LowerFault>
-    ensures code { OnOk result (AddsLocals (functions_view callees.now) locals.now
-        names.old.items names.new.items draft.old draft.new) }
-    ensures whole { OnOk result (left_out_locals (functions_view callees.now)
-        (names_view names.old.items) (map local_view locals.now) ≡ None) }
-    ensures fault { IfErr result (IsFault (left_out_locals (functions_view callees.now)
-        (names_view names.old.items) (map local_view locals.now)) draft.new) }
+    ensures code { OnOk result (AddsLocals callees.now locals.now names.old.items
+        names.new.items draft.old draft.new) }
+    ensures whole { OnOk result (AreWholeLocals callees.now names.old.items locals.now) }
+    ensures fault { IfErr result
+        (IsLocalsFault callees.now names.old.items locals.now draft.new) }
 {
     let Some((first, rest)) = locals.split_first() else {
         return Ok(());
@@ -53,13 +47,11 @@ fn lower_local(
     x: &BoundLocal,
     draft: &mut Draft,
 ) -> Result<(), LowerFault>
-    ensures code { OnOk result (AddsLocals (functions_view callees.now) (x.now ∷ [])
-        names.old.items names.new.items draft.old draft.new) }
+    ensures code { OnOk result (AddsLocals callees.now (x.now ∷ []) names.old.items
+        names.new.items draft.old draft.new) }
     ensures front { OnOk result (IsInFront x.now names.old.items names.new.items) }
-    ensures whole { OnOk result (left_out_local (functions_view callees.now)
-        (names_view names.old.items) (local_view x.now) ≡ None) }
-    ensures fault { IfErr result (IsFault (left_out_local (functions_view callees.now)
-        (names_view names.old.items) (local_view x.now)) draft.new) }
+    ensures whole { OnOk result (IsWholeLocal callees.now names.old.items x.now) }
+    ensures fault { IfErr result (IsLocalFault callees.now names.old.items x.now draft.new) }
 {
     let cell = start_local(&Scope::outermost(names, callees), x, draft)?;
     put_front(names, x, cell)
@@ -67,8 +59,7 @@ fn lower_local(
 
 /// Puts the name of a local, whose value stands in the cells from one on, in front of names.
 fn put_front(names: &mut Vec<Named>, x: &BoundLocal, cell: u32) -> Result<(), LowerFault>
-    ensures front { OnOk result (names_view names.new.items
-        ≡ local_of (string_bytes x.now.name) (shape_view x.now.shape) cell ∷ names_view names.old.items) }
+    ensures front { OnOk result (IsInFrontAt x.now cell names.old.items names.new.items) }
     ensures memory { IfErr result (λ fault. fault ≡ Memory) }
 {
     let alloc = *names.allocator();

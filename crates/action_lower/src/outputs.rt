@@ -1,21 +1,17 @@
 //! The outputs of an action as code.
 
-ghost use Rattle.std.specs.Prelude.{◌≡◌, ◌+◌, ◌≤◌, ◌^◌, IfErr, IfOk, OnOk, None, Some, length, map};
+ghost use Rattle.std.specs.Prelude.{◌≡◌, ◌+◌, ◌≤◌, ◌^◌, IfErr, IfOk, OnOk, None, Some, length};
 ghost use Rattle.cal_ast.specs.View.{expr_tree};
 ghost use Rattle.cal_model.specs.Sound.{Each, max_rate};
-ghost use Rattle.cal_model.specs.View.{output_view, port_view};
-ghost use Rattle.expr_lower.specs.Growing.{IsFault, left_out_in};
-ghost use Rattle.expr_lower.specs.Callees.{functions_view};
-ghost use Rattle.expr_lower.specs.Lowered.{Adds};
-ghost use Rattle.expr_lower.specs.Names.{names_view};
-ghost use Rattle.expr_lower.specs.declared.fault.LowerFault.TheVariants.{TooManyCells};
 ghost use Rattle.cal_model.specs.View.{shape_view};
-ghost use Rattle.list_lower.specs.LeftOut.{left_out_fill, left_out_fills};
-ghost use Rattle.expr_lower.specs.PartView.{places_of};
-ghost use Rattle.action_lower.specs.SendWords.{AddsOutput, AddsOutputs, AddsSent, HasTaken, IsSendFault};
-ghost use Rattle.action_lower.specs.SendWords.{left_out_output, left_out_outputs, left_out_repeated, left_out_values};
-ghost use Rattle.action_lower.specs.Sending.{AreStored, IsStored, items_of_any};
-ghost use Rattle.action_lower.specs.SendWords.{AddsRepeated, AddsSentList};
+ghost use Rattle.expr_lower.specs.declared.fault.LowerFault.TheVariants.{TooManyCells};
+ghost use Rattle.expr_lower.specs.Words.{IsFaultWith, IsWholeWith};
+ghost use Rattle.action_lower.specs.OutputWords.{AddsListOver, AddsListsOver, AddsOutputOver, AddsOutputsOver, AddsSentOver};
+ghost use Rattle.action_lower.specs.OutputWords.{AddsValueOver, AddsValuesOver, AreWholeLists, AreWholeOutputs, AreWholeRepeated};
+ghost use Rattle.action_lower.specs.OutputWords.{AreWholeValues, IsListFault, IsListsFault, IsOutputFault, IsOutputsFault};
+ghost use Rattle.action_lower.specs.OutputWords.{IsRepeatedFault, IsValuesFault, IsWholeList, IsWholeOutput};
+ghost use Rattle.action_lower.specs.Sending.{items_of_any};
+ghost use Rattle.action_lower.specs.SendWords.{HasTaken};
 
 use crate::seats::kind_on;
 use crate::shapes::items_of_any;
@@ -51,13 +47,14 @@ pub fn lower_outputs(
     draft: &mut Draft,
 ) -> Result<Vec<u32>, LowerFault>
     requires few { Each (λ o. length o.values.items ≤ max_rate) outputs.now }
-    ensures code { IfOk result (λ firsts. AddsOutputs (functions_view callees.now) (names_view names.now)
-        (map port_view ports.now) (map output_view outputs.now) firsts.items draft.old draft.new) }
-    ensures sent { IfOk result (λ firsts. AddsSent (functions_view callees.now) (names_view names.now)
-        (map port_view ports.now) (map output_view outputs.now) firsts.items draft.old draft.new) }
-    ensures whole { OnOk result (left_out_outputs (functions_view callees.now) (names_view names.now) outputs.now ≡ None) }
-    ensures fault { IfErr result
-        (IsSendFault (left_out_outputs (functions_view callees.now) (names_view names.now) outputs.now) draft.new) }
+    ensures code { IfOk result (λ firsts.
+        AddsOutputsOver callees.now names.now ports.now outputs.now firsts.items draft.old
+        draft.new) }
+    ensures sent { IfOk result (λ firsts.
+        AddsSentOver callees.now names.now ports.now outputs.now firsts.items draft.old
+        draft.new) }
+    ensures whole { OnOk result (AreWholeOutputs callees.now names.now outputs.now) }
+    ensures fault { IfErr result (IsOutputsFault callees.now names.now outputs.now draft.new) }
 {
     let mut firsts = Vec::new(alloc);
     for output in outputs {
@@ -77,11 +74,10 @@ fn put_output(
     draft: &mut Draft,
 ) -> Result<u32, LowerFault>
     requires few { length output.now.values.items ≤ max_rate }
-    ensures code { IfOk result (λ first. AddsOutput (functions_view callees.now) (names_view names.now)
-        (map port_view ports.now) (output_view output.now) first draft.old draft.new) }
-    ensures whole { OnOk result (left_out_output (functions_view callees.now) (names_view names.now) output.now ≡ None) }
-    ensures fault { IfErr result
-        (IsSendFault (left_out_output (functions_view callees.now) (names_view names.now) output.now) draft.new) }
+    ensures code { IfOk result (λ first.
+        AddsOutputOver callees.now names.now ports.now output.now first draft.old draft.new) }
+    ensures whole { OnOk result (IsWholeOutput callees.now names.now output.now) }
+    ensures fault { IfErr result (IsOutputFault callees.now names.now output.now draft.new) }
 {
     match output.repeat {
         Some(times) => put_repeated(alloc, names, callees, ports, output, times, draft),
@@ -99,11 +95,10 @@ fn put_once(
 ) -> Result<u32, LowerFault>
     requires once { output.now.repeat ≡ None }
     requires few { length output.now.values.items ≤ max_rate }
-    ensures code { IfOk result (λ first. AddsOutput (functions_view callees.now) (names_view names.now)
-        (map port_view ports.now) (output_view output.now) first draft.old draft.new) }
-    ensures whole { OnOk result (left_out_output (functions_view callees.now) (names_view names.now) output.now ≡ None) }
-    ensures fault { IfErr result
-        (IsSendFault (left_out_output (functions_view callees.now) (names_view names.now) output.now) draft.new) }
+    ensures code { IfOk result (λ first.
+        AddsOutputOver callees.now names.now ports.now output.now first draft.old draft.new) }
+    ensures whole { OnOk result (IsWholeOutput callees.now names.now output.now) }
+    ensures fault { IfErr result (IsOutputFault callees.now names.now output.now draft.new) }
 {
     let first = take_cells(output.values.len(), draft)?;
     let kind = kind_on(ports, output.port);
@@ -122,11 +117,12 @@ fn put_repeated(
     draft: &mut Draft,
 ) -> Result<u32, LowerFault>
     requires repeated { output.now.repeat ≡ Some times }
-    ensures code { IfOk result (λ first. AddsOutput (functions_view callees.now) (names_view names.now)
-        (map port_view ports.now) (output_view output.now) first draft.old draft.new) }
-    ensures whole { OnOk result (left_out_repeated (functions_view callees.now) (names_view names.now) times output.now.values.items ≡ None) }
+    ensures code { IfOk result (λ first.
+        AddsOutputOver callees.now names.now ports.now output.now first draft.old draft.new) }
+    ensures whole { OnOk result
+        (AreWholeRepeated callees.now names.now times output.now.values.items) }
     ensures fault { IfErr result
-        (IsSendFault (left_out_repeated (functions_view callees.now) (names_view names.now) times output.now.values.items) draft.new) }
+        (IsRepeatedFault callees.now names.now times output.now.values.items draft.new) }
 {
     let kind = kind_on(ports, output.port);
     let shape = items_of_any(alloc, times)?;
@@ -150,12 +146,10 @@ fn put_lists(
 ) -> Result<u32, LowerFault>
     requires some { 1 ≤ length values.now }
     requires shape { shape_view shape.now ≡ items_of_any times }
-    ensures code { IfOk result (λ first. AddsRepeated (functions_view callees.now) (names_view names.now)
-        kind times (map expr_tree values.now) first draft.old draft.new) }
-    ensures whole { OnOk result (left_out_fills (functions_view callees.now) (names_view names.now)
-        (shape_view shape.now) (places_of values.now) ≡ None) }
-    ensures fault { IfErr result (IsFault (left_out_fills (functions_view callees.now) (names_view names.now)
-        (shape_view shape.now) (places_of values.now)) draft.new) }
+    ensures code { IfOk result (λ first.
+        AddsListsOver callees.now names.now kind times values.now first draft.old draft.new) }
+    ensures whole { OnOk result (AreWholeLists callees.now names.now shape.now values.now) }
+    ensures fault { IfErr result (IsListsFault callees.now names.now shape.now values.now draft.new) }
 {
     let area = take_area(values.len(), shape, draft)?;
     fill_all(
@@ -180,12 +174,10 @@ fn put_list(
     kind: Scalar,
     draft: &mut Draft,
 ) -> Result<u32, LowerFault>
-    ensures code { IfOk result (λ first. AddsSentList (functions_view callees.now) (names_view names.now)
-        (expr_tree value.now) (shape_view shape.now) kind first draft.old draft.new) }
-    ensures whole { OnOk result (left_out_fill (functions_view callees.now) (names_view names.now)
-        (shape_view shape.now) (expr_tree value.now) ≡ None) }
-    ensures fault { IfErr result (IsFault (left_out_fill (functions_view callees.now) (names_view names.now)
-        (shape_view shape.now) (expr_tree value.now)) draft.new) }
+    ensures code { IfOk result (λ first.
+        AddsListOver callees.now names.now value.now shape.now kind first draft.old draft.new) }
+    ensures whole { OnOk result (IsWholeList callees.now names.now shape.now value.now) }
+    ensures fault { IfErr result (IsListFault callees.now names.now shape.now value.now draft.new) }
 {
     let row = take_list(shape, draft)?;
     fill(
@@ -228,12 +220,9 @@ fn put_values(
 ) -> Result<(), LowerFault>
     requires room { cell + length values.now ≤ draft.old.cells }
     ensures code { OnOk result
-        (Adds (AreStored (functions_view callees.now) (names_view names.now) kind (map expr_tree values.now) cell)
-        draft.old draft.new) }
-    ensures whole { OnOk result
-        (left_out_values (functions_view callees.now) (names_view names.now) (map expr_tree values.now) ≡ None) }
-    ensures fault { IfErr result
-        (IsFault (left_out_values (functions_view callees.now) (names_view names.now) (map expr_tree values.now)) draft.new) }
+        (AddsValuesOver callees.now names.now kind values.now cell draft.old draft.new) }
+    ensures whole { OnOk result (AreWholeValues callees.now names.now values.now) }
+    ensures fault { IfErr result (IsValuesFault callees.now names.now values.now draft.new) }
 {
     // it tells that the numbers of the cells fit
     let _cells = draft.cells;
@@ -255,11 +244,10 @@ fn put_value(
     draft: &mut Draft,
 ) -> Result<(), LowerFault>
     ensures code { OnOk result
-        (Adds (IsStored (functions_view callees.now) (names_view names.now) kind (expr_tree value.now) cell)
-        draft.old draft.new) }
-    ensures whole { OnOk result (left_out_in (functions_view callees.now) (names_view names.now) (expr_tree value.now) ≡ None) }
+        (AddsValueOver callees.now names.now kind value.now cell draft.old draft.new) }
+    ensures whole { OnOk result (IsWholeWith callees.now names.now (expr_tree value.now)) }
     ensures fault { IfErr result
-        (IsFault (left_out_in (functions_view callees.now) (names_view names.now) (expr_tree value.now)) draft.new) }
+        (IsFaultWith callees.now names.now (expr_tree value.now) draft.new) }
 {
     lower(&Scope::outermost(names, callees), value, draft)?;
     put(draft, Instr::Store(cell, Some(kind)))

@@ -7,6 +7,7 @@ ghost use Rattle.cal_model.specs.Sound.{Each, IsAction, IsSound, max_rate, max_v
 ghost use Rattle.cal_model.specs.Value.{IsOf, IsType};
 ghost use Rattle.cal_model.specs.View.{action_view, actor_of, pattern_view, port_view, var_view};
 ghost use Rattle.expr_lower.specs.Names.{name_view, names_view};
+ghost use Rattle.action_lower.specs.FiringCode.{globals_of};
 ghost use Rattle.action_lower.specs.Seats.{pattern_seat, pattern_seats, pattern_seats_from, seen_seats, var_seat, var_seats};
 
 use crate::shapes::{copy_shape, pattern_shape, scalars};
@@ -14,6 +15,20 @@ use cal_model::{Bound, BoundAction, BoundPattern, BoundVar, Port};
 use expr_lower::{Named, Seat};
 use rvc_base::Scalar;
 use std::alloc::{AllocError, Global};
+
+/// The variables of an actor as names: they stand in the state cells, one after the other.
+///
+/// # Errors
+///
+/// If memory runs out.
+pub fn global_names(alloc: Global, b: &Bound) -> Result<Vec<Named>, AllocError>
+    requires sound { IsSound (actor_of b.now) }
+    ensures { IfOk result (λ names. names_view names.items ≡ globals_of (actor_of b.now)) }
+{
+    let mut names = Vec::new(alloc);
+    put_vars(alloc, &b.vars, &mut names)?;
+    Ok(names)
+}
 
 /// The names that the guards of an action see, with the cells and tokens where their values stand.
 pub(crate) fn seen_names(

@@ -4,6 +4,7 @@ use Rattle.std.specs.Prelude.{slice_get}
 use Rattle.cal_model.specs.Actor.{Action, Actor}
 use Rattle.code_ir.specs.declared.instr.Instr.{Instr}
 use Rattle.expr_lower.specs.declared.draft.Draft.{Draft}
+use Rattle.expr_lower.specs.Callees.{Function}
 use Rattle.expr_lower.specs.Placed.{StandsAt}
 use Rattle.lowered_actor.specs.declared.parts.ActionCode.{ActionCode}
 use Rattle.code_ir.specs.Code.{Code}
@@ -18,16 +19,14 @@ use Rattle.cal_model.specs.Eligible.{eligible}
 use Rattle.cal_model.specs.Selection.{State, has_its_tokens}
 use Rattle.action_lower.specs.FiringCode.{Fires, FiresAs, globals_of}
 use Rattle.action_lower.specs.FiringWords.{AddsFired, AddsFiring}
-use Rattle.action_lower.specs.Guarding.{AreGuards, guard_more, no_guard}
 use Rattle.action_lower.specs.GuardWords.{AddsGuards, AnswerAsGuards}
 use Rattle.action_lower.specs.Seats.{HoldVars, state_cells, taken}
 use Rattle.action_lower.proofs.StateSeats.{globals-laid}
 use Rattle.action_lower.proofs.Answering.{stands-in}
+pub use Rattle.action_lower.proofs.Answering.{guards-grow}
 use Rattle.action_lower.proofs.LocalRuns.{started_grows}
 use Rattle.action_lower.proofs.Storing.{outputs-grow}
-use Rattle.cal_ast.specs.Tree.{Tree}
-use Rattle.expr_lower.specs.Names.{Name}
-use Rattle.actor_lower.specs.Coded.{FiresFrom, IsCodedAction, IsMore}
+use Rattle.actor_lower.specs.Coded.{AnswersFrom, FiresFrom, IsCodedAction, IsMore}
 use Rattle.actor_lower.specs.Drafted.{GoesOn, IsServed}
 
 -- ---- drafts
@@ -40,12 +39,8 @@ more-again one two three f g = record {
   cells = let le = f.cells in let ge = g.cells in omega (arith, le, ge);
 }
 
-pub guards-grow : {names : List Name} {gs : List Tree} {es : List ℕ} {base n m : ℕ} {code : List Instr} → AreGuards names gs es base n code m → n ≤ m
-guards-grow (no_guard base n) = omega arith
-guards-grow (guard_more g gs es base n k m a b first rest) = let le = first.lowered.cells in let ge = guards-grow rest in omega (arith, le, ge)
-
-pub guards-added : (actor : Actor) (a : ℕ) (act : Action) (es : List ℕ) (old new : Draft) → slice_get actor.actions a ≡ Some act → AddsGuards actor a es old new → IsMore old new
-guards-added actor a act es old new is added =
+pub guards-added : (fs : List Function) (actor : Actor) (a : ℕ) (act : Action) (es : List ℕ) (old new : Draft) → slice_get actor.actions a ≡ Some act → AddsGuards fs actor a es old new → IsMore old new
+guards-added fs actor a act es old new is added =
     let one = added act is in
     record { code = one.code; is = one.is; routines = one.routines; cells = guards-grow one.has }
 
@@ -59,12 +54,12 @@ firing-added rs actor a act entry firsts old new is added =
 
 -- ---- actions
 
-pub guards-more : (actor : Actor) (a : ℕ) (es : List ℕ) (old new : Draft) → IsMore old new → AnswerAsGuards actor a es old → AnswerAsGuards actor a es new
-guards-more actor a es old new grown h act code more is whole =
-    h act code (grown.code ++ more) is (whole ∙ ap (λ is. is ++ more) grown.is ∙ append_assoc old.instrs.items grown.code more)
-
 pub goes-more : (old new : Draft) (whole : Code) (more : List Instr) (grown : IsMore old new) → GoesOn new whole more → GoesOn old whole (grown.code ++ more)
 goes-more old new whole more grown goes = (goes.0 ∙ ap (λ is. is ++ more) grown.is ∙ append_assoc old.instrs.items grown.code more, goes.1 ∙ grown.routines)
+
+pub answers-more : (actor : Actor) (a : ℕ) (es : List ℕ) (old new : Draft) → IsMore old new → AnswersFrom actor a es old → AnswersFrom actor a es new
+answers-more actor a es old new grown h act whole more x u cells is goes room in_state of_ports has hold =
+    h act whole (grown.code ++ more) x u cells is (goes-more old new whole more grown goes) (let le = grown.cells in omega (arith, le, room)) in_state of_ports has hold
 
 pub fires-more : (actor : Actor) (a entry : ℕ) (firsts : List ℕ) (old new : Draft) → IsMore old new → FiresFrom actor a entry firsts old → FiresFrom actor a entry firsts new
 fires-more actor a entry firsts old new grown h act whole more x u cells is goes room in_state of_ports may has hold =
@@ -83,7 +78,7 @@ served-more actor rs old new grown served = record {
 pub coded-more : (actor : Actor) (a : ℕ) (coded : ActionCode) (old new : Draft) → IsMore old new → IsCodedAction actor a coded old → IsCodedAction actor a coded new
 coded-more actor a coded old new grown h = record {
   rates = h.rates;
-  guards = guards-more actor a coded.guards.items old new grown h.guards;
+  guards = answers-more actor a coded.guards.items old new grown h.guards;
   firsts = h.firsts;
   fires = fires-more actor a coded.fire h.firsts old new grown h.fires;
   sends = h.sends;
@@ -115,3 +110,21 @@ fires-from actor a rs firsts entry old new sound served at added act whole more 
     subst (λ e. Fires actor a act firsts whole e x u cells) (sym at)
     (fires-at actor a act rs firsts (length old.instrs.items) old.cells new.cells served.high one.code sound one.has whole (served.stand whole (one.code ++ more) (placed, goes.1 ∙ one.routines)) served.state served.below stands x u cells
     room in_state of_ports may has hold)
+
+-- code of guards answers as they do, in a draft that has the routines which they call
+pub answers-from : (actor : Actor) (a : ℕ) (rs : Routines) (es : List ℕ) (old new : Draft) → IsSound actor → IsServed actor rs old → IsMore old new → AnswerAsGuards rs.functions actor a es old new → AnswersFrom actor a es new
+answers-from actor a rs es old new sound served grown answer act whole more x u cells is goes room in_state of_ports has hold =
+    let low = state_cells actor in
+    let laid : AreLaid (globals_of actor) low served.high low [] = globals-laid actor.vars low served.high low sound.vars (omega arith) (omega arith) in
+    let routines = served.stand whole (grown.code ++ more) (goes-more old new whole more grown goes) in
+    answer act whole more is goes.0 x u cells
+    (record {
+      low = low;
+      high = served.high;
+      serve = λ text f e. functions_served (globals_of actor) whole (taken actor u a) actor.funs actor.procs low rs.functions laid.0 served.high routines (omega arith) text f e;
+      behind = omega arith;
+      before = served.below;
+      room = λ some. let le = grown.cells in let ge = served.below in omega (arith, le, ge, room);
+      own = room;
+    })
+    in_state of_ports has hold

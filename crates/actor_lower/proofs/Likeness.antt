@@ -103,19 +103,21 @@ module _ (actor : Actor) (sound : IsSound actor) (l : coded.Actor) (is : IsLower
       tokens-same : taken actor u a ≡ lowered.taken l (tokens_on u) a
       tokens-same = fun_ext (λ p. ap (λ n. take n (tokens_on u p)) (sym (rates actor l a p sound tables).0))
 
-      guard-runs : (g : Tree) (entry : ℕ) → IsGuardOf actor a act l.code g entry → GuardRuns l x (lowered.taken l (tokens_on u) a) entry (eval g (calls_of actor.funs) (seen_by actor y u act) max_turns)
+      room : draft.cells ≤ length cells
+      room = let e = code.cells in let f = cells-are.size in omega (arith, e, f)
+
+      guard-runs : (g : Tree) (entry : ℕ) → IsGuardOf actor a act l.code y u cells g entry → GuardRuns l x (lowered.taken l (tokens_on u) a) entry (eval g (calls_of actor.funs) (seen_by actor y u act) max_turns)
       guard-runs g entry h =
-          let one = h y u cells stands.state ready.tokens ready.has holds in
           record {
             cells = cells;
             are = cells-are;
-            o = one.outcome;
-            left = one.left;
-            ends = subst (λ ts. runs l.code entry cells ts one.outcome one.left) tokens-same one.ends;
-            said = is-said (eval g (calls_of actor.funs) (seen_by actor y u act) max_turns) one.outcome one.said;
+            o = h.outcome;
+            left = h.left;
+            ends = subst (λ ts. runs l.code entry cells ts h.outcome h.left) tokens-same h.ends;
+            said = is-said (eval g (calls_of actor.funs) (seen_by actor y u act) max_turns) h.outcome h.said;
           }
 
-      guards-run : (gs : List Tree) (es : List ℕ) → AreGuardsOf actor a act l.code gs es → GuardsRun l x (lowered.taken l (tokens_on u) a) (calls_of actor.funs) (seen_by actor y u act) gs es
+      guards-run : (gs : List Tree) (es : List ℕ) → AreGuardsOf actor a act l.code y u cells gs es → GuardsRun l x (lowered.taken l (tokens_on u) a) (calls_of actor.funs) (seen_by actor y u act) gs es
       guards-run [] [] h = tt
       guards-run [] (e ∷ es) h = absurd h
       guards-run (g ∷ gs) [] h = absurd h
@@ -123,7 +125,6 @@ module _ (actor : Actor) (sound : IsSound actor) (l : coded.Actor) (is : IsLower
 
       body-runs : (k : ActionCode) → IsCodedAction actor a k draft → BodyRuns numbers_of_vars l x (lowered.taken l (tokens_on u) a) (coded.action_of k) (body actor y u a)
       body-runs k one =
-          let room : draft.cells ≤ length cells = let e = code.cells in let f = cells-are.size in omega (arith, e, f) in
           let fires : Fires actor a act one.firsts l.code k.fire y u cells = one.fires act l.code [] y u cells ready.there (whole, code.routines) room stands.state ready.tokens ready.may_fire ready.has holds in
           record {
             cells = cells;
@@ -151,7 +152,8 @@ module _ (actor : Actor) (sound : IsSound actor) (l : coded.Actor) (is : IsLower
       let k = mapped coded.action_of actions a action (ap (λ acts. slice_get acts a) (sym same) ∙ ready.coded_there) in
       let one = are.each a k.0 k.1 in
       subst (λ c. GuardsRun l x (lowered.taken l (tokens_on u) a) (calls_of actor.funs) (seen_by actor y u act) act.guards c.guards) k.2
-      (guards-run x y stands u a act action ready act.guards k.0.guards.items (one.guards act l.code [] ready.there whole))
+      (guards-run x y stands u a act action ready act.guards k.0.guards.items
+      (one.guards act l.code [] y u (cells x y stands) ready.there (whole, code.routines) (room x y stands u a act action ready) stands.state ready.tokens ready.has (holds x y stands)))
 
   bodies-alike : BodiesRunAlike actor numbers_of_vars l
   bodies-alike x y u a act action stands ready enabled =

@@ -11,6 +11,7 @@ use Rattle.cal_model.specs.Actor.{Action, Actor}
 use Rattle.cal_model.specs.View.{action_view, actor_of, output_view, port_view}
 use Rattle.lowered_actor.specs.declared.parts.ActionCode.{ActionCode}
 use Rattle.expr_lower.specs.declared.draft.Draft.{Draft}
+use Rattle.expr_lower.specs.Callees.{Function}
 use Rattle.stmt_lower.specs.Procedures.{Routines}
 use Rattle.action_lower.specs.FiringWords.{AddsFiring}
 use Rattle.action_lower.specs.GuardWords.{AddsGuards}
@@ -32,14 +33,14 @@ module _ (b : Bound) (a : ℕ) (low : a < length b.actions.items) where
   pub action-there : (act : Action) × (slice_get (actor_of b).actions a ≡ Some act)
   action-there = there (actor_of b).actions a (let e = length-map b.actions.items action_view in omega (arith, low, e))
 
-  pub guards-grown : (es : List ℕ) (old new : Draft) → AddsGuards (actor_of b) a es old new → IsMore old new
-  guards-grown es old new added = guards-added (actor_of b) a action-there.0 es old new action-there.1 added
+  pub guards-grown : (fs : List Function) (es : List ℕ) (old new : Draft) → AddsGuards fs (actor_of b) a es old new → IsMore old new
+  guards-grown fs es old new added = guards-added fs (actor_of b) a action-there.0 es old new action-there.1 added
 
   pub firing-grown : (rs : Routines) (entry : ℕ) (firsts : List ℕ) (old new : Draft) → AddsFiring rs (actor_of b) a entry firsts old new → IsMore old new
   firing-grown rs entry firsts old new added = firing-added rs (actor_of b) a action-there.0 entry firsts old new action-there.1 added
 
-  pub guards-alone : (es : List ℕ) (old new : Draft) → AddsGuards (actor_of b) a es old new → AddsBodies es old new
-  guards-alone es old new added = guards-bodies (actor_of b) a action-there.0 es old new action-there.1 added
+  pub guards-alone : (rs : Routines) (es : List ℕ) (old new : Draft) → IsServed (actor_of b) rs old → AddsGuards rs.functions (actor_of b) a es old new → AddsBodies es old new
+  guards-alone rs es old new served added = guards-bodies (actor_of b) a action-there.0 rs es old new served action-there.1 added
 
   pub firing-alone : (rs : Routines) (entry : ℕ) (firsts : List ℕ) (old new : Draft) → IsSound (actor_of b) → IsServed (actor_of b) rs old → AddsFiring rs (actor_of b) a entry firsts old new → AddsBodies (entry ∷ []) old new
   firing-alone rs entry firsts old new sound served added = firing-bodies (actor_of b) a action-there.0 rs entry firsts old new sound served action-there.1 added

@@ -40,32 +40,34 @@ use Rattle.actor_lower.proofs.FiringFits.{firing-fits, fits-more, has-more}
 
 -- ---- guards and firings
 
-guards-rows : {names : List Name} {gs : List Tree} {es : List ℕ} {base n m : ℕ} {part : List Instr} → AreGuards names gs es base n part m → (whole : Code) → StandsAt whole.instrs base part → m ≤ whole.cells
+guards-rows : {rs : Routines} {names : List Name} {gs : List Tree} {es : List ℕ} {base n m : ℕ} {part : List Instr} → AreGuards rs.functions names gs es base n part m → (whole : Code)
+    → HasRunRoutines whole (length whole.routines) n rs → StandsAt whole.instrs base part → m ≤ whole.cells
     → (number : ℕ) → length whole.routines ≤ number → (rest : List ℕ) → AreBodies whole (base + length part) (number + length es) rest → AreBodies whole base number (es ++ rest)
-guards-rows (no_guard base n) whole stands le number behind rest rows =
+guards-rows (no_guard base n) whole called stands le number behind rest rows =
     let none : base + 0 ≡ base = omega arith in
     let still : number + 0 ≡ number = omega arith in
     subst (λ p. AreBodies whole p number rest) none (subst (λ k. AreBodies whole (base + 0) k rest) still rows)
-guards-rows (guard_more g gs es base n k m a b first others) whole stands le number behind rest rows =
+guards-rows {rs} (guard_more g gs es base n k m a b first others) whole called stands le number behind rest rows =
+    let wide : HasRunRoutines whole (length whole.routines) k rs = has-more whole (length whole.routines) n k rs first.lowered.cells called in
     let more = guards-grow others in
     let here : StandsAt whole.instrs base (first.body ++ op.Answer ∷ []) = subst (StandsAt whole.instrs base) first.is (stands_left whole.instrs base a b stands) in
     let size : length a ≡ length first.body + 1 = ap length first.is ∙ length-append first.body (op.Answer ∷ []) in
     let split : base + length (a ++ b) ≡ base + length a + length b = let s = length-append a b in omega (arith, s) in
     let count : number + suc (length es) ≡ number + 1 + length es = omega arith in
     let later : AreBodies whole (base + length a) (number + 1) (es ++ rest) =
-    guards-rows others whole (stands_right whole.instrs base a b stands) le (number + 1) (omega (arith, behind)) rest
+    guards-rows {rs = rs} others whole wide (stands_right whole.instrs base a b stands) le (number + 1) (omega (arith, behind)) rest
     (subst (λ k. AreBodies whole (base + length a + length b) k rest) count (subst (λ p. AreBodies whole p (number + suc (length es)) rest) split rows)) in
     let next : base + length a ≡ base + length first.body + 1 = omega (arith, size) in
     body_more base (base + length first.body) number (es ++ rest) (record {
-      callable = 0;
-      before = omega arith;
+      callable = length whole.routines;
+      before = behind;
       routines = omega arith;
       instrs = first.body;
       left = 1;
       last = op.Answer;
       at_end = refl;
       stands = stands_left whole.instrs base first.body (op.Answer ∷ []) here;
-      fits = fits-more whole 0 k whole.cells base 0 first.body 1 (base + length first.body) 1 (omega (arith, more, le)) (first.lowered.fits whole 0 0 (stands_left whole.instrs base first.body (op.Answer ∷ []) here));
+      fits = fits-more whole (length whole.routines) k whole.cells base 0 first.body 1 (base + length first.body) 1 (omega (arith, more, le)) (first.lowered.fits whole (length whole.routines) 0 wide.functions (stands_left whole.instrs base first.body (op.Answer ∷ []) here));
       ends = (stands_right whole.instrs base first.body (op.Answer ∷ []) here).0;
       is_end = (behind, refl);
     }) (subst (λ p. AreBodies whole p (number + 1) (es ++ rest)) next later)
@@ -99,12 +101,20 @@ stood-in whole old new code more is all =
     let placed : whole.instrs ≡ old ++ (code ++ more) = all ∙ ap (λ xs. xs ++ more) is ∙ append_assoc old code more in
     subst (λ xs. StandsAt xs (length old) code) (sym placed) (stands-in old code more)
 
-pub guards-bodies : (actor : Actor) (a : ℕ) (act : Action) (es : List ℕ) (old new : Draft) → slice_get actor.actions a ≡ Some act → AddsGuards actor a es old new → AddsBodies es old new
-guards-bodies actor a act es old new e added whole more number rest goes room behind rows =
+-- code that goes on behind what was added to a draft has the routines of the draft
+has-behind : (actor : Actor) (rs : Routines) (old new : Draft) (whole : Code) (more code : List Instr) → IsServed actor rs old → new.instrs.items ≡ old.instrs.items ++ code → new.routines.items ≡ old.routines.items → GoesOn new whole more
+    → HasRunRoutines whole (length whole.routines) old.cells rs
+has-behind actor rs old new whole more code served is routines goes =
+    let before : GoesOn old whole (code ++ more) = (goes.0 ∙ ap (λ xs. xs ++ more) is ∙ append_assoc old.instrs.items code more, goes.1 ∙ routines) in
+    subst (λ k. HasRunRoutines whole k old.cells rs) (sym (ap length before.1)) (has-more whole (length old.routines.items) served.high old.cells rs served.below (served.called whole (code ++ more) before))
+
+pub guards-bodies : (actor : Actor) (a : ℕ) (act : Action) (rs : Routines) (es : List ℕ) (old new : Draft) → IsServed actor rs old → slice_get actor.actions a ≡ Some act → AddsGuards rs.functions actor a es old new → AddsBodies es old new
+guards-bodies actor a act rs es old new served e added whole more number rest goes room behind rows =
     let one = added act e in
     let is = goes.0 in
+    let has = has-behind actor rs old new whole more one.code served one.is one.routines goes in
     let size : length new.instrs.items ≡ length old.instrs.items + length one.code = ap length one.is ∙ length-append old.instrs.items one.code in
-    guards-rows one.has whole (stood-in whole old.instrs.items new.instrs.items one.code more one.is is) room number behind rest (subst (λ k. AreBodies whole k (number + length es) rest) size rows)
+    guards-rows {rs = rs} one.has whole has (stood-in whole old.instrs.items new.instrs.items one.code more one.is is) room number behind rest (subst (λ k. AreBodies whole k (number + length es) rest) size rows)
 
 pub second-sized : (ps qs : List Port) → Each (λ p. IsSize p.kind) (ps ++ qs) → Each (λ p. IsSize p.kind) qs
 second-sized [] qs h = h
@@ -116,9 +126,7 @@ firing-bodies actor a act rs entry firsts old new sound served e added whole mor
     let one = added.1 act e in
     let is = goes.0 in
     let le : state_cells actor ≤ old.cells = let x = served.state in let y = served.below in omega (arith, x, y) in
-    let before : GoesOn old whole (one.code ++ more) = (is ∙ ap (λ xs. xs ++ more) one.is ∙ append_assoc old.instrs.items one.code more, goes.1 ∙ one.routines) in
-    let has : HasRunRoutines whole (length whole.routines) old.cells rs =
-    subst (λ k. HasRunRoutines whole k old.cells rs) (sym (ap length before.1)) (has-more whole (length old.routines.items) served.high old.cells rs served.below (served.called whole (one.code ++ more) before)) in
+    let has = has-behind actor rs old new whole more one.code served one.is one.routines goes in
     let size : length new.instrs.items ≡ length old.instrs.items + length one.code = ap length one.is ∙ length-append old.instrs.items one.code in
     let is_action : IsAction actor act = action-at actor actor.actions a act sound.actions e in
     let sized : LocalsSized act.locals = locals-sized act.locals (with_patterns actor act.patterns (names_of actor)) is_action.locals in

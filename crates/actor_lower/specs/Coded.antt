@@ -14,8 +14,9 @@ use Rattle.lowered_actor.specs.declared.parts.ActionCode.{ActionCode}
 use Rattle.lowered_actor.specs.declared.parts.Parts.{Parts}
 use Rattle.lowered_actor.specs.Actor as coded
 use Rattle.lowered_actor.specs.Facts.{IsLowered}
+use Rattle.action_lower.specs.declared.firing.Firing.{Firing}
 use Rattle.action_lower.specs.FiringCode.{Fires, first_on}
-use Rattle.action_lower.specs.GuardWords.{AnswerAsGuards}
+use Rattle.action_lower.specs.Guarding.{AreGuardsOf}
 use Rattle.action_lower.specs.Seats.{HoldVars}
 use Rattle.actor_tables.specs.Tables.{AreRatesOf}
 use Rattle.actor_lower.specs.Drafted.{GoesOn, starts}
@@ -40,6 +41,16 @@ FiresFrom actor a entry firsts draft =
     → has_its_tokens actor u a ≡ true → HoldVars actor x cells
     → Fires actor a act firsts whole entry x u cells
 
+-- .. and runs from these entries answer as the guards of the action: in each such state, over tokens of its ports
+abbrev pub AnswersFrom : Actor → ℕ → List ℕ → Draft → Type 0
+AnswersFrom actor a entries draft =
+    (act : Action) (whole : Code) (more : List Instr) (x : State) (u : List (List ℤ))
+    (cells : List ℤ)
+    → slice_get actor.actions a ≡ Some act → GoesOn draft whole more
+    → draft.cells ≤ length cells
+    → IsActorState actor x → AreTokensOf actor u → has_its_tokens actor u a ≡ true
+    → HoldVars actor x cells → AreGuardsOf actor a act whole x u cells act.guards entries
+
 -- the cells of what an action sends to each port are there
 abbrev pub SendsInside : Actor → ℕ → List ℕ → Draft → Type 0
 SendsInside actor a firsts draft = (act : Action) (port : ℕ) → slice_get actor.actions a ≡ Some act
@@ -53,7 +64,7 @@ AreSends actor a firsts sends = (act : Action) → slice_get actor.actions a ≡
 -- an action as code has the rates of the action, and its code stands in the draft
 pub record IsCodedAction (actor : Actor) (a : ℕ) (coded : ActionCode) (draft : Draft) : Type 0 where
   pub rates : AreRatesOf actor a coded.needs.items coded.gives.items
-  pub guards : AnswerAsGuards actor a coded.guards.items draft
+  pub guards : AnswersFrom actor a coded.guards.items draft
   pub firsts : List ℕ
   pub fires : FiresFrom actor a coded.fire firsts draft
   pub sends : AreSends actor a firsts coded.sends.items
@@ -93,6 +104,13 @@ AddsBodies entries old new = (whole : Code) (more : List Instr) (number : ℕ) (
     → GoesOn new whole more → new.cells ≤ whole.cells → length whole.routines ≤ number
     → AreBodies whole (length new.instrs.items) (number + length entries) rest
     → AreBodies whole (length old.instrs.items) number (entries ++ rest)
+
+-- Code of a firing of an action was added to a draft: it fires from its entry, is one body, and leaves what it sends in
+-- cells that are there.
+pub record PutsFiring (actor : Actor) (a : ℕ) (f : Firing) (old new : Draft) : Type 0 where
+  pub fires : FiresFrom actor a f.entry f.firsts.items new
+  pub bodies : AddsBodies (f.entry ∷ []) old new
+  pub inside : SendsInside actor a f.firsts.items new
 
 -- the code of a draft is that of its routines and of the bodies of these actions
 abbrev pub AreBodiesOf : List ActionCode → Draft → Type 0

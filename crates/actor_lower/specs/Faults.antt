@@ -24,10 +24,11 @@ actor_fault (lowering.NotLowered at) = NotLowered at
 
 -- ---- what is left out
 
--- the place of the first part of an action, its guards before the rest, for which no code is made, if the firing may call
--- these
+-- the place of the first part of an action, its guards before the rest, for which no code is made, if its guards and its
+-- firing may call these
 abbrev pub left_out_at : Routines → Bound → ℕ → Option ℕ
-left_out_at rs b a = left_out_action (actor_of b) a or_else left_out_of rs b a
+left_out_at rs b a =
+    left_out_action rs.functions (actor_of b) a or_else left_out_of rs b a
 
 -- nothing is left out of the first n actions
 abbrev pub AreWhole : Routines → Bound → ℕ → Type 0
@@ -40,13 +41,13 @@ pub record IsLeftOut (rs : Routines) (b : Bound) (at : ℕ) : Type 0 where
   pub before : AreWhole rs b action
   pub part : left_out_at rs b action ≡ Some at
 
--- .. and firings may call each function and each procedure of which no part is left out
+-- .. and actions may call each function and each procedure of which no part is left out
 pub record IsPartLeftOut (b : Bound) (at : ℕ) : Type 0 where
   pub routines : Routines
   pub settled : AreSettled (actor_of b) routines
   pub part : IsLeftOut routines b at
 
--- nothing is left out of the actions, if firings may call each function and each procedure of which nothing is
+-- nothing is left out of the actions, if they may call each function and each procedure of which nothing is
 pub record IsWhole (b : Bound) : Type 0 where
   pub routines : Routines
   pub settled : AreSettled (actor_of b) routines
@@ -66,7 +67,7 @@ IsActorFault b (NotLowered at) = IsPartLeftOut b at
 IsActorFault b TooLarge = HasCode b
 IsActorFault b NotSeen = IsWhole b × (0 < length b.actions.items)
 
--- .. of all actions, if firings may call these
+-- .. of all actions, if they may call these
 abbrev pub IsWhyActions : Routines → Bound → ActorFault → Type 0
 IsWhyActions rs b Memory = Unit {0}
 IsWhyActions rs b (NotLowered at) = IsLeftOut rs b at

@@ -4,3 +4,4 @@ pub mod Faults
 pub mod Settled
 pub mod Standing
 pub mod Fitting
+pub mod RoutineWords

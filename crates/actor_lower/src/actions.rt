@@ -4,10 +4,9 @@ ghost use Rattle.std.specs.Prelude.{◌≡◌, ◌<◌, ◌≤◌, ◌++◌, ◌
 ghost use Rattle.cal_model.specs.Sound.{IsSound};
 ghost use Rattle.cal_model.specs.View.{actor_of};
 ghost use Rattle.stmt_lower.specs.Procedures.{routines_of};
-ghost use Rattle.action_lower.specs.GuardWords.{AnswerAsGuards};
 ghost use Rattle.action_lower.specs.Seats.{state_cells};
 ghost use Rattle.actor_tables.specs.Tables.{AreRates, AreRatesOf};
-ghost use Rattle.actor_lower.specs.Coded.{AddsBodies, AreCodedActions, FiresFrom, IsCodedAction, IsMore, SendsInside, all_entries, entries_of};
+ghost use Rattle.actor_lower.specs.Coded.{AddsBodies, AnswersFrom, AreCodedActions, FiresFrom, IsCodedAction, IsMore, SendsInside, all_entries, entries_of};
 ghost use Rattle.actor_lower.specs.Drafted.{IsServed};
 ghost use Rattle.actor_lower.specs.Faults.{AreWhole, IsWhyAction, IsWhyActions, left_out_at};
 
@@ -124,7 +123,7 @@ fn lower_entries(
     requires kept { kept ≡ state_cells (actor_of b.now) }
     requires served { IsServed (actor_of b.now) (routines_of callees.now procedures.now) draft.old }
     ensures guards { IfOk result
-        (λ entries. AnswerAsGuards (actor_of b.now) action entries.guards.items draft.new) }
+        (λ entries. AnswersFrom (actor_of b.now) action entries.guards.items draft.new) }
     ensures bodies { IfOk result (λ entries.
         AddsBodies (entries.guards.items ++ entries.fire ∷ []) draft.old draft.new) }
     ensures fires { IfOk result (λ entries. FiresFrom (actor_of b.now) action entries.fire
@@ -137,7 +136,7 @@ fn lower_entries(
     ensures fault { IfErr result
         (IsWhyAction (routines_of callees.now procedures.now) b.now action) }
 {
-    let guards = lower_guards(alloc, b, action, draft)?;
+    let guards = lower_guards(alloc, b, action, callees, draft)?;
     let firing = put_firing(alloc, b, callees, procedures, kept, action, draft)?;
     Ok(Entries {
         guards,

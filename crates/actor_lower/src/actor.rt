@@ -28,9 +28,8 @@ use std::alloc::Global;
 ///
 /// `Memory` if memory runs out. All other answers say what can't be lowered yet (`fault`): `NotLowered` with the offset
 /// of the first part of a guard or a firing for which no code is made, in the first action that has one, as
-/// [`lower_guards`](action_lower::lower_guards) and [`lower_firing`](action_lower::lower_firing) say. A guard calls
-/// nothing yet, and a firing each function and each procedure of which no part is left out: a call of another one is such
-/// a part. `TooLarge` if the code has 2 to the power of 32 instructions or routines or its cells can't be counted, and
+/// [`lower_guards`](action_lower::lower_guards) and [`lower_firing`](action_lower::lower_firing) say. A guard calls each
+/// function of which no part is left out, and a firing such a procedure too: a call of another one is such a part. `TooLarge` if the code has 2 to the power of 32 instructions or routines or its cells can't be counted, and
 /// never if there are no functions, procedures and actions. `NotSeen` if code was made of all parts, but it isn't seen
 /// that it keeps the facts of a lowered actor, and never if there are no actions. The code is always admitted.
 pub fn lower(alloc: Global, b: &Bound) -> Result<Lowered, ActorFault>

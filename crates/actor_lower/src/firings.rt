@@ -5,10 +5,9 @@ ghost use Rattle.cal_model.specs.Sound.{IsSound};
 ghost use Rattle.cal_model.specs.View.{actor_of};
 ghost use Rattle.expr_lower.specs.declared.fault.LowerFault.TheVariants.{Memory};
 ghost use Rattle.stmt_lower.specs.Procedures.{routines_of};
-ghost use Rattle.action_lower.specs.FiringWords.{left_out_of};
+ghost use Rattle.action_lower.specs.FiringWords.{IsFiringFaultAt, left_out_of};
 ghost use Rattle.action_lower.specs.Seats.{state_cells};
-ghost use Rattle.action_lower.specs.SendWords.{IsSendFault};
-ghost use Rattle.actor_lower.specs.Coded.{AddsBodies, FiresFrom, IsMore, SendsInside};
+ghost use Rattle.actor_lower.specs.Coded.{IsMore, PutsFiring};
 ghost use Rattle.actor_lower.specs.Drafted.{IsServed, SetsZero};
 
 use action_lower::{Firing, lower_firing};
@@ -35,17 +34,12 @@ pub(crate) fn put_firing(
     requires action { action < length b.now.actions.items }
     requires kept { kept ≡ state_cells (actor_of b.now) }
     requires served { IsServed (actor_of b.now) (routines_of callees.now procedures.now) draft.old }
-    ensures fires { IfOk result (λ f. FiresFrom (actor_of b.now) action f.entry f.firsts.items
-        draft.new) }
-    ensures bodies { IfOk result (λ f. AddsBodies (f.entry ∷ []) draft.old draft.new) }
-    ensures inside { IfOk result (λ f. SendsInside (actor_of b.now) action f.firsts.items
-        draft.new) }
+    ensures puts { IfOk result (λ f. PutsFiring (actor_of b.now) action f draft.old draft.new) }
     ensures more { OnOk result (IsMore draft.old draft.new) }
     ensures whole { OnOk result
         (left_out_of (routines_of callees.now procedures.now) b.now action ≡ None) }
     ensures fault { IfErr result
-        (IsSendFault (left_out_of (routines_of callees.now procedures.now) b.now action)
-        draft.new) }
+        (IsFiringFaultAt callees.now procedures.now b.now action draft.new) }
 {
     let fills = may_fill(alloc, b, callees, procedures, kept, action, draft)?;
     if fills {
@@ -66,17 +60,12 @@ fn put_plain(
     requires sound { IsSound (actor_of b.now) }
     requires action { action < length b.now.actions.items }
     requires served { IsServed (actor_of b.now) (routines_of callees.now procedures.now) draft.old }
-    ensures fires { IfOk result (λ f. FiresFrom (actor_of b.now) action f.entry f.firsts.items
-        draft.new) }
-    ensures bodies { IfOk result (λ f. AddsBodies (f.entry ∷ []) draft.old draft.new) }
-    ensures inside { IfOk result (λ f. SendsInside (actor_of b.now) action f.firsts.items
-        draft.new) }
+    ensures puts { IfOk result (λ f. PutsFiring (actor_of b.now) action f draft.old draft.new) }
     ensures more { OnOk result (IsMore draft.old draft.new) }
     ensures whole { OnOk result
         (left_out_of (routines_of callees.now procedures.now) b.now action ≡ None) }
     ensures fault { IfErr result
-        (IsSendFault (left_out_of (routines_of callees.now procedures.now) b.now action)
-        draft.new) }
+        (IsFiringFaultAt callees.now procedures.now b.now action draft.new) }
 {
     let firing = lower_firing(alloc, b, action, callees, procedures, draft)?;
     Ok(firing)
@@ -96,17 +85,12 @@ fn put_cleared(
     requires action { action < length b.now.actions.items }
     requires kept { kept ≡ state_cells (actor_of b.now) }
     requires served { IsServed (actor_of b.now) (routines_of callees.now procedures.now) draft.old }
-    ensures fires { IfOk result (λ f. FiresFrom (actor_of b.now) action f.entry f.firsts.items
-        draft.new) }
-    ensures bodies { IfOk result (λ f. AddsBodies (f.entry ∷ []) draft.old draft.new) }
-    ensures inside { IfOk result (λ f. SendsInside (actor_of b.now) action f.firsts.items
-        draft.new) }
+    ensures puts { IfOk result (λ f. PutsFiring (actor_of b.now) action f draft.old draft.new) }
     ensures more { OnOk result (IsMore draft.old draft.new) }
     ensures whole { OnOk result
         (left_out_of (routines_of callees.now procedures.now) b.now action ≡ None) }
     ensures fault { IfErr result
-        (IsSendFault (left_out_of (routines_of callees.now procedures.now) b.now action)
-        draft.new) }
+        (IsFiringFaultAt callees.now procedures.now b.now action draft.new) }
 {
     let entry = next_place(draft)?;
     put(draft, Instr::Zero(0, 0))?;

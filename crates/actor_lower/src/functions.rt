@@ -1,15 +1,15 @@
 //! The functions of an actor as routines.
 
 ghost use Rattle.std.specs.Prelude.{◌≡◌, [], ℕ, ◌<◌, IfErr, IfOk, None, OnOk, Some, false, length, slice_get, true};
-ghost use Rattle.cal_model.specs.Actor.{Fun as Of};
 ghost use Rattle.cal_model.specs.Sound.{IsSound};
-ghost use Rattle.cal_model.specs.View.{actor_of, fun_view};
+ghost use Rattle.cal_model.specs.View.{actor_of};
 ghost use Rattle.expr_lower.specs.Callees.{functions_view};
 ghost use Rattle.expr_lower.specs.Names.{names_view};
-ghost use Rattle.expr_lower.specs.Routining.{left_out_fun};
 ghost use Rattle.action_lower.specs.FiringCode.{globals_of};
-ghost use Rattle.actor_lower.specs.Drafted.{AddsFunction, FunctionsSoFar, HasFunctionAt, HoldsFunctions, IsWholeFunction, NoFunctionMore};
+ghost use Rattle.actor_lower.specs.Drafted.{HoldsFunctions};
 ghost use Rattle.actor_lower.specs.Faults.{IsFaultOfMany, IsRoutineFault};
+ghost use Rattle.actor_lower.specs.RoutineWords.{AddsFun, IsNextFunction, IsPartialFun, IsPartialFunAt, IsWholeFun};
+ghost use Rattle.actor_lower.specs.RoutineWords.{IsWholeFunAt, MadeFunctions, NoFunctionLeft};
 ghost use Rattle.actor_lower.specs.Settled.{AllFunctions, AreFunctions};
 
 use crate::fault::ActorFault;
@@ -68,13 +68,11 @@ fn lower_left(
 ) -> Result<(), ActorFault>
     requires sound { IsSound (actor_of b.now) }
     requires names { names_view names.now ≡ globals_of (actor_of b.now) }
-    requires so_far { FunctionsSoFar (actor_of b.now) (functions_view callees.old.items)
-        left.old.items draft.old }
+    requires so_far { MadeFunctions b.now callees.old.items left.old.items draft.old }
     ensures so_far { OnOk result
-        (FunctionsSoFar (actor_of b.now) (functions_view callees.new.items) left.new.items
-        draft.new) }
+        (MadeFunctions b.now callees.new.items left.new.items draft.new) }
     ensures none { OnOk result
-        (NoFunctionMore (actor_of b.now) (functions_view callees.new.items) left.new.items) }
+        (NoFunctionLeft b.now callees.new.items left.new.items) }
     ensures fault { IfErr result IsRoutineFault }
 {
     let found = first_whole(alloc, b, names, callees, left)?;
@@ -97,9 +95,9 @@ fn first_whole(
 ) -> Result<Option<usize>, ActorFault>
     requires names { names_view names.now ≡ globals_of (actor_of b.now) }
     ensures some { IfOk result (λ found. (place : ℕ) → found ≡ Some place
-        → IsWholeFunction (actor_of b.now) (functions_view callees.now) left.now place) }
+        → IsNextFunction b.now callees.now left.now place) }
     ensures none { IfOk result (λ found. found ≡ None
-        → NoFunctionMore (actor_of b.now) (functions_view callees.now) left.now) }
+        → NoFunctionLeft b.now callees.now left.now) }
     ensures fault { IfErr result IsRoutineFault }
 {
     for place in 0..left.len() {
@@ -121,11 +119,9 @@ fn is_whole_at(
 ) -> Result<bool, ActorFault>
     requires names { names_view names.now ≡ globals_of (actor_of b.now) }
     ensures yes { IfOk result (λ whole. whole ≡ true
-        → HasFunctionAt (actor_of b.now) (functions_view callees.now) k) }
-    ensures no { IfOk result (λ whole. whole ≡ false → (f : Of)
-        → slice_get (actor_of b.now).funs k ≡ Some f
-        → (at : ℕ) × left_out_fun (functions_view callees.now) (globals_of (actor_of b.now)) f ≡
-        Some at) }
+        → IsWholeFunAt b.now callees.now k) }
+    ensures no { IfOk result (λ whole. whole ≡ false
+        → IsPartialFunAt b.now callees.now k) }
     ensures fault { IfErr result IsRoutineFault }
 {
     match b.funs.get(k) {
@@ -142,11 +138,9 @@ fn is_whole(
     f: &BoundFun,
 ) -> Result<bool, ActorFault>
     ensures yes { IfOk result (λ whole. whole ≡ true
-        → left_out_fun (functions_view callees.now) (names_view names.now) (fun_view f.now) ≡
-        None) }
+        → IsWholeFun names.now callees.now f.now) }
     ensures no { IfOk result (λ whole. whole ≡ false
-        → (at : ℕ) × left_out_fun (functions_view callees.now) (names_view names.now)
-        (fun_view f.now) ≡ Some at) }
+        → IsPartialFun names.now callees.now f.now) }
     ensures fault { IfErr result IsRoutineFault }
 {
     let mut trial = Draft {
@@ -175,13 +169,10 @@ fn lower_at(
 ) -> Result<(), ActorFault>
     requires sound { IsSound (actor_of b.now) }
     requires names { names_view names.now ≡ globals_of (actor_of b.now) }
-    requires so_far { FunctionsSoFar (actor_of b.now) (functions_view callees.old.items)
-        left.old.items draft.old }
-    requires whole { IsWholeFunction (actor_of b.now) (functions_view callees.old.items)
-        left.old.items place }
+    requires so_far { MadeFunctions b.now callees.old.items left.old.items draft.old }
+    requires whole { IsNextFunction b.now callees.old.items left.old.items place }
     ensures so_far { OnOk result
-        (FunctionsSoFar (actor_of b.now) (functions_view callees.new.items) left.new.items
-        draft.new) }
+        (MadeFunctions b.now callees.new.items left.new.items draft.new) }
     ensures fewer { OnOk result (length left.new.items < length left.old.items) }
     ensures fault { IfErr result IsRoutineFault }
 {
@@ -197,10 +188,9 @@ fn add_function(
     f: &BoundFun,
     draft: &mut Draft,
 ) -> Result<(), ActorFault>
-    requires whole { left_out_fun (functions_view callees.old.items) (names_view names.now)
-        (fun_view f.now) ≡ None }
-    ensures added { OnOk result (AddsFunction (names_view names.now) (fun_view f.now)
-        (functions_view callees.old.items) (functions_view callees.new.items) draft.old draft.new) }
+    requires whole { IsWholeFun names.now callees.old.items f.now }
+    ensures added { OnOk result (AddsFun names.now f.now callees.old.items callees.new.items
+        draft.old draft.new) }
     ensures fault { IfErr result IsRoutineFault }
 {
     if draft.routines.len() >= u32::MAX as usize {

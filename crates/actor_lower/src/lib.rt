@@ -12,7 +12,6 @@ mod code;
 mod fault;
 mod firings;
 mod functions;
-mod globals;
 pub mod laws;
 mod procedures;
 mod routines;

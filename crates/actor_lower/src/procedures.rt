@@ -1,17 +1,16 @@
 //! The procedures of an actor as routines.
 
-ghost use Rattle.std.specs.Prelude.{◌≡◌, [], ℕ, ◌<◌, IfErr, IfOk, None, OnOk, Some, false, length, slice_get, true};
-ghost use Rattle.cal_model.specs.Actor.{Proc as Of};
+ghost use Rattle.std.specs.Prelude.{◌≡◌, [], ℕ, ◌<◌, IfErr, IfOk, None, OnOk, Some, false, length, true};
 ghost use Rattle.cal_model.specs.Sound.{IsSound};
-ghost use Rattle.cal_model.specs.View.{actor_of, proc_view};
+ghost use Rattle.cal_model.specs.View.{actor_of};
 ghost use Rattle.expr_lower.specs.Callees.{functions_view};
 ghost use Rattle.expr_lower.specs.Names.{names_view};
-ghost use Rattle.stmt_lower.specs.Proceeding.{left_out_proc};
-ghost use Rattle.stmt_lower.specs.Procedures.{procedures_view};
 ghost use Rattle.action_lower.specs.FiringCode.{globals_of};
-ghost use Rattle.actor_lower.specs.Drafted.{AddsProcedure, HasProcedureAt, HoldsProcedures, IsWholeProcedure, NoProcedureMore, ProceduresSoFar};
+ghost use Rattle.actor_lower.specs.Drafted.{HoldsProcedures};
 ghost use Rattle.actor_lower.specs.Faults.{IsFaultOfMany, IsRoutineFault};
-ghost use Rattle.actor_lower.specs.Settled.{AllProcedures, AreProcedures, calling};
+ghost use Rattle.actor_lower.specs.RoutineWords.{AddsProc, AreAllProcedures, AreInOrder, HoldsRoutinesOf, IsNextProcedure};
+ghost use Rattle.actor_lower.specs.RoutineWords.{IsPartialProc, IsPartialProcAt, IsWholeProc, IsWholeProcAt};
+ghost use Rattle.actor_lower.specs.RoutineWords.{MadeProcedures, NoProcedureLeft};
 
 use crate::fault::ActorFault;
 use crate::functions::all_numbers;
@@ -32,14 +31,11 @@ pub(crate) fn lower_procedures(
     requires names { names_view names.now ≡ globals_of (actor_of b.now) }
     requires none { HoldsProcedures (actor_of b.now) (functions_view callees.now) [] draft.old }
     ensures holds { IfOk result (λ procedures.
-        HoldsProcedures (actor_of b.now) (functions_view callees.now)
-        (procedures_view procedures.items) draft.new) }
+        HoldsRoutinesOf b.now callees.now procedures.items draft.new) }
     ensures are { IfOk result (λ procedures.
-        AreProcedures (actor_of b.now) (functions_view callees.now)
-        (procedures_view procedures.items)) }
+        AreInOrder b.now callees.now procedures.items) }
     ensures all { IfOk result (λ procedures.
-        AllProcedures (actor_of b.now) (functions_view callees.now)
-        (procedures_view procedures.items)) }
+        AreAllProcedures b.now callees.now procedures.items) }
     ensures fault { IfErr result (IsFaultOfMany (length b.now.procs.items)) }
 {
     let mut procedures = Vec::new(alloc);
@@ -63,14 +59,12 @@ fn lower_left(
 ) -> Result<(), ActorFault>
     requires sound { IsSound (actor_of b.now) }
     requires names { names_view names.now ≡ globals_of (actor_of b.now) }
-    requires so_far { ProceduresSoFar (actor_of b.now) (functions_view callees.now)
-        (procedures_view procedures.old.items) left.old.items draft.old }
+    requires so_far { MadeProcedures b.now callees.now procedures.old.items left.old.items
+        draft.old }
     ensures so_far { OnOk result
-        (ProceduresSoFar (actor_of b.now) (functions_view callees.now)
-        (procedures_view procedures.new.items) left.new.items draft.new) }
+        (MadeProcedures b.now callees.now procedures.new.items left.new.items draft.new) }
     ensures none { OnOk result
-        (NoProcedureMore (actor_of b.now) (functions_view callees.now)
-        (procedures_view procedures.new.items) left.new.items) }
+        (NoProcedureLeft b.now callees.now procedures.new.items left.new.items) }
     ensures fault { IfErr result IsRoutineFault }
 {
     let found = first_whole(alloc, b, names, callees, procedures, left)?;
@@ -94,11 +88,9 @@ fn first_whole(
 ) -> Result<Option<usize>, ActorFault>
     requires names { names_view names.now ≡ globals_of (actor_of b.now) }
     ensures some { IfOk result (λ found. (place : ℕ) → found ≡ Some place
-        → IsWholeProcedure (actor_of b.now) (functions_view callees.now)
-        (procedures_view procedures.now) left.now place) }
+        → IsNextProcedure b.now callees.now procedures.now left.now place) }
     ensures none { IfOk result (λ found. found ≡ None
-        → NoProcedureMore (actor_of b.now) (functions_view callees.now)
-        (procedures_view procedures.now) left.now) }
+        → NoProcedureLeft b.now callees.now procedures.now left.now) }
     ensures fault { IfErr result IsRoutineFault }
 {
     for place in 0..left.len() {
@@ -121,12 +113,9 @@ fn is_whole_at(
 ) -> Result<bool, ActorFault>
     requires names { names_view names.now ≡ globals_of (actor_of b.now) }
     ensures yes { IfOk result (λ whole. whole ≡ true
-        → HasProcedureAt (actor_of b.now) (functions_view callees.now)
-        (procedures_view procedures.now) k) }
-    ensures no { IfOk result (λ whole. whole ≡ false → (p : Of)
-        → slice_get (actor_of b.now).procs k ≡ Some p
-        → (at : ℕ) × left_out_proc (calling (functions_view callees.now)
-        (procedures_view procedures.now)) (globals_of (actor_of b.now)) p ≡ Some at) }
+        → IsWholeProcAt b.now callees.now procedures.now k) }
+    ensures no { IfOk result (λ whole. whole ≡ false
+        → IsPartialProcAt b.now callees.now procedures.now k) }
     ensures fault { IfErr result IsRoutineFault }
 {
     match b.procs.get(k) {
@@ -144,11 +133,9 @@ fn is_whole(
     p: &BoundProc,
 ) -> Result<bool, ActorFault>
     ensures yes { IfOk result (λ whole. whole ≡ true
-        → left_out_proc (calling (functions_view callees.now) (procedures_view procedures.now))
-        (names_view names.now) (proc_view p.now) ≡ None) }
+        → IsWholeProc names.now callees.now procedures.now p.now) }
     ensures no { IfOk result (λ whole. whole ≡ false
-        → (at : ℕ) × left_out_proc (calling (functions_view callees.now)
-        (procedures_view procedures.now)) (names_view names.now) (proc_view p.now) ≡ Some at) }
+        → IsPartialProc names.now callees.now procedures.now p.now) }
     ensures fault { IfErr result IsRoutineFault }
 {
     let mut trial = Draft {
@@ -178,14 +165,12 @@ fn lower_at(
 ) -> Result<(), ActorFault>
     requires sound { IsSound (actor_of b.now) }
     requires names { names_view names.now ≡ globals_of (actor_of b.now) }
-    requires so_far { ProceduresSoFar (actor_of b.now) (functions_view callees.now)
-        (procedures_view procedures.old.items) left.old.items draft.old }
-    requires whole { IsWholeProcedure (actor_of b.now) (functions_view callees.now)
-        (procedures_view procedures.old.items)
-        left.old.items place }
+    requires so_far { MadeProcedures b.now callees.now procedures.old.items left.old.items
+        draft.old }
+    requires whole { IsNextProcedure b.now callees.now procedures.old.items left.old.items
+        place }
     ensures so_far { OnOk result
-        (ProceduresSoFar (actor_of b.now) (functions_view callees.now)
-        (procedures_view procedures.new.items) left.new.items draft.new) }
+        (MadeProcedures b.now callees.now procedures.new.items left.new.items draft.new) }
     ensures fewer { OnOk result (length left.new.items < length left.old.items) }
     ensures fault { IfErr result IsRoutineFault }
 {
@@ -202,12 +187,9 @@ fn add_procedure(
     p: &BoundProc,
     draft: &mut Draft,
 ) -> Result<(), ActorFault>
-    requires whole { left_out_proc (calling (functions_view callees.now)
-        (procedures_view procedures.old.items)) (names_view names.now) (proc_view p.now) ≡ None }
-    ensures added { OnOk result (AddsProcedure (names_view names.now) (functions_view callees.now)
-        (proc_view p.now)
-        (procedures_view procedures.old.items) (procedures_view procedures.new.items) draft.old
-        draft.new) }
+    requires whole { IsWholeProc names.now callees.now procedures.old.items p.now }
+    ensures added { OnOk result (AddsProc names.now callees.now p.now procedures.old.items
+        procedures.new.items draft.old draft.new) }
     ensures fault { IfErr result IsRoutineFault }
 {
     if draft.routines.len() >= u32::MAX as usize {

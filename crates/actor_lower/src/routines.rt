@@ -11,8 +11,8 @@ ghost use Rattle.actor_lower.specs.Settled.{AreSettled};
 
 use crate::fault::ActorFault;
 use crate::functions::lower_functions;
-use crate::globals::global_names;
 use crate::procedures::lower_procedures;
+use action_lower::global_names;
 use cal_model::Bound;
 use expr_lower::{Callee, Draft};
 use std::alloc::Global;

@@ -160,4 +160,6 @@ apart_adds fs names e place t many size each first at c old d0 d1 d2 d3 new is e
 pub unless_some : (o : Option ℕ) (n : ℕ) → unless_none o ≡ Some n → (o ≡ Some n) × (0 < n)
 unless_some None n e = cc
 unless_some (Some zero) n e = cc
-unless_some (Some (suc k)) n e = let is : Some (suc k) ≡ Some n = e in let same : suc k ≡ n = cc in (ap Some same, omega (arith, same))
+unless_some (Some (suc k)) n e =
+    let same : suc k ≡ n = ap (λ o. elim o [ None ↦ 0 | Some x ↦ x ]) e in
+    (ap Some same, omega (arith, same))

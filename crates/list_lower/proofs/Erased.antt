@@ -1,5 +1,5 @@
 -- Which cells names have doesn't matter to what is left out of lists.
-use Rattle.std.proofs.Common.{◌≡◌, ◌≢◌, ℕ, List, ◌∷◌, map, true, false, refl, sym, ap, ◌∙◌, Option, None, Some, arith}
+use Rattle.std.proofs.Common.{◌≡◌, ◌≢◌, ℕ, List, ◌∷◌, map, true, false, refl, sym, subst, ap, ◌∙◌, Option, None, Some, arith}
 use Rattle.std.proofs.lemmas.Bool.Decides.{nat_tests}
 use Rattle.std.specs.Prelude.{if◌then◌else◌, nat_eq}
 use Rattle.rvc_base.specs.declared.scalar.Scalar.{Scalar}
@@ -16,7 +16,7 @@ use Rattle.expr_lower.proofs.Erased.{element_same, erase, gens_erased, inside_ge
 pub use Rattle.expr_lower.proofs.Erased.{fill_erased, fills_erased}
 use Rattle.list_lower.specs.Filling.{alike}
 use Rattle.expr_lower.specs.Generators.{Counted, counted_by, how_many}
-use Rattle.list_lower.specs.LeftOut.{first_cell, left_out_element, left_out_fill, left_out_fills, left_out_gens, left_out_many, left_out_single}
+use Rattle.list_lower.specs.LeftOut.{first_cell, left_out_element, left_out_fill, left_out_fills, left_out_gens, left_out_many, left_out_part, left_out_single}
 
 -- in any cell the variable of a generator leaves out the same
 pub any_cell : (fs : List Function) (names : List Name) (text : List ℕ) (t : Scalar) (c : ℕ) (items : Shape) (item gens : Tree)
@@ -46,3 +46,9 @@ pub many_not : (n k at : ℕ) (items : Shape) (f : Shape → Option ℕ) → k �
 many_not n k at items f other =
     let differ : nat_eq k n ≡ false = grind (arith, nat_tests, other) in
     ap (λ b. if b then f items else Some at) differ
+
+-- what is left out of an index, where a list is meant
+pub index_left : (fs : List Function) (names : List Name) (t items : Shape) (n : ℕ) (base place : Tree) (at : ℕ) → t ≡ Many n items
+    → left_out_part fs names t base place at ≡ left_out_fill fs names t (tree.index base place at)
+index_left fs names t items n base place at e =
+    subst (λ u. left_out_part fs names u base place at ≡ left_out_fill fs names u (tree.index base place at)) (sym e) refl

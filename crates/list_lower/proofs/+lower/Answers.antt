@@ -32,7 +32,7 @@ use Rattle.list_lower.specs.Filling.{AreFills, IsFill, in_parens, one_cell}
 use Rattle.expr_lower.specs.Generators.{how_many}
 use Rattle.list_lower.specs.LeftOut.{left_out_element, left_out_fill, left_out_fills, left_out_gens, left_out_many}
 use Rattle.list_lower.proofs.Adding.{all_count, choice_adds, comp_adds, each_adds, items_add, list_element_adds, more_add, none_add, one_many, one_adds, part_adds}
-use Rattle.list_lower.proofs.Erased.{each_left, many_left, many_not}
+use Rattle.list_lower.proofs.Erased.{each_left, index_left, many_left, many_not}
 use Rattle.list_lower.proofs.Weights.{weight}
 use Rattle.expr_lower.proofs.Coded.{grows_test}
 use Rattle.list_lower.proofs.Filled.{grows_fill}
@@ -198,6 +198,12 @@ lists::fill_all-returns-clause-ok t c =
     (λ h. subst (λ xs. Adds (AreFills (called c.args.scope.now) (seen c.args.scope.now) (listed xs) (shape_view c.args.shape.now) c.args.cell) c.args.draft.now c.fill_all.new.draft) (sym opened)
     (more_add (called c.args.scope.now) (seen c.args.scope.now) (expr_tree c.in-Some.first.now) (listed (map expr_tree c.in-Some.rest.now)) (shape_view c.args.shape.now) c.args.cell c.args.each c.args.draft.now c.fill.new.draft c.fill_all.new.draft c.requires.size c.in_ok-fill.ensures.ok h))
     c.fill_all.ensures.ok
+
+pub lists::fill_choice-fill-requires : goal.lists::fill_choice-fill-requires
+lists::fill_choice-fill-requires t c =
+    let first = grows_test (c.in_ok-lower_test.ensures.ok.has 0) in
+    let enough = c.requires.cells.2 in
+    (omega arith, (c.requires.cells.0, c.requires.cells.1, omega (arith, first, enough)))
 
 pub lists::fill_choice-fill-requires-2 : goal.lists::fill_choice-fill-requires-2
 lists::fill_choice-fill-requires-2 t c =
@@ -388,6 +394,18 @@ lists::one_element-returns-clause-ok t c = λ t.
     (one_adds (called c.args.scope.now) (seen c.args.scope.now) (expr_tree c.args.item.now) t c.args.to c.args.draft.now c.put_all.new.draft c.lower.new.draft c.put.new.draft c.put_more.new.draft
     c.requires.turn c.in_ok-put_all.ensures.added c.in_ok-lower.ensures.ok c.in_ok-put.ensures.added)
     c.put_more.ensures.added
+
+pub lists::index-returns-in-List-clause-whole : goal.lists::index-returns-in-List-clause-whole
+lists::index-returns-in-List-clause-whole t c =
+    let shaped : shape_view c.args.shape.now ≡ Many c.in-List.field-0 (shape_view c.in-List.field-1.value) = search (rules, shapes.the_lemmas) in
+    subst (λ o. OnOk c.part.result (o ≡ None)) (index_left (called c.args.scope.now) (seen c.args.scope.now) (shape_view c.args.shape.now) (shape_view c.in-List.field-1.value) c.in-List.field-0 (expr_tree c.args.base.now) (expr_tree c.args.place.now) c.args.at shaped)
+    c.part.ensures.whole
+
+pub lists::index-returns-in-List-clause-fault : goal.lists::index-returns-in-List-clause-fault
+lists::index-returns-in-List-clause-fault t c =
+    let shaped : shape_view c.args.shape.now ≡ Many c.in-List.field-0 (shape_view c.in-List.field-1.value) = search (rules, shapes.the_lemmas) in
+    subst (λ o. IfErr c.part.result (IsFault o c.part.new.draft)) (index_left (called c.args.scope.now) (seen c.args.scope.now) (shape_view c.args.shape.now) (shape_view c.in-List.field-1.value) c.in-List.field-0 (expr_tree c.args.base.now) (expr_tree c.args.place.now) c.args.at shaped)
+    c.part.ensures.fault
 
 pub lists::part-returns-clause-ok : goal.lists::part-returns-clause-ok
 lists::part-returns-clause-ok t c =

@@ -2,6 +2,7 @@ use Rattle.std.proofs.Common.{◌≡◌, ◌∙◌, ap, map, subst, sym}
 use Rattle.std.proofs.lemmas.Result.{IfErr-weaker, IfOk-weaker, on_ok_weaker}
 use Rattle.cal_ast.specs.View.{expr_tree}
 use Rattle.cal_model.specs.View.{action_view, actor_of}
+use Rattle.expr_lower.specs.Callees.{functions_view}
 use Rattle.expr_lower.specs.Growing.{IsFault}
 use Rattle.expr_lower.specs.Held.{AreBelow}
 use Rattle.expr_lower.specs.Names.{names_view}
@@ -30,10 +31,10 @@ returns-clause-code c =
     let names : names_view c.deref.result.now ≡ seen_seats (actor_of c.args.b.now) (action_view c.index-act.result.now) = ap names_view c.deref.ensures.value ∙ c.in_ok-names.ensures in
     let guards : map expr_tree c.deref-2.result.now ≡ (action_view c.index-act.result.now).guards = ap (map expr_tree) c.deref-2.ensures.value in
     IfOk-weaker c.put_guards.result
-    (λ entries. Adds (AreGuards (names_view c.deref.result.now) (map expr_tree c.deref-2.result.now) entries.items) c.args.draft.now c.put_guards.new.draft)
-    (λ entries. AddsGuards (actor_of c.args.b.now) c.args.a entries.items c.args.draft.now c.put_guards.new.draft)
+    (λ entries. Adds (AreGuards (functions_view c.args.callees.now) (names_view c.deref.result.now) (map expr_tree c.deref-2.result.now) entries.items) c.args.draft.now c.put_guards.new.draft)
+    (λ entries. AddsGuards (functions_view c.args.callees.now) (actor_of c.args.b.now) c.args.a entries.items c.args.draft.now c.put_guards.new.draft)
     (λ entries. adds-guards c.args.b.now c.args.a c.from.result c.index-act.result.now c.from.ensures c.requires.action c.index-act.ensures
-    (names_view c.deref.result.now) (map expr_tree c.deref-2.result.now) names guards entries.items c.args.draft.now c.put_guards.new.draft)
+    (functions_view c.args.callees.now) (names_view c.deref.result.now) (map expr_tree c.deref-2.result.now) names guards entries.items c.args.draft.now c.put_guards.new.draft)
     c.put_guards.ensures.code
 
 pub returns-clause-answers : goal.returns-clause-answers
@@ -41,11 +42,11 @@ returns-clause-answers c =
     let names : names_view c.deref.result.now ≡ seen_seats (actor_of c.args.b.now) (action_view c.index-act.result.now) = ap names_view c.deref.ensures.value ∙ c.in_ok-names.ensures in
     let guards : map expr_tree c.deref-2.result.now ≡ (action_view c.index-act.result.now).guards = ap (map expr_tree) c.deref-2.ensures.value in
     IfOk-weaker c.put_guards.result
-    (λ entries. Adds (AreGuards (names_view c.deref.result.now) (map expr_tree c.deref-2.result.now) entries.items) c.args.draft.now c.put_guards.new.draft)
-    (λ entries. AnswerAsGuards (actor_of c.args.b.now) c.args.a entries.items c.put_guards.new.draft)
-    (λ entries added act code more is whole. answer-as-guards c.actions_fire_or_trap.ensures.guards (actor_of c.args.b.now) c.args.a act code entries.items more c.args.draft.now c.put_guards.new.draft c.requires.sound is c.requires.cells
+    (λ entries. Adds (AreGuards (functions_view c.args.callees.now) (names_view c.deref.result.now) (map expr_tree c.deref-2.result.now) entries.items) c.args.draft.now c.put_guards.new.draft)
+    (λ entries. AnswerAsGuards (functions_view c.args.callees.now) (actor_of c.args.b.now) c.args.a entries.items c.args.draft.now c.put_guards.new.draft)
+    (λ entries added act code more is whole. answer-as-guards c.actions_fire_or_trap.ensures.guards (functions_view c.args.callees.now) (actor_of c.args.b.now) c.args.a act code entries.items more c.args.draft.now c.put_guards.new.draft c.requires.sound is c.requires.cells
     (adds-guards c.args.b.now c.args.a c.from.result c.index-act.result.now c.from.ensures c.requires.action c.index-act.ensures
-    (names_view c.deref.result.now) (map expr_tree c.deref-2.result.now) names guards entries.items c.args.draft.now c.put_guards.new.draft added act is) whole)
+    (functions_view c.args.callees.now) (names_view c.deref.result.now) (map expr_tree c.deref-2.result.now) names guards entries.items c.args.draft.now c.put_guards.new.draft added act is) whole)
     c.put_guards.ensures.code
 
 pub returns-clause-whole : goal.returns-clause-whole
@@ -54,7 +55,7 @@ returns-clause-whole c =
     let guards : map expr_tree c.deref-2.result.now ≡ (action_view c.index-act.result.now).guards = ap (map expr_tree) c.deref-2.ensures.value in
     on_ok_weaker c.put_guards.result
     (λ e. left-out c.args.b.now c.args.a c.from.result c.index-act.result.now c.from.ensures c.requires.action c.index-act.ensures
-    (names_view c.deref.result.now) (map expr_tree c.deref-2.result.now) names guards ∙ e)
+    (functions_view c.args.callees.now) (names_view c.deref.result.now) (map expr_tree c.deref-2.result.now) names guards ∙ e)
     c.put_guards.ensures.whole
 
 pub returns-clause-fault : goal.returns-clause-fault
@@ -62,5 +63,5 @@ returns-clause-fault c =
     let names : names_view c.deref.result.now ≡ seen_seats (actor_of c.args.b.now) (action_view c.index-act.result.now) = ap names_view c.deref.ensures.value ∙ c.in_ok-names.ensures in
     let guards : map expr_tree c.deref-2.result.now ≡ (action_view c.index-act.result.now).guards = ap (map expr_tree) c.deref-2.ensures.value in
     let e = left-out c.args.b.now c.args.a c.from.result c.index-act.result.now c.from.ensures c.requires.action c.index-act.ensures
-    (names_view c.deref.result.now) (map expr_tree c.deref-2.result.now) names guards in
-    IfErr-weaker c.put_guards.result (IsFault (left_out_guards (names_view c.deref.result.now) (map expr_tree c.deref-2.result.now)) c.put_guards.new.draft) (IsFault (left_out_action (actor_of c.args.b.now) c.args.a) c.put_guards.new.draft) (λ fault h. subst (λ o. IsFault o c.put_guards.new.draft fault) (sym e) h) c.put_guards.ensures.fault
+    (functions_view c.args.callees.now) (names_view c.deref.result.now) (map expr_tree c.deref-2.result.now) names guards in
+    IfErr-weaker c.put_guards.result (IsFault (left_out_guards (functions_view c.args.callees.now) (names_view c.deref.result.now) (map expr_tree c.deref-2.result.now)) c.put_guards.new.draft) (IsFault (left_out_action (functions_view c.args.callees.now) (actor_of c.args.b.now) c.args.a) c.put_guards.new.draft) (λ fault h. subst (λ o. IsFault o c.put_guards.new.draft fault) (sym e) h) c.put_guards.ensures.fault

@@ -1,8 +1,9 @@
 use Rattle.std.proofs.Common.{map, take}
 use Rattle.cal_ast.specs.View.{expr_tree}
+use Rattle.expr_lower.specs.Callees.{functions_view}
 use Rattle.expr_lower.specs.Names.{names_view}
 use Rattle.action_lower.proofs.GuardCode.{AreAdded}
 use Rattle.action_lower.proofs.guards.put_guards.Given as goal
 
 abbrev pub invariant-loop-guard : goal.invariant-loop-guard
-invariant-loop-guard l = AreAdded (names_view l.names) (map expr_tree (take l.guard-index l.guards)) l.entries.items l.initial.draft l.draft
+invariant-loop-guard l = AreAdded (functions_view l.callees) (names_view l.names) (map expr_tree (take l.guard-index l.guards)) l.entries.items l.initial.draft l.draft

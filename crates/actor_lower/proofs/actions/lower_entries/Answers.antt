@@ -1,9 +1,10 @@
 use Rattle.std.proofs.Common.{◌++◌, ◌∷◌, [], arith}
 use Rattle.cal_model.specs.View.{actor_of}
+use Rattle.expr_lower.specs.Callees.{functions_view}
 use Rattle.stmt_lower.specs.Procedures.{routines_of}
-use Rattle.actor_lower.specs.Coded.{AddsBodies, IsMore}
+use Rattle.actor_lower.specs.Coded.{AddsBodies, AnswersFrom, IsMore}
 use Rattle.actor_lower.specs.Drafted.{IsServed}
-use Rattle.actor_lower.proofs.Extending.{more-again, served-more}
+use Rattle.actor_lower.proofs.Extending.{answers-from, answers-more, more-again, served-more}
 use Rattle.actor_lower.proofs.Placed.{guards-alone, guards-grown}
 use Rattle.actor_lower.proofs.Rowed.{bodies-join}
 use Rattle.actor_lower.proofs.actions.lower_entries.Goals as goal
@@ -13,7 +14,7 @@ lower_guards-requires-clause-cells c = let low = c.requires.served.state in let 
 
 pub put_firing-requires-clause-served : goal.put_firing-requires-clause-served
 put_firing-requires-clause-served c =
-    let more : IsMore c.args.draft.now c.lower_guards.new.draft = guards-grown c.args.b.now c.args.action c.requires.action c.in_ok-guards.guards.items c.args.draft.now c.lower_guards.new.draft c.in_ok-guards.ensures.code in
+    let more : IsMore c.args.draft.now c.lower_guards.new.draft = guards-grown c.args.b.now c.args.action c.requires.action (functions_view c.args.callees.now) c.in_ok-guards.guards.items c.args.draft.now c.lower_guards.new.draft c.in_ok-guards.ensures.code in
     let served : IsServed (actor_of c.args.b.now) (routines_of c.args.callees.now c.args.procedures.now) c.lower_guards.new.draft =
     served-more (actor_of c.args.b.now) (routines_of c.args.callees.now c.args.procedures.now) c.args.draft.now c.lower_guards.new.draft more c.requires.served in
     served
@@ -22,12 +23,20 @@ pub returns-clause-more : goal.returns-clause-more
 returns-clause-more c =
     let made : IsMore c.args.draft.now c.put_firing.new.draft =
     more-again c.args.draft.now c.lower_guards.new.draft c.put_firing.new.draft
-    (guards-grown c.args.b.now c.args.action c.requires.action c.in_ok-guards.guards.items c.args.draft.now c.lower_guards.new.draft c.in_ok-guards.ensures.code) c.in_ok-firing.ensures.more in
+    (guards-grown c.args.b.now c.args.action c.requires.action (functions_view c.args.callees.now) c.in_ok-guards.guards.items c.args.draft.now c.lower_guards.new.draft c.in_ok-guards.ensures.code) c.in_ok-firing.ensures.more in
     made
 
 pub returns-clause-bodies : goal.returns-clause-bodies
 returns-clause-bodies c =
     let made : AddsBodies (c.in_ok-guards.guards.items ++ c.in_ok-firing.firing.entry ∷ []) c.args.draft.now c.put_firing.new.draft =
     bodies-join c.in_ok-guards.guards.items (c.in_ok-firing.firing.entry ∷ []) c.args.draft.now c.lower_guards.new.draft c.put_firing.new.draft c.in_ok-firing.ensures.more
-    (guards-alone c.args.b.now c.args.action c.requires.action c.in_ok-guards.guards.items c.args.draft.now c.lower_guards.new.draft c.in_ok-guards.ensures.code) c.in_ok-firing.ensures.bodies in
+    (guards-alone c.args.b.now c.args.action c.requires.action (routines_of c.args.callees.now c.args.procedures.now) c.in_ok-guards.guards.items c.args.draft.now c.lower_guards.new.draft c.requires.served c.in_ok-guards.ensures.code) c.in_ok-firing.ensures.puts.bodies in
+    made
+
+pub returns-clause-guards : goal.returns-clause-guards
+returns-clause-guards c =
+    let more : IsMore c.args.draft.now c.lower_guards.new.draft = guards-grown c.args.b.now c.args.action c.requires.action (functions_view c.args.callees.now) c.in_ok-guards.guards.items c.args.draft.now c.lower_guards.new.draft c.in_ok-guards.ensures.code in
+    let made : AnswersFrom (actor_of c.args.b.now) c.args.action c.in_ok-guards.guards.items c.put_firing.new.draft =
+    answers-more (actor_of c.args.b.now) c.args.action c.in_ok-guards.guards.items c.lower_guards.new.draft c.put_firing.new.draft c.in_ok-firing.ensures.more
+    (answers-from (actor_of c.args.b.now) c.args.action (routines_of c.args.callees.now c.args.procedures.now) c.in_ok-guards.guards.items c.args.draft.now c.lower_guards.new.draft c.requires.sound c.requires.served more c.in_ok-guards.ensures.answers) in
     made

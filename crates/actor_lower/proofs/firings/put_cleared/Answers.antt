@@ -29,20 +29,26 @@ clear_at-requires-clause-cells c =
     let below = c.requires.served.below in
     omega (arith, le, same, kept, state, below)
 
-pub returns-clause-fires : goal.returns-clause-fires
-returns-clause-fires c =
-    cleared-fires (actor_of c.args.b.now) c.args.action (routines_of c.args.callees.now c.args.procedures.now) c.in_ok-entry.entry c.in_ok-firing.firing.firsts.items c.args.draft.now c.put.new.draft c.lower_firing.new.draft
-    c.clear_at.new.draft c.requires.sound c.requires.served c.in_ok-entry.ensures.place c.in_ok-put.ensures.added.is c.in_ok-put.ensures.added.routines c.in_ok-put.ensures.added.cells (refl, c.in_ok-firing.ensures.code.1) c.in_ok-firing.ensures.fired
-    (subst (λ k. SetsZero c.lower_firing.new.draft.instrs.items c.clear_at.new.draft.instrs.items c.in_ok-entry.entry k c.lower_firing.new.draft.cells) c.requires.kept c.clear_at.ensures.clears) c.clear_at.ensures.routines
-    c.clear_at.ensures.cells
-
-pub returns-clause-bodies : goal.returns-clause-bodies
-returns-clause-bodies c =
-    let there = action-there c.args.b.now c.args.action c.requires.action in
-    cleared-bodies (actor_of c.args.b.now) c.args.action (routines_of c.args.callees.now c.args.procedures.now) c.in_ok-entry.entry c.in_ok-firing.firing.firsts.items c.args.draft.now c.put.new.draft c.lower_firing.new.draft
-    c.clear_at.new.draft c.requires.sound c.requires.served c.in_ok-entry.ensures.place c.in_ok-put.ensures.added.is c.in_ok-put.ensures.added.routines c.in_ok-put.ensures.added.cells (refl, c.in_ok-firing.ensures.code.1) c.in_ok-firing.ensures.fired
-    (subst (λ k. SetsZero c.lower_firing.new.draft.instrs.items c.clear_at.new.draft.instrs.items c.in_ok-entry.entry k c.lower_firing.new.draft.cells) c.requires.kept c.clear_at.ensures.clears) c.clear_at.ensures.routines
-    c.clear_at.ensures.cells there.0 there.1
+pub returns-clause-puts : goal.returns-clause-puts
+returns-clause-puts c = record {
+  fires =
+      cleared-fires (actor_of c.args.b.now) c.args.action (routines_of c.args.callees.now c.args.procedures.now) c.in_ok-entry.entry c.in_ok-firing.firing.firsts.items c.args.draft.now c.put.new.draft c.lower_firing.new.draft
+      c.clear_at.new.draft c.requires.sound c.requires.served c.in_ok-entry.ensures.place c.in_ok-put.ensures.added.is c.in_ok-put.ensures.added.routines c.in_ok-put.ensures.added.cells (refl, c.in_ok-firing.ensures.code.1) c.in_ok-firing.ensures.fired
+      (subst (λ k. SetsZero c.lower_firing.new.draft.instrs.items c.clear_at.new.draft.instrs.items c.in_ok-entry.entry k c.lower_firing.new.draft.cells) c.requires.kept c.clear_at.ensures.clears) c.clear_at.ensures.routines
+      c.clear_at.ensures.cells;
+  bodies =
+      let there = action-there c.args.b.now c.args.action c.requires.action in
+      cleared-bodies (actor_of c.args.b.now) c.args.action (routines_of c.args.callees.now c.args.procedures.now) c.in_ok-entry.entry c.in_ok-firing.firing.firsts.items c.args.draft.now c.put.new.draft c.lower_firing.new.draft
+      c.clear_at.new.draft c.requires.sound c.requires.served c.in_ok-entry.ensures.place c.in_ok-put.ensures.added.is c.in_ok-put.ensures.added.routines c.in_ok-put.ensures.added.cells (refl, c.in_ok-firing.ensures.code.1) c.in_ok-firing.ensures.fired
+      (subst (λ k. SetsZero c.lower_firing.new.draft.instrs.items c.clear_at.new.draft.instrs.items c.in_ok-entry.entry k c.lower_firing.new.draft.cells) c.requires.kept c.clear_at.ensures.clears) c.clear_at.ensures.routines
+      c.clear_at.ensures.cells there.0 there.1;
+  inside = λ act port e.
+      let inside =
+      firing-inside (routines_of c.args.callees.now c.args.procedures.now) (actor_of c.args.b.now) c.args.action c.in_ok-firing.firing.entry c.in_ok-firing.firing.firsts.items c.put.new.draft c.lower_firing.new.draft
+      c.in_ok-firing.ensures.code act port e in
+      let same = c.clear_at.ensures.cells in
+      omega (arith, inside, same);
+}
 
 pub returns-clause-more : goal.returns-clause-more
 returns-clause-more c =
@@ -51,11 +57,3 @@ returns-clause-more c =
     c.clear_at.new.draft c.requires.sound c.requires.served c.in_ok-entry.ensures.place c.in_ok-put.ensures.added.is c.in_ok-put.ensures.added.routines c.in_ok-put.ensures.added.cells (refl, c.in_ok-firing.ensures.code.1) c.in_ok-firing.ensures.fired
     (subst (λ k. SetsZero c.lower_firing.new.draft.instrs.items c.clear_at.new.draft.instrs.items c.in_ok-entry.entry k c.lower_firing.new.draft.cells) c.requires.kept c.clear_at.ensures.clears) c.clear_at.ensures.routines
     c.clear_at.ensures.cells there.0 there.1
-
-pub returns-clause-inside : goal.returns-clause-inside
-returns-clause-inside c = λ act port e.
-    let inside =
-    firing-inside (routines_of c.args.callees.now c.args.procedures.now) (actor_of c.args.b.now) c.args.action c.in_ok-firing.firing.entry c.in_ok-firing.firing.firsts.items c.put.new.draft c.lower_firing.new.draft
-    c.in_ok-firing.ensures.code act port e in
-    let same = c.clear_at.ensures.cells in
-    omega (arith, inside, same)

@@ -5,22 +5,20 @@ use Rattle.actor_lower.proofs.Inside.{firing-inside}
 use Rattle.actor_lower.proofs.Placed.{firing-alone, firing-grown}
 use Rattle.actor_lower.proofs.firings.put_plain.Goals as goal
 
-pub returns-clause-fires : goal.returns-clause-fires
-returns-clause-fires c =
-    fires-from (actor_of c.args.b.now) c.args.action (routines_of c.args.callees.now c.args.procedures.now) c.in_ok-firing.firing.firsts.items c.in_ok-firing.firing.entry c.args.draft.now c.lower_firing.new.draft
-    c.requires.sound c.requires.served c.in_ok-firing.ensures.code.0 c.in_ok-firing.ensures.fired
-
-pub returns-clause-bodies : goal.returns-clause-bodies
-returns-clause-bodies c =
-    firing-alone c.args.b.now c.args.action c.requires.action (routines_of c.args.callees.now c.args.procedures.now) c.in_ok-firing.firing.entry c.in_ok-firing.firing.firsts.items c.args.draft.now c.lower_firing.new.draft
-    c.requires.sound c.requires.served c.in_ok-firing.ensures.code
+pub returns-clause-puts : goal.returns-clause-puts
+returns-clause-puts c = record {
+  fires =
+      fires-from (actor_of c.args.b.now) c.args.action (routines_of c.args.callees.now c.args.procedures.now) c.in_ok-firing.firing.firsts.items c.in_ok-firing.firing.entry c.args.draft.now c.lower_firing.new.draft
+      c.requires.sound c.requires.served c.in_ok-firing.ensures.code.0 c.in_ok-firing.ensures.fired;
+  bodies =
+      firing-alone c.args.b.now c.args.action c.requires.action (routines_of c.args.callees.now c.args.procedures.now) c.in_ok-firing.firing.entry c.in_ok-firing.firing.firsts.items c.args.draft.now c.lower_firing.new.draft
+      c.requires.sound c.requires.served c.in_ok-firing.ensures.code;
+  inside =
+      firing-inside (routines_of c.args.callees.now c.args.procedures.now) (actor_of c.args.b.now) c.args.action c.in_ok-firing.firing.entry c.in_ok-firing.firing.firsts.items c.args.draft.now c.lower_firing.new.draft
+      c.in_ok-firing.ensures.code;
+}
 
 pub returns-clause-more : goal.returns-clause-more
 returns-clause-more c =
     firing-grown c.args.b.now c.args.action c.requires.action (routines_of c.args.callees.now c.args.procedures.now) c.in_ok-firing.firing.entry c.in_ok-firing.firing.firsts.items c.args.draft.now c.lower_firing.new.draft
-    c.in_ok-firing.ensures.code
-
-pub returns-clause-inside : goal.returns-clause-inside
-returns-clause-inside c =
-    firing-inside (routines_of c.args.callees.now c.args.procedures.now) (actor_of c.args.b.now) c.args.action c.in_ok-firing.firing.entry c.in_ok-firing.firing.firsts.items c.args.draft.now c.lower_firing.new.draft
     c.in_ok-firing.ensures.code

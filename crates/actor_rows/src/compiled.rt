@@ -1,0 +1,315 @@
+//! Sources as text, and what the cells of their actors do with tokens.
+
+use actor_cell::Cell;
+use actor_files::Names;
+use lowered_actor::Lowered;
+use net_model::{BurstEnd, Firing};
+use rvc_base::{Memory, Num};
+use rvc_engine::{BuildFault, Image, build};
+use rvc_io::{MemLibrary, names_are_distinct};
+use std::alloc::{AllocError, Global};
+use std::process::Abort;
+use std::sync::Arc;
+use std::test::Fail;
+
+/// What comes before a mark, and what comes behind it.
+fn cut<'a>(text: &'a str, mark: &str) -> (&'a str, &'a str) {
+    text.split_once(mark).unwrap_or((text, ""))
+}
+
+/// A library with one file, which has this name.
+fn library_of(alloc: Global, name: &str, source: &str) -> Result<Option<MemLibrary>, AllocError> {
+    let mut files = Vec::new(alloc);
+    let file = format!(in alloc; "{name}.cal")?;
+    let bytes = Vec::from_slice(alloc, source.as_bytes())?;
+    files.push((file, bytes))?;
+    if !names_are_distinct(&files) {
+        return Ok(None);
+    }
+    Ok(Some(MemLibrary::new(files, Vec::new(alloc))))
+}
+
+/// The code of the first actor of an image.
+fn first_code(image: &Image) -> Result<Option<Arc<Lowered>>, Memory> {
+    match image.codes.get(0) {
+        Some(code) => Ok(Some(Arc::clone(code)?)),
+        None => Ok(None),
+    }
+}
+
+/// The code of the actor of a source, and none if it isn't built.
+fn code_of(alloc: Global, source: &str) -> Result<Option<Arc<Lowered>>, Fail> {
+    let (_, rest) = cut(source, "actor ");
+    let (name, _) = cut(rest, "(");
+    let Some(mut library) = library_of(alloc, name, source)? else {
+        return Ok(None);
+    };
+    let top = format!(in alloc; "{name}.cal")?;
+    let mut names = Names::new(alloc);
+    match build(alloc, &mut library, top.as_str(), &mut names) {
+        Ok(image) => Ok(first_code(&image)?),
+        Err(BuildFault::Memory) => Err(Fail::from(Memory)),
+        Err(_) => Ok(None),
+    }
+}
+
+/// A cell of an actor with one or two input ports and one output port, whose queues have room for 8 tokens.
+fn cell_of(alloc: Global, code: Arc<Lowered>) -> Result<Option<Cell>, Memory> {
+    if code.outs() != 1 {
+        return Ok(None);
+    }
+    match code.ins() {
+        1 => Ok(Some(Cell::new(alloc, code, &[8], &[8], 8)?)),
+        2 => Ok(Some(Cell::new(alloc, code, &[8, 8], &[8], 8)?)),
+        _ => Ok(None),
+    }
+}
+
+/// Puts tokens before an input port of the cell.
+fn accept(cell: &mut Cell, port: u32, tokens: &str) {
+    for word in tokens.split_whitespace() {
+        if port < cell.actor().ins() && cell.room_before(port) > 0 {
+            let token: Num = word.parse().unwrap_or(0);
+            cell.accept(port, token);
+        }
+    }
+}
+
+/// Lets the cell fire up to 8 times.
+fn burst(cell: &mut Cell) -> Option<BurstEnd> {
+    if cell.is_trapped() || !cell.are_rooms(&[8]) || cell.room_in_journal() < 8 {
+        return None;
+    }
+    Some(cell.burst(8, &[8]))
+}
+
+/// Adds how a burst ended.
+fn add_end(out: &mut String, end: Option<BurstEnd>) -> Result<(), AllocError> {
+    match end {
+        Some(BurstEnd::Waits) => out.push_str(", waits"),
+        Some(BurstEnd::Trap { action, trap }) => {
+            let number = action.0;
+            let name = trap.name();
+            write!(out, ", traps in {number} by {name}")
+        }
+        _ => out.push_str(", goes on"),
+    }
+}
+
+/// Which actions fired, what was sent, how the burst ended, and how many tokens wait then before the first port.
+fn told(alloc: Global, cell: &Cell, end: Option<BurstEnd>) -> Result<String, AllocError> {
+    let mut out = String::from_str(alloc, "fires")?;
+    for action in cell.journal() {
+        write!(out, " {action}")?;
+    }
+    out.push_str(", sends")?;
+    if cell.actor().outs() > 0 {
+        for k in 0..cell.sent(0) {
+            let token = cell.sent_at(0, k);
+            write!(out, " {token}")?;
+        }
+    }
+    add_end(&mut out, end)?;
+    if cell.actor().ins() > 0 {
+        let held = cell.held(0);
+        write!(out, ", {held} left")?;
+    }
+    Ok(out)
+}
+
+/// What the cell of a source's actor does with tokens; those of two ports have a semicolon between them.
+fn answer(alloc: Global, source: &str, tokens: &str) -> Result<String, Fail> {
+    let Some(code) = code_of(alloc, source)? else {
+        return Ok(String::from_str(alloc, "isn't built")?);
+    };
+    let Some(mut cell) = cell_of(alloc, code)? else {
+        return Ok(String::from_str(alloc, "has other ports")?);
+    };
+    let (first, second) = cut(tokens, ";");
+    accept(&mut cell, 0, first);
+    accept(&mut cell, 1, second);
+    let end = burst(&mut cell);
+    Ok(told(alloc, &cell, end)?)
+}
+
+/// Stops unless the cell of a row does what is told.
+fn hold_row(rt: &impl Abort, alloc: Global, row: &str) -> Result<(), Fail> {
+    let (_, row) = cut(row, "\n");
+    let (source, rest) = cut(row, "\n> ");
+    let (tokens, want) = cut(rest, "\n= ");
+    let found = answer(alloc, source, tokens)?;
+    assert!(rt; found.as_str() == want, "{source}: {found}");
+    Ok(())
+}
+
+/// Stops unless all cells do what is told. A table is one text: each row begins with `# ` and what it shows, and has a
+/// source, a line `> ` with the tokens, and a line `= ` with what comes of them.
+fn hold(rt: &impl Abort, alloc: Global, table: &str) -> Result<(), Fail> {
+    for row in table.split("\n# ") {
+        if !row.is_empty() {
+            hold_row(rt, alloc, row)?;
+        }
+    }
+    Ok(())
+}
+
+const ACTIONS: &str = "
+# The initialize action comes first.
+actor Ini() uint(size=8) In ==> uint(size=8) Out :
+  initialize ==> Out:[9] end action In:[a] ==> Out:[a] end end
+> 5
+= fires 0 1, sends 9 5, waits, 0 left
+# Repeated tokens take turns.
+actor Rep() uint(size=8) In ==> uint(size=8) Out :
+  action In:[a, b] repeat 2 ==> Out:[b, a] repeat 2 end end
+> 1 2 3 4 5
+= fires 0, sends 2 1 4 3, waits, 1 left
+# A guard that is false takes no token, nor does one that lacks one.
+actor Peek() uint(size=8) In ==> uint(size=8) Out :
+  action In:[a, b] ==> Out:[a] guard b > 100 end end
+> 1
+= fires, sends, waits, 1 left
+# It peeks at both.
+actor Peek() uint(size=8) In ==> uint(size=8) Out :
+  action In:[a, b] ==> Out:[a] guard b > 100 end end
+> 1 101
+= fires 0, sends 1, waits, 0 left
+# The action above comes first as long as it has its tokens.
+actor Two() uint(size=8) In ==> uint(size=8) Out :
+  hi: action In:[a, b] ==> Out:[a + b] end lo: action In:[a] ==> Out:[a] end priority hi > lo; end end
+> 1 2 3
+= fires 0 1, sends 3 3, waits, 0 left
+# Guards on the state take turns.
+actor Alt() uint(size=8) A, uint(size=8) B ==> uint(size=8) Out : uint(size=1) s := 0;
+  ta: action A:[x] ==> Out:[x] guard s = 0 do s := 1; end
+  tb: action B:[x] ==> Out:[x] guard s != 0 do s := 0; end end
+> 1 2; 10
+= fires 0 1 0, sends 1 10 2, waits, 0 left
+# A schedule of two states, whose tags are prefixes.
+actor Fsm() uint(size=8) In ==> uint(size=8) Out :
+  a.x: action In:[v] ==> Out:[1] guard v < 10 end
+  a.y: action In:[v] ==> Out:[2] guard v >= 10, v < 20 end
+  b: action In:[v] ==> Out:[3] guard v < 20 end
+  action In:[v] ==> Out:[v] guard v >= 20 end
+  schedule fsm s0 : s0 (a) --> s1; s1 (b) --> s0; end end
+> 5 15 30 12 3
+= fires 0 2 3 1 2, sends 1 3 30 2 3, waits, 0 left
+# A body that traps leaves its tokens.
+actor Div() uint(size=8) In ==> uint(size=8) Out : action In:[a, b] ==> Out:[a / b] end end
+> 10 2 7 0 9 3
+= fires 0, sends 5, traps in 0 by DivideByZero, 4 left
+# Tokens of two bytes.
+actor Id16() int(size=16) In ==> int(size=16) Out : action In:[x] ==> Out:[x] end end
+> -32767
+= fires 0, sends -32767, waits, 0 left";
+
+const CALLS: &str = "
+# Guards call a function.
+actor Even() uint(size=8) In ==> uint(size=8) Out :
+  function half(uint(size=8) v) --> uint(size=8) : v / 2 end
+  action In:[x] ==> Out:[half(x)] guard half(x) * 2 = x end
+  action In:[x] ==> Out:[x] guard half(x) * 2 != x end end
+> 4 5 255 254
+= fires 0 1 1 0, sends 2 5 255 127, waits, 0 left
+# A function that a guard calls reads the state, which stays as it was.
+actor Rise() uint(size=8) In ==> uint(size=8) Out : uint(size=8) n := 0;
+  function above(uint(size=8) v) --> bool : v > n end
+  up: action In:[x] ==> Out:[x] guard above(x) do n := x; end
+  down: action In:[x] ==> Out:[n] guard not above(x) end end
+> 5 3 7 7
+= fires 0 1 0 1, sends 5 5 7 7, waits, 0 left
+# It calls another one, with two arguments.
+actor Near() uint(size=8) In ==> uint(size=8) Out :
+  function near(uint(size=8) v, uint(size=8) w) --> bool : apart(v, w) < 3 end
+  function apart(uint(size=8) v, uint(size=8) w) --> uint(size=8) : if v < w then w - v else v - w end end
+  action In:[x, y] ==> Out:[y] guard near(x, y) end
+  action In:[x, y] ==> Out:[0] guard not near(x, y) end end
+> 10 12 12 10 1 9
+= fires 0 0 1, sends 12 10 0, waits, 0 left
+# A guard traps in a function.
+actor Per() uint(size=8) In ==> uint(size=8) Out :
+  function per(uint(size=8) v) --> int : 100 / v end
+  action In:[x] ==> Out:[x] guard per(x) < 50 end end
+> 5 0
+= fires 0, sends 5, traps in 0 by DivideByZero, 1 left
+# An argument is stored in its type.
+actor Wrap() int(size=16) In ==> int(size=16) Out :
+  function low(uint(size=8) v) --> int(size=16) : v end
+  action In:[x] ==> Out:[low(x)] guard low(x) = 1 end
+  action In:[x] ==> Out:[0] guard low(x) != 1 end end
+> 257 2 -255
+= fires 0 1 0, sends 1 0 1, waits, 0 left";
+
+const TURNS: &str = "
+# All turns but one too many.
+actor Loop() uint(size=32) In ==> uint(size=8) Out :
+  action In:[n] ==> Out:[1] var int i := 0 do while i < n do i := i + 1; end end end
+> 1048576 1048577
+= fires 0, sends 1, traps in 0 by TurnLimit, 1 left
+# A guard runs out of turns in the functions that it calls.
+actor Deep() uint(size=8) In ==> uint(size=8) Out :
+  function f0(int v) --> int : v end
+  function f1(int v) --> int : f0(v) + f0(v) + f0(v) + f0(v) + f0(v) + f0(v) + f0(v) + f0(v) end
+  function f2(int v) --> int : f1(v) + f1(v) + f1(v) + f1(v) + f1(v) + f1(v) + f1(v) + f1(v) end
+  function f3(int v) --> int : f2(v) + f2(v) + f2(v) + f2(v) + f2(v) + f2(v) + f2(v) + f2(v) end
+  function f4(int v) --> int : f3(v) + f3(v) + f3(v) + f3(v) + f3(v) + f3(v) + f3(v) + f3(v) end
+  function f5(int v) --> int : f4(v) + f4(v) + f4(v) + f4(v) + f4(v) + f4(v) + f4(v) + f4(v) end
+  function f6(int v) --> int : f5(v) + f5(v) + f5(v) + f5(v) + f5(v) + f5(v) + f5(v) + f5(v) end
+  function f7(int v) --> int : f6(v) + f6(v) + f6(v) + f6(v) + f6(v) + f6(v) + f6(v) + f6(v) end
+  action In:[x] ==> Out:[x] guard x = 0 or f7(x) > 0 end end
+> 0 1
+= fires 0, sends 0, traps in 0 by TurnLimit, 1 left";
+
+#[test]
+fn actions_fire(rt: HostRuntime) -> Result<(), Fail> {
+    hold(&rt, rt.alloc(), ACTIONS)
+}
+
+#[test]
+fn guards_call_functions(rt: HostRuntime) -> Result<(), Fail> {
+    hold(&rt, rt.alloc(), CALLS)
+}
+
+#[test]
+fn turns_run_out(rt: HostRuntime) -> Result<(), Fail> {
+    hold(&rt, rt.alloc(), TURNS)
+}
+
+/// A cell of a source's actor whose queues are full after one firing.
+fn small_cell(alloc: Global, source: &str) -> Result<Option<Cell>, Fail> {
+    let Some(code) = code_of(alloc, source)? else {
+        return Ok(None);
+    };
+    if code.ins() != 1 || code.outs() != 1 {
+        return Ok(None);
+    }
+    Ok(Some(Cell::new(alloc, code, &[5], &[4], 1)?))
+}
+
+/// Puts tokens before the cell, lets it fire once, and tells what it did.
+fn fire_once(alloc: Global, cell: &mut Cell, tokens: &str) -> Result<String, AllocError> {
+    accept(cell, 0, tokens);
+    if cell.is_trapped() || !cell.are_rooms(&[4]) || cell.room_in_journal() < 1 {
+        return String::from_str(alloc, "can't fire");
+    }
+    let end = cell.burst(1, &[4]);
+    told(alloc, cell, Some(end))
+}
+
+#[test]
+fn queues_go_round(rt: HostRuntime) -> Result<(), Fail> {
+    let source =
+        "actor Rep() uint(size=8) In ==> uint(size=8) Out : action In:[a, b] repeat 2 ==> Out:[b, a] repeat 2 end end";
+    let Some(mut cell) = small_cell(rt.alloc(), source)? else {
+        return Err(Fail::from(Memory));
+    };
+    let first = fire_once(rt.alloc(), &mut cell, "1 2 3 4 5")?;
+    cell.clear();
+    let second = fire_once(rt.alloc(), &mut cell, "6 7 8")?;
+    assert!(rt;
+        first.as_str() == "fires 0, sends 2 1 4 3, goes on, 1 left"
+            && second.as_str() == "fires 0, sends 6 5 8 7, goes on, 0 left",
+        "{first}, {second}"
+    );
+    Ok(())
+}
