@@ -1,14 +1,13 @@
 -- Items of lists that are filled apart: their code does what evaluating them does.
-use Rattle.std.proofs.Common.{◌≡◌, ℕ, zero, suc, ◌+◌, ◌*◌, ◌<◌, ◌≤◌, inl, inr, ⊎_elim, ℤ, pos, negsuc, List, [], ◌∷◌, ◌++◌, length, map, refl, sym, ap, ◌∙◌, subst, Option, None, Some, arith, length-append}
+use Rattle.std.proofs.Common.{◌≡◌, ℕ, zero, suc, ◌+◌, ◌*◌, ◌≤◌, ℤ, pos, negsuc, List, [], ◌∷◌, ◌++◌, length, refl, sym, ap, ◌∙◌, subst, Option, None, Some, arith, length-append}
 use Rattle.std.specs.Prelude.{slice_get}
 use Rattle.rvc_base.specs.declared.scalar.Scalar.{Scalar}
-use Rattle.rvc_base.specs.declared.trap.Trap.{Trap}
 use Rattle.rvc_base.specs.declared.trap.Trap.TheVariants.{IndexRange}
 use Rattle.rvc_base.specs.Arithmetic.{truth}
 use Rattle.cal_ast.specs.Tree as tree
 use Rattle.cal_ast.specs.Tree.{Tree}
-use Rattle.cal_model.specs.Value.{Single, Many, Value, Num, Truth, Items, Values, Nil, Cons, count, value_at}
-use Rattle.cal_model.specs.Outcome.{Out, Gives, Traps, and_then}
+use Rattle.cal_model.specs.Value.{Single, Many, Value, Num, Truth, Items, Values, Nil, Cons, value_at}
+use Rattle.cal_model.specs.Outcome.{Gives, Traps, and_then}
 use Rattle.cal_model.specs.Env.{Env}
 use Rattle.cal_model.specs.Expression.{eval, indexed}
 use Rattle.code_ir.specs.declared.instr.Instr.{Instr}
@@ -28,7 +27,7 @@ use Rattle.expr_lower.proofs.Doing.{acts_after}
 use Rattle.expr_lower.proofs.Items.{AreNumbers, item_acts, reads_straight}
 use Rattle.expr_lower.proofs.Keeping.{keeps_join, keeps_wider}
 use Rattle.expr_lower.proofs.Listing.{first_of_two}
-use Rattle.expr_lower.proofs.Runs.{follows_both, follows_more, follows_then, reaches_join, stands_left, stands_right}
+use Rattle.expr_lower.proofs.Runs.{follows_both, follows_then, reaches_join, stands_left, stands_right}
 use Rattle.expr_lower.proofs.Singles.{IsSingleValue, OnlySingles}
 use Rattle.list_lower.specs.Filled.{Fills}
 use Rattle.list_lower.specs.Shaped.{AreShaped, IsShaped}

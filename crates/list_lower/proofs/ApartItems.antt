@@ -1,11 +1,11 @@
 -- The code of an item of a list that is filled apart is code of an expression.
-use Rattle.std.proofs.Common.{◌≡◌, ℕ, zero, suc, ◌+◌, ◌*◌, ◌<◌, ◌≤◌, List, [], ◌∷◌, ◌++◌, length, pos, true, refl, sym, ap, ◌∙◌, subst, Option, None, Some, arith, append_assoc, length-append}
-use Rattle.std.specs.Prelude.{◌^◌, nat_lt}
+use Rattle.std.proofs.Common.{◌≡◌, ℕ, zero, suc, ◌+◌, ◌*◌, ◌<◌, ◌≤◌, List, [], ◌∷◌, ◌++◌, length, pos, true, false, refl, sym, ap, ◌∙◌, subst, Option, None, Some, arith, append_assoc}
+use Rattle.std.specs.Prelude.{◌^◌, if◌then◌else◌, nat_eq, nat_lt}
 use Rattle.std.proofs.lemmas.Bool.Decides.{nat_tests}
 use Rattle.rvc_base.specs.declared.scalar.Scalar.{Scalar}
 use Rattle.cal_ast.specs.Tree as tree
 use Rattle.cal_ast.specs.Tree.{Tree}
-use Rattle.cal_model.specs.Value.{Shape, Value, Single, Many, scalars_of_type}
+use Rattle.cal_model.specs.Value.{Shape, Single, Many, scalars_of_type}
 use Rattle.cal_model.specs.Env.{Env}
 use Rattle.cal_model.specs.Expression.{eval}
 use Rattle.code_ir.specs.declared.instr.Instr.{Instr}
@@ -13,7 +13,7 @@ use Rattle.code_ir.specs.declared.instr.Instr.TheVariants as op
 use Rattle.code_ir.specs.Running.{State}
 use Rattle.expr_lower.specs.declared.draft.Draft.{Draft}
 use Rattle.expr_lower.specs.Callees.{Function}
-use Rattle.expr_lower.specs.Calling.{EvaluatesWith, Prepared, Serves}
+use Rattle.expr_lower.specs.Calling.{Prepared, Serves}
 use Rattle.expr_lower.specs.Coding.{IsCode, IsOtherCode, in_another_way}
 use Rattle.expr_lower.specs.Following.{CutsOff, Follows, MayUse, Pushes}
 use Rattle.expr_lower.specs.Growing.{unless_none}
@@ -161,5 +161,7 @@ pub unless_some : (o : Option ℕ) (n : ℕ) → unless_none o ≡ Some n → (o
 unless_some None n e = cc
 unless_some (Some zero) n e = cc
 unless_some (Some (suc k)) n e =
-    let same : suc k ≡ n = ap (λ o. elim o [ None ↦ 0 | Some x ↦ x ]) e in
+    let differ : nat_eq (suc k) 0 ≡ false = grind (arith, nat_tests) in
+    let opened : unless_none (Some (suc k)) ≡ Some (suc k) = ap (λ b. if b then None else Some (suc k)) differ in
+    let same : suc k ≡ n = ap (λ o. elim o [ None ↦ 0 | Some x ↦ x ]) (sym opened ∙ e) in
     (ap Some same, omega (arith, same))

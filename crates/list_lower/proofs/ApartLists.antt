@@ -10,9 +10,8 @@ use Rattle.rvc_base.specs.Arithmetic as arithmetic
 use Rattle.rvc_base.specs.Width.{is_num}
 use Rattle.cal_ast.specs.Tree as tree
 use Rattle.cal_ast.specs.Tree.{Tree}
-use Rattle.cal_model.specs.Value.{Shape, Many, Value, Num, Truth, Items, Values, Nil, Cons, count, scalars_of_type, value_at}
+use Rattle.cal_model.specs.Value.{Shape, Many, Value, Num, Truth, Items, Values, Nil, Cons, scalars_of_type, value_at}
 use Rattle.cal_model.specs.Outcome.{Out, Gives, Traps, and_then}
-use Rattle.cal_model.specs.Env.{Env}
 use Rattle.cal_model.specs.Expression.{eval, indexed}
 use Rattle.code_ir.specs.declared.instr.Instr.{Instr}
 use Rattle.code_ir.specs.declared.instr.Instr.TheVariants as op

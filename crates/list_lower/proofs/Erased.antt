@@ -1,22 +1,18 @@
 -- Which cells names have doesn't matter to what is left out of lists.
-use Rattle.std.proofs.Common.{◌≡◌, ◌≢◌, ℕ, List, ◌∷◌, map, true, false, refl, sym, subst, ap, ◌∙◌, Option, None, Some, arith}
+use Rattle.std.proofs.Common.{◌≡◌, ◌≢◌, ℕ, List, ◌∷◌, map, true, false, refl, sym, subst, ap, ◌∙◌, Option, Some, arith}
 use Rattle.std.proofs.lemmas.Bool.Decides.{nat_tests}
 use Rattle.std.specs.Prelude.{if◌then◌else◌, nat_eq}
 use Rattle.rvc_base.specs.declared.scalar.Scalar.{Scalar}
 use Rattle.cal_ast.specs.Tree as tree
 use Rattle.cal_ast.specs.Tree.{Tree}
-use Rattle.cal_model.specs.Value.{Shape, Single, Many}
+use Rattle.cal_model.specs.Value.{Shape, Many}
 use Rattle.expr_lower.specs.Callees.{Function}
-use Rattle.expr_lower.specs.declared.names.Seat.{Seat}
-use Rattle.expr_lower.specs.declared.names.Seat.TheVariants.{Cell, Tokens}
-use Rattle.expr_lower.specs.Growing.{left_out_in, left_out_places}
+use Rattle.expr_lower.specs.Growing.{left_out_in}
 use Rattle.expr_lower.specs.Names.{Name, local}
-use Rattle.expr_lower.specs.Parted.{Part, number_of, part_named}
 use Rattle.expr_lower.proofs.Erased.{element_same, erase, gens_erased, inside_gens, out_erased}
 pub use Rattle.expr_lower.proofs.Erased.{fill_erased, fills_erased}
-use Rattle.list_lower.specs.Filling.{alike}
-use Rattle.expr_lower.specs.Generators.{Counted, counted_by, how_many}
-use Rattle.list_lower.specs.LeftOut.{first_cell, left_out_element, left_out_fill, left_out_fills, left_out_gens, left_out_many, left_out_part, left_out_single}
+use Rattle.expr_lower.specs.Generators.{Counted, counted_by}
+use Rattle.list_lower.specs.LeftOut.{left_out_element, left_out_fill, left_out_gens, left_out_many, left_out_part}
 
 -- in any cell the variable of a generator leaves out the same
 pub any_cell : (fs : List Function) (names : List Name) (text : List ℕ) (t : Scalar) (c : ℕ) (items : Shape) (item gens : Tree)

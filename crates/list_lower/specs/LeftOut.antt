@@ -3,7 +3,7 @@
 use Rattle.std.specs.Prelude.{ℕ, if◌then◌else◌, List, Option, None, Some}
 use Rattle.cal_ast.specs.Tree as tree
 use Rattle.cal_ast.specs.Tree.{Tree}
-use Rattle.cal_model.specs.Value.{Shape, Single, Many}
+use Rattle.cal_model.specs.Value.{Shape}
 use Rattle.expr_lower.specs.Callees.{Function}
 use Rattle.expr_lower.specs.Growing.{◌or_else◌, first_cell, left_out_apart, left_out_in, left_out_places, where_one}
 use Rattle.expr_lower.specs.ItemsSeen.{items_seen}
