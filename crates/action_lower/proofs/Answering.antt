@@ -155,8 +155,7 @@ module _ (fs : List Function) (actor : Actor) (a : ℕ) (act : Action) (code : C
   guards-answer (no_guard base n) stands le from to good = tt
   guards-answer (guard_more g gs es base n k m one more head rest) stands le from to good =
       let up = head.lowered.cells in
-      let grown = guards-grow rest in
-      (
+      let grown = guards-grow rest in (
         guard-answers g base n k one head (stands_left code.instrs base one more stands) le from (omega (arith, grown, to)) (good 0 g refl),
         guards-answer rest (stands_right code.instrs base one more stands) (omega (arith, le, up)) (omega (arith, from, up)) to (λ j h e. good (suc j) h e),
       )
