@@ -1,5 +1,5 @@
 -- Code of guards answers as the guards do.
-use Rattle.std.proofs.Common.{◌≡◌, ℕ, zero, suc, ◌+◌, ◌<◌, ◌≤◌, inl, Bool, true, ℤ, List, [], ◌∷◌, ◌++◌, length, take, refl, sym, ap, subst, ◌∙◌, Some, arith, append_assoc, length-append}
+use Rattle.std.proofs.Common.{◌≡◌, ℕ, zero, suc, ◌+◌, ◌<◌, ◌≤◌, inl, inr, Bool, true, ℤ, List, [], ◌∷◌, ◌++◌, length, take, refl, sym, ap, subst, ◌∙◌, Some, arith, append_assoc, length-append}
 use Rattle.std.specs.Prelude.{if◌then◌else◌, slice_get}
 use Rattle.rvc_base.specs.Arithmetic.{is_true, truth}
 use Rattle.rvc_base.specs.Turns.{max_turns}
@@ -22,11 +22,12 @@ use Rattle.code_ir.specs.Code.{Code}
 use Rattle.code_ir.specs.Running.{Ends, Over, step, stop}
 use Rattle.code_ir.proofs.Ends.{one-end}
 use Rattle.expr_lower.specs.declared.draft.Draft.{Draft}
-use Rattle.expr_lower.specs.Following.{CutsOff, Follows, Pushes}
+use Rattle.expr_lower.specs.Following.{CutsOff, Follows, MayUse, Pushes}
 use Rattle.expr_lower.specs.Callees.{Function}
 use Rattle.expr_lower.specs.Calling.{Prepared}
 use Rattle.expr_lower.specs.Held.{Keeps}
 use Rattle.expr_lower.specs.Lowered.{Adds}
+use Rattle.expr_lower.specs.Names.{Name}
 use Rattle.expr_lower.specs.Placed.{StandsAt, World, state}
 use Rattle.expr_lower.proofs.Effects.{same_number, true_again}
 use Rattle.expr_lower.proofs.Runs.{ends_join, obeys, stands_left, stands_right}
@@ -108,8 +109,12 @@ module _ (w : World) (kept n m base : ℕ) (body : List Instr) (cells : List ℤ
 
 -- ---- the guards of an action
 
+pub guards-grow : {fs : List Function} {names : List Name} {gs : List Tree} {es : List ℕ} {base n m : ℕ} {code : List Instr} → AreGuards fs names gs es base n code m → n ≤ m
+guards-grow (no_guard base n) = omega arith
+guards-grow (guard_more g gs es base n k m a b first rest) = let le = first.lowered.cells in let ge = guards-grow rest in omega (arith, le, ge)
+
 module _ (fs : List Function) (actor : Actor) (a : ℕ) (act : Action) (code : Code) (sound : IsSound actor) (is_act : slice_get actor.actions a ≡ Some act)
-    (x : ActorState) (u : List (List ℤ)) (cells : List ℤ) (functions : HasFunctionsOf actor a fs code u cells) (in_state : IsActorState actor x) (of_ports : AreTokensOf actor u)
+    (x : ActorState) (u : List (List ℤ)) (cells : List ℤ) (first last : ℕ) (functions : HasFunctionsOf actor a fs code first last u cells) (in_state : IsActorState actor x) (of_ports : AreTokensOf actor u)
     (has : has_its_tokens actor u a ≡ true) (hold : HoldVars actor x cells) where
   abbrev w : World
   w = round actor a u code functions.low functions.high
@@ -132,25 +137,33 @@ module _ (fs : List Function) (actor : Actor) (a : ℕ) (act : Action) (code : C
         room = functions.room;
       }
 
-  guard-answers : (g : Tree) (base n m : ℕ) (part : List Instr) → IsGuardCode fs (seen_seats actor act) g base n part m → StandsAt code.instrs base part → state_cells actor ≤ n
+  usable : (n m : ℕ) → first ≤ n → m ≤ last → MayUse w n m cells
+  usable n m from to more =
+      let before = functions.before in
+      let own = functions.own in
+      (inr (omega (arith, before, from)), omega (arith, own, to))
+
+  guard-answers : (g : Tree) (base n m : ℕ) (part : List Instr) → IsGuardCode fs (seen_seats actor act) g base n part m → StandsAt code.instrs base part → state_cells actor ≤ n → first ≤ n → m ≤ last
       → IsTruth g → IsGuardOf actor a act code x u cells g base
-  guard-answers g base n m part is stands le good =
+  guard-answers g base n m part is stands le from to good =
       let there : StandsAt code.instrs base (is.body ++ op.Answer ∷ []) = subst (StandsAt code.instrs base) is.is stands in
       answers w (state_cells actor) n m base is.body cells le functions.behind there (eval g (calls_of actor.funs) env max_turns) good
-      (is.lowered.evaluates.goes w (globals_of actor) env [] [] cells max_turns (stands_left code.instrs base is.body (op.Answer ∷ []) there) functions.serve (prepared n le))
+      (is.lowered.evaluates.goes w (globals_of actor) env [] [] cells max_turns (stands_left code.instrs base is.body (op.Answer ∷ []) there) functions.serve (prepared n le) (usable n m from to))
 
-  guards-answer : {gs : List Tree} {es : List ℕ} {base n m : ℕ} {part : List Instr} → AreGuards fs (seen_seats actor act) gs es base n part m → StandsAt code.instrs base part → state_cells actor ≤ n
+  guards-answer : {gs : List Tree} {es : List ℕ} {base n m : ℕ} {part : List Instr} → AreGuards fs (seen_seats actor act) gs es base n part m → StandsAt code.instrs base part → state_cells actor ≤ n → first ≤ n → m ≤ last
       → ((k : ℕ) (g : Tree) → slice_get gs k ≡ Some g → IsTruth g) → AreGuardsOf actor a act code x u cells gs es
-  guards-answer (no_guard base n) stands le good = tt
-  guards-answer (guard_more g gs es base n k m one more first rest) stands le good = (
-    guard-answers g base n k one first (stands_left code.instrs base one more stands) le (good 0 g refl),
-    guards-answer rest (stands_right code.instrs base one more stands) (let grows = first.lowered.cells in omega (arith, le, grows)) (λ j h e. good (suc j) h e),
-  )
+  guards-answer (no_guard base n) stands le from to good = tt
+  guards-answer (guard_more g gs es base n k m one more head rest) stands le from to good =
+      let up = head.lowered.cells in
+      let grown = guards-grow rest in (
+        guard-answers g base n k one head (stands_left code.instrs base one more stands) le from (omega (arith, grown, to)) (good 0 g refl),
+        guards-answer rest (stands_right code.instrs base one more stands) (omega (arith, le, up)) (omega (arith, from, up)) to (λ j h e. good (suc j) h e),
+      )
 
 pub answer-as-guards : GuardsAreTruths → (fs : List Function) (actor : Actor) (a : ℕ) (act : Action) (code : Code) (es : List ℕ) (more : List Instr) (old new : Draft) → IsSound actor → slice_get actor.actions a ≡ Some act
-    → state_cells actor ≤ old.cells → Adds (AreGuards fs (seen_seats actor act) act.guards es) old new → code.instrs ≡ new.instrs.items ++ more → AnswerAs actor a act fs code es
+    → state_cells actor ≤ old.cells → Adds (AreGuards fs (seen_seats actor act) act.guards es) old new → code.instrs ≡ new.instrs.items ++ more → AnswerAs actor a act fs code old.cells new.cells es
 answer-as-guards law fs actor a act code es more old new sound is_act le added whole x u cells functions in_state of_ports has hold =
     let all : code.instrs ≡ old.instrs.items ++ (added.code ++ more) = whole ∙ ap (λ is. is ++ more) added.is ∙ append_assoc old.instrs.items added.code more in
-    guards-answer fs actor a act code sound is_act x u cells functions in_state of_ports has hold added.has
-    (subst (λ all. StandsAt all (length old.instrs.items) added.code) (sym all) (stands-in old.instrs.items added.code more)) le
+    guards-answer fs actor a act code sound is_act x u cells old.cells new.cells functions in_state of_ports has hold added.has
+    (subst (λ all. StandsAt all (length old.instrs.items) added.code) (sym all) (stands-in old.instrs.items added.code more)) le (omega arith) (omega arith)
     (λ k g e. law actor x u a k max_turns act g sound in_state of_ports is_act e)

@@ -41,7 +41,7 @@ module _ (whole : Code) (callable limit : ℕ) (rs : Routines) (has : HasRunRout
       let up = grows_start first in
       let more = started_grows rs rest in
       let one : Plain whole callable limit base 0 a 0 =
-      fits_start whole callable limit rs has names t n 0 (sized.0 t shape) (omega (arith, up, more, le)) (below_more n (n + 1) names (omega arith) below) (omega (arith, more, le)) first in
+      fits_start whole callable limit rs has names t n 0 (sized.0 t shape) (omega (arith, up, more, le)) (below_more n (n + 1) names (omega arith) below) (omega (arith, more, le)) (stands_left whole.instrs base a b stands) first in
       let later = locals-fit sized.1 (cell_below whole callable limit n k names x.name t up below) le (stands_right whole.instrs base a b stands) rest in
       (plain_then whole callable limit base 0 0 0 a b one later.0, later.1)
   locals-fit sized below le stands (list_more names behind x others base n k m a b typed first rest) =
@@ -52,17 +52,18 @@ module _ (whole : Code) (callable limit : ℕ) (rs : Routines) (has : HasRunRout
       let later = locals-fit sized.1 (cells_below whole callable limit n k names x.name x.shape up below) le (stands_right whole.instrs base a b stands) rest in
       (plain_then whole callable limit base 0 0 0 a b one later.0, later.1)
 
-  values-fit : {names : List Name} {t : Scalar} {es : List Tree} {c base n m : ℕ} {code : List Instr} → IsSize t → AreBelow n names → c + length es ≤ n → m ≤ limit → AreStored rs.functions names t es c base n code m
+  values-fit : {names : List Name} {t : Scalar} {es : List Tree} {c base n m : ℕ} {code : List Instr} → IsSize t → AreBelow n names → c + length es ≤ n → m ≤ limit → StandsAt whole.instrs base code → AreStored rs.functions names t es c base n code m
       → Plain whole callable limit base 0 code 0
-  values-fit sized below room le (no_value c base n) = fits_none whole callable limit base 0
-  values-fit {names = names} {t = t} sized below room le (value_more e es c base n k m a b first rest) =
+  values-fit sized below room le stands (no_value c base n) = fits_none whole callable limit base 0
+  values-fit {names = names} {t = t} sized below room le stands (value_more e es c base n k m a b first rest) =
+      let there : StandsAt whole.instrs base (first.body ++ op.Store c (Some t) ∷ []) = subst (StandsAt whole.instrs base) first.is (stands_left whole.instrs base a b stands) in
       let up = grows first.coded in
       let more = stored-grows rest in
-      let value : Plain whole callable limit base 0 first.body 1 = fits_in whole callable limit rs.functions has.functions names 0 below (omega (arith, more, le)) first.coded in
+      let value : Plain whole callable limit base 0 first.body 1 = fits_in whole callable limit rs.functions has.functions names 0 below (omega (arith, more, le)) (stands_left whole.instrs base first.body (op.Store c (Some t) ∷ []) there) first.coded in
       let store : Plain whole callable limit (base + length first.body) 1 (op.Store c (Some t) ∷ []) 0 =
       fits_one whole callable limit (base + length first.body) 1 0 (op.Store c (Some t)) (omega arith) (omega arith) refl (omega (arith, room, up, more, le)) tt tt sized in
       let one : Plain whole callable limit base 0 a 0 = subst (λ is. Plain whole callable limit base 0 is 0) (sym first.is) (plain_then whole callable limit base 0 1 0 first.body (op.Store c (Some t) ∷ []) value store) in
-      plain_then whole callable limit base 0 0 0 a b one (values-fit sized (below_more n k names up below) (omega (arith, room, up)) le rest)
+      plain_then whole callable limit base 0 0 0 a b one (values-fit sized (below_more n k names up below) (omega (arith, room, up)) le (stands_right whole.instrs base a b stands) rest)
 
   list-fits : {names : List Name} {e : Tree} {t : Shape} {kind : Scalar} {base n m : ℕ} {code : List Instr} → IsSize kind → AreBelow n names → m ≤ limit → StandsAt whole.instrs base code → IsSentList rs.functions names e t kind base n code m
       → Plain whole callable limit base 0 code 0
@@ -116,7 +117,7 @@ module _ (whole : Code) (callable limit : ℕ) (rs : Routines) (has : HasRunRout
   outputs-fit {names = names} sized below le stands (output_more o others firsts base n k m a b first rest) =
       let up = stored-grows first.stored in
       let more = outputs-grow rest in
-      let one : Plain whole callable limit base 0 a 0 = values-fit (sized o.port) (below_more n (n + length first.parts) names (omega arith) below) (omega arith) (omega (arith, more, le)) first.stored in
+      let one : Plain whole callable limit base 0 a 0 = values-fit (sized o.port) (below_more n (n + length first.parts) names (omega arith) below) (omega arith) (omega (arith, more, le)) (stands_left whole.instrs base a b stands) first.stored in
       plain_then whole callable limit base 0 0 0 a b one (outputs-fit sized (below_more n k names (omega (arith, up)) below) le (stands_right whole.instrs base a b stands) rest)
   outputs-fit {names = names} sized below le stands (list_output_more o others firsts base n k m a b first rest) =
       let up = repeated-grows first.stored in

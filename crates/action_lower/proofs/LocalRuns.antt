@@ -28,6 +28,7 @@ use Rattle.stmt_lower.specs.Changing.{HoldsVars}
 use Rattle.stmt_lower.specs.Procedures.{Routines}
 use Rattle.stmt_lower.proofs.Blocking.{Started, start_moves}
 use Rattle.stmt_lower.specs.ListStarting.{IsListStart, local_of}
+use Rattle.stmt_lower.proofs.Evaluating.{may}
 use Rattle.stmt_lower.proofs.Executed.{grows_start}
 use Rattle.stmt_lower.proofs.ListStarting.{StartedList, grows_list_start, list_start_moves}
 use Rattle.stmt_lower.proofs.Locals.{any_held, but_any, but_local, local_held}
@@ -107,7 +108,7 @@ module _ (rs : Routines) (outer : List Name) (w : World) (serves : Serves w oute
       (subst (λ (o : Out Value). Follows (and_then o (λ v j. declared xs w.calls (with_local (variable x.name (Single kind) x.changes v) env) j)) (Inner behind n m s end) (CutShort w (inner ++ outer) outer n m s)) (first_same (Single kind) x.start w.calls env left)
       (follows_then (first_of (Single kind) (optional x.start) w.calls env left) (λ v j. declared xs w.calls (with_local (variable x.name (Single kind) x.changes v) env) j) (Started rs outer w serves frames runs kind n k s (base + length a)) (CutShort w (inner ++ outer) outer n k s)
       (Inner behind n m s end) (CutShort w (inner ++ outer) outer n m s)
-      (start_moves rs outer w serves frames runs inner kind n (sizes.0 kind shape) up (subst (λ ns. IsStart rs.functions ns kind n (optional x.start) base (n + 1) a k) is first) stack cells env left (stands_left w.code.instrs base a b stands) laid (omega (arith, room, up, more)) holds)
+      (start_moves rs outer w serves frames runs inner kind n (sizes.0 kind shape) up (subst (λ ns. IsStart rs.functions ns kind n (optional x.start) base (n + 1) a k) is first) stack cells env left (stands_left w.code.instrs base a b stands) laid (omega (arith, room, up, more)) holds (may w n m (n + 1) k cells cells (omega arith) more apart room refl))
       (λ v j p.
       let var : Var = variable x.name (Single kind) x.changes v in
       let size_same = p.keeps.size in

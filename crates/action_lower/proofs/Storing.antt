@@ -21,7 +21,7 @@ use Rattle.code_ir.specs.declared.outcome.Outcome.{Outcome}
 use Rattle.code_ir.specs.Running.{Ends, Reaches, State, after, go_on, here, step}
 use Rattle.code_ir.proofs.Ends.{one-end}
 use Rattle.expr_lower.specs.Flat.{flat}
-use Rattle.expr_lower.specs.Following.{CutsOff, Follows, Pushes}
+use Rattle.expr_lower.specs.Following.{CutsOff, Follows, MayUse, Pushes}
 use Rattle.expr_lower.specs.Callees.{Function}
 use Rattle.expr_lower.specs.Calling.{Serves}
 use Rattle.expr_lower.specs.Held.{AreApart, Keeps}
@@ -36,7 +36,7 @@ use Rattle.expr_lower.proofs.Written.{Written, written_keeps}
 use Rattle.expr_lower.proofs.Storing.{set_there, set_written, store_leaves}
 use Rattle.stmt_lower.specs.Bodies.{IsReady}
 use Rattle.stmt_lower.specs.Procedures.{Routines}
-use Rattle.stmt_lower.proofs.Evaluating.{does_there, singles_there}
+use Rattle.stmt_lower.proofs.Evaluating.{does_there, may, singles_there}
 use Rattle.stmt_lower.proofs.Scoping.{AreLaid, HoldsInside, inside_still, laid_more}
 use Rattle.action_lower.specs.Sending.{AreOutputs, AreStored, EndsSent, IsStored, Sends, SendsAs, StandFrom, list_output_more, no_output, no_value, output_more, value_more}
 use Rattle.action_lower.proofs.ListSending.{SendsList}
@@ -86,9 +86,11 @@ module _ (rs : Routines) (outer : List Name) (w : World) (serves : Serves w oute
     pub there : slice_get cells c ≡ Some (conv t (number_of v))
 
   pub one-stored : (e : Tree) (c base n m : ℕ) (part : List Instr) (cells : List ℤ) (left : ℕ) → IsStored fs names t e c base n part m → StandsAt w.code.instrs base part → c + 1 ≤ n → m ≤ length cells
-      → Laid c → Inside cells
+      → Laid c → Inside cells → MayUse w n m cells
       → Follows (eval e w.calls env left) (StoresOne c m (state base stack frames cells left) (base + length part)) (CutsOff w c m (state base stack frames cells left))
-  one-stored e c base n m part cells left is stands le room laid holds = go (eval e w.calls env left) (singles_there rs outer w serves frames inner is.coded cells env left n deep holds) (does_there rs outer w serves frames inner is.coded stack cells env left (stands_left w.code.instrs base is.body (op.Store c (Some t) ∷ []) there) deep holds)
+  one-stored e c base n m part cells left is stands le room laid holds usable =
+      go (eval e w.calls env left) (singles_there rs outer w serves frames inner is.coded cells env left (stands_left w.code.instrs base is.body (op.Store c (Some t) ∷ []) there) deep holds usable)
+      (does_there rs outer w serves frames inner is.coded stack cells env left (stands_left w.code.instrs base is.body (op.Store c (Some t) ∷ []) there) deep holds usable)
     where
       there : StandsAt w.code.instrs base (is.body ++ op.Store c (Some t) ∷ [])
       there = subst (StandsAt w.code.instrs base) is.is stands
@@ -177,7 +179,7 @@ module _ (rs : Routines) (outer : List Name) (w : World) (serves : Serves w oute
       let end : base + length a + length b ≡ base + length (a ++ b) = omega (arith, length-append a b) in
       subst (λ q. Follows (eval_all (listed (e ∷ es)) w.calls env left) (Stores (suc (length es)) c m (state base stack frames cells left) q) (CutsOff w c m (state base stack frames cells left))) end
       (join-values e es c base k m (base + length a) (base + length a + length b) cells left (omega (arith, le, wide)) more far
-      (one-stored e c base n k a cells left first (stands_left w.code.instrs base a b stands) (omega (arith, le)) (omega (arith, more, room)) laid holds)
+      (one-stored e c base n k a cells left first (stands_left w.code.instrs base a b stands) (omega (arith, le)) (omega (arith, more, room)) laid holds (may w c m n k cells cells (omega (arith, le)) more far room refl))
       (λ now j keeps. values-stored now j rest (stands_right w.code.instrs base a b stands) (omega (arith, le, wide)) (let size = keeps.size in omega (arith, size, room))
       (laid_more rs outer w.tokens w.low w.high c (c + 1) inner (omega arith) laid) (apart_last c (c + 1) m w.low w.high (omega arith) far)
       (inside_still rs outer w.tokens w.low w.high c k inner cells now env laid keeps holds)))

@@ -42,10 +42,10 @@ AddsGuards fs actor a entries old new = (act : Action) → slice_get actor.actio
     → Adds (AreGuards fs (seen_seats actor act) act.guards entries) old new
 
 -- whatever is written behind the draft, the code at these entries answers as the guards of the action
-abbrev pub AnswerAsGuards : List Function → Actor → ℕ → List ℕ → Draft → Type 0
-AnswerAsGuards fs actor a entries draft = (act : Action) (code : Code) (more : List Instr)
-    → slice_get actor.actions a ≡ Some act → code.instrs ≡ draft.instrs.items ++ more
-    → AnswerAs actor a act fs code entries
+abbrev pub AnswerAsGuards : List Function → Actor → ℕ → List ℕ → Draft → Draft → Type 0
+AnswerAsGuards fs actor a entries old new = (act : Action) (code : Code) (more : List Instr)
+    → slice_get actor.actions a ≡ Some act → code.instrs ≡ new.instrs.items ++ more
+    → AnswerAs actor a act fs code old.cells new.cells entries
 
 -- ---- over names, functions and guards as the code has them
 

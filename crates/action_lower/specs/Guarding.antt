@@ -78,18 +78,21 @@ AreGuardsOf actor a act code x u cells (g ∷ guards) (entry ∷ entries) =
     × AreGuardsOf actor a act code x u cells guards entries
 AreGuardsOf actor a act code x u cells guards entries = ⊥
 
--- Code has routines of functions that do what those of the actor do. Their cells lie behind the state cells, and are there.
-pub record HasFunctionsOf (actor : Actor) (a : ℕ) (fs : List Function) (code : Code) (u : List (List ℤ)) (cells : List ℤ) : Type 0 where
+-- Code has routines of functions that do what those of the actor do. Their cells lie behind the state cells and before
+-- those of the guards, which are the ones from n to m; and all are there.
+pub record HasFunctionsOf (actor : Actor) (a : ℕ) (fs : List Function) (code : Code) (n m : ℕ) (u : List (List ℤ)) (cells : List ℤ) : Type 0 where
   pub low : ℕ
   pub high : ℕ
   pub serve : Serves (round actor a u code low high) (globals_of actor) fs
   pub behind : state_cells actor ≤ low
+  pub before : high ≤ n
   pub room : HasRoom fs high cells
+  pub own : m ≤ length cells
 
 -- The code at these entries answers as the guards of an action, if it has the routines that they call: in each state of
 -- the actor, whose variables the state cells hold, over tokens of its ports.
-abbrev pub AnswerAs : Actor → ℕ → Action → List Function → Code → List ℕ → Type 0
-AnswerAs actor a act fs code entries =
-    (x : State) (u : List (List ℤ)) (cells : List ℤ) → HasFunctionsOf actor a fs code u cells
+abbrev pub AnswerAs : Actor → ℕ → Action → List Function → Code → ℕ → ℕ → List ℕ → Type 0
+AnswerAs actor a act fs code n m entries =
+    (x : State) (u : List (List ℤ)) (cells : List ℤ) → HasFunctionsOf actor a fs code n m u cells
     → IsActorState actor x → AreTokensOf actor u → has_its_tokens actor u a ≡ true
     → HoldVars actor x cells → AreGuardsOf actor a act code x u cells act.guards entries

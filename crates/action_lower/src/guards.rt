@@ -16,7 +16,8 @@ use crate::seats::seen_names;
 use cal_ast::Expr;
 use cal_model::{Bound, actions_fire_or_trap};
 use code_ir::Instr;
-use expr_lower::{Callee, Draft, LowerFault, Named, lower_calling, next_place};
+use expr_lower::{Callee, Draft, LowerFault, Named, next_place};
+use list_lower::lower_calling;
 use std::alloc::Global;
 
 /// Appends the code of the guards of an action, one after the other: for each that of its expression, and an answer.
@@ -29,7 +30,7 @@ use std::alloc::Global;
 /// # Errors
 ///
 /// `NotLowered` with the offset of the first part of a guard for which no code is made, as
-/// [`lower_calling`](expr_lower::lower_calling) says (`fault`). `TooLong` if the draft has 2 to the power of 32
+/// [`lower_calling`](list_lower::lower_calling) says (`fault`). `TooLong` if the draft has 2 to the power of 32
 /// instructions. `Memory` if memory runs out.
 pub fn lower_guards(
     alloc: Global,
@@ -44,7 +45,7 @@ pub fn lower_guards(
     ensures code { IfOk result (λ entries. AddsGuards (functions_view callees.now)
         (actor_of b.now) a entries.items draft.old draft.new) }
     ensures answers { IfOk result (λ entries. AnswerAsGuards (functions_view callees.now)
-        (actor_of b.now) a entries.items draft.new) }
+        (actor_of b.now) a entries.items draft.old draft.new) }
     ensures whole { OnOk result (IsWholeAction callees.now b.now a) }
     ensures fault { IfErr result (IsActionFault callees.now b.now a draft.new) }
 {

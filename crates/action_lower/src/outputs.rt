@@ -19,8 +19,8 @@ use crate::turns::{put_turns, take_area};
 use cal_ast::Expr;
 use cal_model::{BoundOutput, Port, Shape};
 use code_ir::Instr;
-use expr_lower::{Callee, Draft, LowerFault, Named, Scope, lower, put};
-use list_lower::{fill, fill_all};
+use expr_lower::{Callee, Draft, LowerFault, Named, Scope, put};
+use list_lower::{fill, fill_all, lower};
 use rvc_base::Scalar;
 use std::alloc::Global;
 use stmt_lower::take_list;
@@ -35,7 +35,7 @@ use stmt_lower::take_list;
 /// # Errors
 ///
 /// `NotLowered` with the offset of the first part for which no code is made: such a part of a value, as
-/// [`lower_calling`](expr_lower::lower_calling) or, of a list that is repeated, [`lower_list`](list_lower::lower_list)
+/// [`lower_calling`](list_lower::lower_calling) or, of a list that is repeated, [`lower_list`](list_lower::lower_list)
 /// says. `TooLong` if the draft has 2 to the power of 32
 /// instructions. `TooManyCells` if it has so many cells that those of an output don't fit. `Memory` if memory runs out.
 pub fn lower_outputs(

@@ -19,15 +19,13 @@ use Rattle.cal_model.specs.Eligible.{eligible}
 use Rattle.cal_model.specs.Selection.{State, has_its_tokens}
 use Rattle.action_lower.specs.FiringCode.{Fires, FiresAs, globals_of}
 use Rattle.action_lower.specs.FiringWords.{AddsFired, AddsFiring}
-use Rattle.action_lower.specs.Guarding.{AreGuards, guard_more, no_guard}
 use Rattle.action_lower.specs.GuardWords.{AddsGuards, AnswerAsGuards}
 use Rattle.action_lower.specs.Seats.{HoldVars, state_cells, taken}
 use Rattle.action_lower.proofs.StateSeats.{globals-laid}
 use Rattle.action_lower.proofs.Answering.{stands-in}
+pub use Rattle.action_lower.proofs.Answering.{guards-grow}
 use Rattle.action_lower.proofs.LocalRuns.{started_grows}
 use Rattle.action_lower.proofs.Storing.{outputs-grow}
-use Rattle.cal_ast.specs.Tree.{Tree}
-use Rattle.expr_lower.specs.Names.{Name}
 use Rattle.actor_lower.specs.Coded.{AnswersFrom, FiresFrom, IsCodedAction, IsMore}
 use Rattle.actor_lower.specs.Drafted.{GoesOn, IsServed}
 
@@ -40,10 +38,6 @@ more-again one two three f g = record {
   routines = g.routines ∙ f.routines;
   cells = let le = f.cells in let ge = g.cells in omega (arith, le, ge);
 }
-
-pub guards-grow : {fs : List Function} {names : List Name} {gs : List Tree} {es : List ℕ} {base n m : ℕ} {code : List Instr} → AreGuards fs names gs es base n code m → n ≤ m
-guards-grow (no_guard base n) = omega arith
-guards-grow (guard_more g gs es base n k m a b first rest) = let le = first.lowered.cells in let ge = guards-grow rest in omega (arith, le, ge)
 
 pub guards-added : (fs : List Function) (actor : Actor) (a : ℕ) (act : Action) (es : List ℕ) (old new : Draft) → slice_get actor.actions a ≡ Some act → AddsGuards fs actor a es old new → IsMore old new
 guards-added fs actor a act es old new is added =
@@ -118,7 +112,7 @@ fires-from actor a rs firsts entry old new sound served at added act whole more 
     room in_state of_ports may has hold)
 
 -- code of guards answers as they do, in a draft that has the routines which they call
-pub answers-from : (actor : Actor) (a : ℕ) (rs : Routines) (es : List ℕ) (old new : Draft) → IsSound actor → IsServed actor rs old → IsMore old new → AnswerAsGuards rs.functions actor a es new → AnswersFrom actor a es new
+pub answers-from : (actor : Actor) (a : ℕ) (rs : Routines) (es : List ℕ) (old new : Draft) → IsSound actor → IsServed actor rs old → IsMore old new → AnswerAsGuards rs.functions actor a es old new → AnswersFrom actor a es new
 answers-from actor a rs es old new sound served grown answer act whole more x u cells is goes room in_state of_ports has hold =
     let low = state_cells actor in
     let laid : AreLaid (globals_of actor) low served.high low [] = globals-laid actor.vars low served.high low sound.vars (omega arith) (omega arith) in
@@ -129,6 +123,8 @@ answers-from actor a rs es old new sound served grown answer act whole more x u 
       high = served.high;
       serve = λ text f e. functions_served (globals_of actor) whole (taken actor u a) actor.funs actor.procs low rs.functions laid.0 served.high routines (omega arith) text f e;
       behind = omega arith;
+      before = served.below;
       room = λ some. let le = grown.cells in let ge = served.below in omega (arith, le, ge, room);
+      own = room;
     })
     in_state of_ports has hold

@@ -251,7 +251,7 @@ module _ (actor : Actor) (sound : IsSound actor) where
             let has = wider whole (length old.routines.items) old.cells (length old.routines.items) whole.cells fs (omega arith) (omega (arith, grown, room))
             (holds.called whole (begins-before old new one.code one.routine one.is one.routines whole b)) in
             let fit : FitsAsRoutine whole (length old.routines.items) whole.cells base one.code =
-            routine_fits whole (length old.routines.items) whole.cells globals fs f g base old.cells new.cells one.code has (below-cells old.cells holds.state) sized room one.has in
+            routine_fits whole (length old.routines.items) whole.cells globals fs f g base old.cells new.cells one.code has (below-cells old.cells holds.state) sized room (stood-in whole old.instrs.items new.instrs.items one.code b.more one.is b.instrs) one.has in
             record { body = fit.body; is = fit.is; fits = subst (λ n. Fits whole (length old.routines.items) whole.cells base 0 fit.body n (base + length fit.body) n) (sym one.results) fit.fits });
         count = let c = holds.count in let l = length-append fs (g ∷ []) in omega (arith, many, c, l);
       })

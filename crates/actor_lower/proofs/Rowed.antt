@@ -67,7 +67,7 @@ guards-rows {rs} (guard_more g gs es base n k m a b first others) whole called s
       last = op.Answer;
       at_end = refl;
       stands = stands_left whole.instrs base first.body (op.Answer ∷ []) here;
-      fits = fits-more whole (length whole.routines) k whole.cells base 0 first.body 1 (base + length first.body) 1 (omega (arith, more, le)) (first.lowered.fits whole (length whole.routines) 0 wide.functions);
+      fits = fits-more whole (length whole.routines) k whole.cells base 0 first.body 1 (base + length first.body) 1 (omega (arith, more, le)) (first.lowered.fits whole (length whole.routines) 0 wide.functions (stands_left whole.instrs base first.body (op.Answer ∷ []) here));
       ends = (stands_right whole.instrs base first.body (op.Answer ∷ []) here).0;
       is_end = (behind, refl);
     }) (subst (λ p. AreBodies whole p (number + 1) (es ++ rest)) next later)

@@ -14,7 +14,8 @@ ghost use Rattle.actor_lower.specs.Settled.{AllFunctions, AreFunctions};
 
 use crate::fault::ActorFault;
 use cal_model::{Bound, BoundFun};
-use expr_lower::{Callee, Draft, LowerFault, Named, lower_function};
+use expr_lower::{Callee, Draft, LowerFault, Named};
+use list_lower::lower_function;
 use std::alloc::{AllocError, Global};
 
 /// Appends the routine of each function of an actor of which no part is left out, behind those that it calls.

@@ -240,6 +240,46 @@ actor Wrap() int(size=16) In ==> int(size=16) Out :
 > 257 2 -255
 = fires 0 1 0, sends 1 0 1, waits, 0 left";
 
+const LISTS: &str = "
+# An item of a list that is written out, and an index behind its last one.
+actor Pick() uint(size=8) In ==> uint(size=8) Out :
+  action In:[i] ==> Out:[[10, 20, 30][i]] end end
+> 2 0 1 3
+= fires 0 0 0, sends 30 10 20, traps in 0 by IndexRange, 1 left
+# An item of a list that a generator makes.
+actor Made() uint(size=8) In ==> uint(size=8) Out :
+  action In:[x, i] ==> Out:[[x + k : for int k in 0 .. 3][i]] end end
+> 5 3 7 0 1 4
+= fires 0 0, sends 8 7, traps in 0 by IndexRange, 2 left
+# An item of a list that is chosen.
+actor Chosen() uint(size=8) In ==> uint(size=8) Out :
+  action In:[x, i] ==> Out:[(if x > 5 then [1, 2] else [x, 4] end)[i]] end end
+> 6 1 3 0 4 1
+= fires 0 0 0, sends 2 3 4, waits, 0 left
+# Lists in lists, and an index in an index.
+actor Deep() uint(size=8) In ==> uint(size=8) Out :
+  action In:[i, j] ==> Out:[[[1, 2], [3, 4], [5, 6]][[2, 1, 0][i]][j] + [7, 9][j]] end end
+> 0 1 1 0 2 1
+= fires 0 0 0, sends 15 10 11, waits, 0 left
+# In guards.
+actor Ask() uint(size=8) In ==> uint(size=8) Out :
+  action In:[x] ==> Out:[1] guard [3, 0][x] > 1 end
+  action In:[x] ==> Out:[2] guard [3, 0][x] <= 1 end end
+> 0 1 0 2
+= fires 0 1 0, sends 1 2 1, traps in 0 by IndexRange, 1 left
+# The list comes before the index, and both before the test.
+actor Order() uint(size=8) In ==> uint(size=8) Out :
+  action In:[x, i] ==> Out:[[1, 6 / x][9 / i]] end end
+> 3 9 0 1
+= fires 0, sends 2, traps in 0 by DivideByZero, 2 left
+# In a function, and in a loop whose rounds find other items there.
+actor Loop() uint(size=8) In ==> uint(size=8) Out :
+  function item(int v, int i) --> int : [v, 2 * v, 3 * v][i] end
+  action In:[n] ==> Out:[s] var int i := 0, int s := 0
+  do while i < n do s := s + [i, s][1] + item(i, 2); i := i + 1; end end end
+> 3 0 1
+= fires 0 0 0, sends 12 0 0, waits, 0 left";
+
 const TURNS: &str = "
 # All turns but one too many.
 actor Loop() uint(size=32) In ==> uint(size=8) Out :
@@ -268,6 +308,11 @@ fn actions_fire(rt: HostRuntime) -> Result<(), Fail> {
 #[test]
 fn guards_call_functions(rt: HostRuntime) -> Result<(), Fail> {
     hold(&rt, rt.alloc(), CALLS)
+}
+
+#[test]
+fn any_list_is_indexed(rt: HostRuntime) -> Result<(), Fail> {
+    hold(&rt, rt.alloc(), LISTS)
 }
 
 #[test]

@@ -15,7 +15,7 @@ use Rattle.expr_lower.specs.Names.{Name}
 use Rattle.expr_lower.specs.declared.names.ItemList.{ItemList}
 use Rattle.expr_lower.specs.declared.callees.Formal.{Formal}
 use Rattle.expr_lower.specs.Callees.{Function}
-use Rattle.expr_lower.specs.Coding.{AreArgs, IsCode, IsTest, arg_more, call, call_code, formal_stores, no_arg, number, too_great, negative, truth, variable, paren, prefix, binary, both, either, if_code, tested, both_tested, aimed, prefix_instr, binary_instr, seat_instr, item, item_instr, IsOffset, deep_item, whole, row, row_instr}
+use Rattle.expr_lower.specs.Coding.{AreArgs, IsCode, IsTest, in_another_way, arg_more, call, call_code, formal_stores, no_arg, number, too_great, negative, truth, variable, paren, prefix, binary, both, either, if_code, tested, both_tested, aimed, prefix_instr, binary_instr, seat_instr, item, item_instr, IsOffset, deep_item, whole, row, row_instr}
 
 seat_unaimed : (out : ℕ) (seat : Seat) → aimed out (seat_instr seat) ≡ seat_instr seat
 seat_unaimed out (Cell c) = refl
@@ -57,10 +57,10 @@ binary_unaimed out binaries.Mul i e = let same : op.Mul ≡ i = cc in subst (Sta
 binary_unaimed out binaries.Div i e = let same : op.Div ≡ i = cc in subst (Stays out) same refl
 binary_unaimed out binaries.Mod i e = let same : op.Mod ≡ i = cc in subst (Stays out) same refl
 
-join_unaimed : (out : ℕ) (a b : List Instr) → map (aimed out) a ≡ a → map (aimed out) b ≡ b → map (aimed out) (a ++ b) ≡ a ++ b
+pub join_unaimed : (out : ℕ) (a b : List Instr) → map (aimed out) a ≡ a → map (aimed out) b ≡ b → map (aimed out) (a ++ b) ≡ a ++ b
 join_unaimed out a b e f = map-append (aimed out) a b ∙ ap (λ xs. xs ++ map (aimed out) b) e ∙ ap (λ ys. a ++ ys) f
 
-cons_unaimed : (out : ℕ) (i : Instr) (b : List Instr) → aimed out i ≡ i → map (aimed out) b ≡ b → map (aimed out) (i ∷ b) ≡ i ∷ b
+pub cons_unaimed : (out : ℕ) (i : Instr) (b : List Instr) → aimed out i ≡ i → map (aimed out) b ≡ b → map (aimed out) (i ∷ b) ≡ i ∷ b
 cons_unaimed out i b e f = ap (λ x. x ∷ map (aimed out) b) e ∙ ap (λ ys. i ∷ ys) f
 
 stores_unaimed : (out : ℕ) (xs : List Formal) → map (aimed out) (formal_stores xs) ≡ formal_stores xs
@@ -69,6 +69,7 @@ stores_unaimed out (x ∷ xs) = join_unaimed out (formal_stores xs) (op.Store x.
 
 mutual
   pub unaimed : {fs : List Function} (out : ℕ) {names : List Name} {e : Tree} {base n m : ℕ} {code : List Instr} → IsCode fs names e base n code m → map (aimed out) code ≡ code
+  unaimed out (in_another_way e base n m code h) = h.aims out
   unaimed out (number k at base n h) = refl
   unaimed out (too_great k at base n h) = refl
   unaimed out (negative k at base n place h) = refl
@@ -94,7 +95,7 @@ mutual
   unaimed_args out (no_arg base n) = refl
   unaimed_args out (arg_more e es base n k m a b h g) = join_unaimed out a b (unaimed out h) (unaimed_args out g)
 
-  unaimed_offset : {fs : List Function} (out : ℕ) {names : List Name} {e : Tree} {base n m : ℕ} {code : List Instr} → IsOffset fs names e base n code m → map (aimed out) code ≡ code
+  pub unaimed_offset : {fs : List Function} (out : ℕ) {names : List Name} {e : Tree} {base n m : ℕ} {code : List Instr} → IsOffset fs names e base n code m → map (aimed out) code ≡ code
   unaimed_offset out (whole text at base n) = refl
   unaimed_offset out (row e place at base n k m a b r g h d) =
       join_unaimed out a (b ++ row_instr r ∷ []) (unaimed_offset out h) (join_unaimed out b (row_instr r ∷ []) (unaimed out d) refl)

@@ -49,9 +49,9 @@ pub record Piles (w : World) (n m many : ℕ) (s : State) (end : ℕ) (vs : Valu
   pub reaches : Reaches w.code w.tokens s (state end top s.frames cells left)
   pub keeps : Keeps n m w.low w.high s.cells cells
 
-module _ (fs : List Function) (globals names : List Name) (w : World) (env : Env) (frames : List ℕ) where
+module _ (fs : List Function) (globals names : List Name) (w : World) (env : Env) (frames : List ℕ) (floor ceiling : ℕ) where
   abbrev pub DoesArgs : Tree → ℕ → ℕ → List Instr → ℕ → Type 0
-  DoesArgs es base n code m = (stack cells : List ℤ) (left : ℕ) → StandsAt w.code.instrs base code → Below fs globals names w env frames n → Apart fs globals names w env frames → Held fs globals names w env frames cells
+  DoesArgs es base n code m = (stack cells : List ℤ) (left : ℕ) → StandsAt w.code.instrs base code → Below fs globals names w env frames floor ceiling n → Apart fs globals names w env frames floor ceiling → Held fs globals names w env frames floor ceiling cells
       → Follows (eval_all es w.calls env left) (Piles w n m (number_of es) (state base stack frames cells left) (base + length code)) (CutsOff w n m (state base stack frames cells left))
 
   pub does_no_arg : (base n : ℕ) → DoesArgs tree.nil base n [] n
@@ -67,8 +67,8 @@ module _ (fs : List Function) (globals names : List Name) (w : World) (env : Env
         keeps = keeps_all n n w.low w.high cells;
       }
 
-  pub does_arg_more : (e es : Tree) (base n k m : ℕ) (a b : List Instr) → n ≤ k → k ≤ m → Does fs globals names w env frames e base n a k
-      → ((cells : List ℤ) (left : ℕ) → Below fs globals names w env frames n → Apart fs globals names w env frames → Held fs globals names w env frames cells → OnlySingles (eval e w.calls env left))
+  pub does_arg_more : (e es : Tree) (base n k m : ℕ) (a b : List Instr) → n ≤ k → k ≤ m → Does fs globals names w env frames floor ceiling e base n a k
+      → ((cells : List ℤ) (left : ℕ) → StandsAt w.code.instrs base a → Below fs globals names w env frames floor ceiling n → Apart fs globals names w env frames floor ceiling → Held fs globals names w env frames floor ceiling cells → OnlySingles (eval e w.calls env left))
       → DoesArgs es (base + length a) k b m → DoesArgs (tree.cons e es) base n (a ++ b) m
   does_arg_more e es base n k m a b le ge first single rest stack cells left stands below apart holds =
       let s : State = state base stack frames cells left in
@@ -76,12 +76,12 @@ module _ (fs : List Function) (globals names : List Name) (w : World) (env : Env
       follows_then (eval e w.calls env left) (λ v j. and_then (eval_all es w.calls env j) (λ vs i. Gives (Cons v vs) i))
       (λ v j. Pushes w n k s (base + length a) v j × IsSingleValue v) (λ c. CutsOff w n k s c × Unit {0}) (Piles w n m (suc (number_of es)) s (base + length (a ++ b))) (CutsOff w n m s)
       (follows_both (eval e w.calls env left) (Pushes w n k s (base + length a)) (CutsOff w n k s) (λ v j. IsSingleValue v) (λ c. Unit {0})
-      (first stack cells left (stands_left w.code.instrs base a b stands) below apart holds) (single cells left below apart holds))
+      (first stack cells left (stands_left w.code.instrs base a b stands) below apart holds) (single cells left (stands_left w.code.instrs base a b stands) below apart holds))
       (λ v j both.
       let p : Pushes w n k s (base + length a) v j = both.0 in
       let t : State = state (base + length a) (p.number ∷ stack) frames p.cells j in
       follows_then (eval_all es w.calls env j) (λ vs i. Gives (Cons v vs) i) (Piles w k m (number_of es) t (base + length a + length b)) (CutsOff w k m t) (Piles w n m (suc (number_of es)) s (base + length (a ++ b))) (CutsOff w n m s)
-      (rest (p.number ∷ stack) p.cells j (stands_right w.code.instrs base a b stands) (below_on fs globals names w env frames n k le below) apart (still fs globals names w env frames p.keeps below apart holds))
+      (rest (p.number ∷ stack) p.cells j (stands_right w.code.instrs base a b stands) (below_on fs globals names w env frames floor ceiling n k le below) apart (still fs globals names w env frames floor ceiling p.keeps below apart holds))
       (λ vs i q. record {
         as_many = ap suc q.as_many;
         top = q.top;
@@ -145,11 +145,11 @@ put_all w frames (x ∷ xs) c (Cons v vs) base stack top cells left (at, row) (s
 
 -- ---- the call
 
-pub does_call : (fs : List Function) (globals names : List Name) (w : World) (serves : Serves w globals fs) (env : Env) (frames : List ℕ)
+pub does_call : (fs : List Function) (globals names : List Name) (w : World) (serves : Serves w globals fs) (env : Env) (frames : List ℕ) (floor ceiling : ℕ)
     (text : List ℕ) (args : Tree) (at base n m : ℕ) (code : List Instr) (f : Function) → function_named text fs ≡ Some f → number_of args ≡ length f.formals
-    → DoesArgs fs globals names w env frames args base n code m
-    → n ≤ m → Does fs globals names w env frames (tree.call text args at) base n (code ++ call_code f) m
-does_call fs globals names w serves env frames text args at base n m code f e number does grows stack cells left stands below apart holds =
+    → DoesArgs fs globals names w env frames floor ceiling args base n code m
+    → n ≤ m → Does fs globals names w env frames floor ceiling (tree.call text args at) base n (code ++ call_code f) m
+does_call fs globals names w serves env frames floor ceiling text args at base n m code f e number does grows stack cells left stands below apart holds =
     follows_then (eval_all args w.calls env left) (λ vs j. turn j (λ k. w.calls env.globals text vs k)) (Piles w n m (number_of args) s (base + length code)) (CutsOff w n m s) (Pushes w n m s end) (CutsOff w n m s)
     (does stack cells left (stands_left w.code.instrs base code (call_code f) stands) below apart holds)
     (λ vs j p. turned vs j p) (λ c t. t)

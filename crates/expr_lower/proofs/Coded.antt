@@ -26,51 +26,21 @@ use Rattle.expr_lower.specs.Names.{Name, IsSingle, named}
 use Rattle.expr_lower.specs.Held.{AllApart, StandAt, Holds, HoldsName, AreBelow}
 use Rattle.expr_lower.specs.Parted.{number_of}
 use Rattle.expr_lower.specs.Placed.{StandsAt, World, state}
-use Rattle.expr_lower.specs.Following.{Chooses, Follows, Pushes, CutsOff, EndsAs, Evaluates}
+use Rattle.expr_lower.specs.Following.{Chooses, Follows, MayUse, Pushes, CutsOff, EndsAs, Evaluates}
 use Rattle.expr_lower.specs.Calling.{EvaluatesWith, HasRoom, Serves, outside}
 use Rattle.expr_lower.specs.Callees.{Function}
-use Rattle.expr_lower.specs.Coding.{AreArgs, IsCode, IsOffset, IsTest, no_arg, arg_more, call, number, too_great, negative, truth, variable, paren, prefix, binary, both, either, if_code, tested, both_tested, seat_instr, item, deep_item, whole, row}
+use Rattle.expr_lower.specs.Coding.{AreArgs, IsCode, IsOffset, IsTest, in_another_way, no_arg, arg_more, call, number, too_great, negative, truth, variable, paren, prefix, binary, both, either, if_code, tested, both_tested, seat_instr, item, deep_item, whole, row}
 use Rattle.expr_lower.proofs.Called.{DoesArgs, does_arg_more, does_call, does_no_arg}
 use Rattle.expr_lower.proofs.Finding.{is_found}
+pub use Rattle.expr_lower.proofs.Grown.{grows, grows_args, grows_offset, grows_test}
 use Rattle.expr_lower.proofs.GivenKinds.{kinds_in}
-use Rattle.expr_lower.proofs.Singles.{singles_in}
+use Rattle.expr_lower.proofs.Singles.{OnlySingles, singles_in}
 use Rattle.expr_lower.proofs.Items.{does_item}
 use Rattle.expr_lower.proofs.Rowed.{DoesOffset, does_deep, does_row, does_whole}
 use Rattle.expr_lower.proofs.Listing.{single_flat}
 use Rattle.expr_lower.proofs.Runs.{ends_back, obeys}
 use Rattle.expr_lower.proofs.Keeping.{keeps_all}
-use Rattle.expr_lower.proofs.Doing.{IsStraight, Does, Tests, acts_after, does_const, does_prefix, does_binary, does_both, does_either, does_if, tests_value, tests_both}
-
--- ---- cells
-
-mutual
-  pub grows : {fs : List Function} {names : List Name} {e : Tree} {base n m : ℕ} {code : List Instr} → IsCode fs names e base n code m → n ≤ m
-  grows (number k at base n h) = omega arith
-  grows (too_great k at base n h) = omega arith
-  grows (negative k at base n place h) = omega arith
-  grows (truth b at base n) = omega arith
-  grows (variable text at base n x h s) = omega arith
-  grows (paren e at base n m code h) = grows h
-  grows (prefix o e at base n m code h) = grows h
-  grows (binary o i l r at base n k m a b e h g) = let x = grows h in let y = grows g in omega (arith, x, y)
-  grows (call text args at base n m code f e h) = grows_args h
-  grows (item e place at base n m code l g h) = grows h
-  grows (deep_item e place at base n m code l g h) = grows_offset h
-  grows (both l r at base n k m far end a b t h g e f) = let x = grows_test h in let y = grows g in omega (arith, x, y)
-  grows (either l r at base n k m right end a b t h g e f) = let x = grows_test h in let y = grows g in omega (arith, x, y)
-  grows (if_code test first other at base n k j m else_at end a b c h g d e f) = let x = grows_test h in let y = grows g in let z = grows d in omega (arith, x, y, z)
-
-  pub grows_args : {fs : List Function} {names : List Name} {es : Tree} {base n m : ℕ} {code : List Instr} → AreArgs fs names es base n code m → n ≤ m
-  grows_args (no_arg base n) = omega arith
-  grows_args (arg_more e es base n k m a b h g) = let x = grows h in let y = grows_args g in omega (arith, x, y)
-
-  pub grows_offset : {fs : List Function} {names : List Name} {e : Tree} {base n m : ℕ} {code : List Instr} → IsOffset fs names e base n code m → n ≤ m
-  grows_offset (whole text at base n) = omega arith
-  grows_offset (row e place at base n k m a b r g h d) = let x = grows_offset h in let y = grows d in omega (arith, x, y)
-
-  pub grows_test : {fs : List Function} {names : List Name} {e : Tree} {base n far m : ℕ} {code : List Instr} → IsTest fs names e base n far code m → n ≤ m
-  grows_test (tested e base n m far code h) = grows h
-  grows_test (both_tested l r at base n k m far a b t h g) = let x = grows_test h in let y = grows_test g in omega (arith, x, y)
+use Rattle.expr_lower.proofs.Doing.{IsStraight, Does, Tests, acts_after, does_const, does_prefix, does_binary, does_both, does_either, does_if, may_use, prepared, tests_value, tests_both}
 
 -- ---- literals
 
@@ -98,21 +68,21 @@ seat_leaves (Tokens port first step) tokens stack cells z h =
 
 -- ---- all forms
 
-module _ (fs : List Function) (globals names : List Name) (w : World) (serves : Serves w globals fs) (env : Env) (frames : List ℕ) where
-  does_number : (k at base n : ℕ) → is_num (pos k) ≡ true → Does fs globals names w env frames (tree.number k at) base n (op.Const (pos k) ∷ []) n
+module _ (fs : List Function) (globals names : List Name) (w : World) (serves : Serves w globals fs) (env : Env) (frames : List ℕ) (floor ceiling : ℕ) where
+  does_number : (k at base n : ℕ) → is_num (pos k) ≡ true → Does fs globals names w env frames floor ceiling (tree.number k at) base n (op.Const (pos k) ∷ []) n
   does_number k at base n h stack cells left stands below apart holds =
       let s : State = state base stack frames cells left in
       subst (λ b. Follows (computed (if b then arithmetic.Gives (pos k) else arithmetic.Traps Overflow) left) (Pushes w n n s (base + 1)) (CutsOff w n n s)) (sym h)
-      (does_const fs globals names w env frames (pos k) (Num (pos k)) base n stack cells left refl stands)
+      (does_const fs globals names w env frames floor ceiling (pos k) (Num (pos k)) base n stack cells left refl stands)
 
-  does_negative : (k place at base n : ℕ) → is_num (pos k) ≡ true → Does fs globals names w env frames (tree.prefix prefixes.Neg (tree.number k place) at) base n (op.Const (neg_ℤ (pos k)) ∷ []) n
+  does_negative : (k place at base n : ℕ) → is_num (pos k) ≡ true → Does fs globals names w env frames floor ceiling (tree.prefix prefixes.Neg (tree.number k place) at) base n (op.Const (neg_ℤ (pos k)) ∷ []) n
   does_negative k place at base n h stack cells left stands below apart holds =
       let s : State = state base stack frames cells left in
       subst (λ b. Follows (and_then (computed (if b then arithmetic.Gives (pos k) else arithmetic.Traps Overflow) left) (λ v m. prefixed prefixes.Neg v m)) (Pushes w n n s (base + 1)) (CutsOff w n n s)) (sym h)
       (subst (λ b. Follows (computed (if b then arithmetic.Gives (neg_ℤ (pos k)) else arithmetic.Traps Overflow) left) (Pushes w n n s (base + 1)) (CutsOff w n n s)) (sym (negative_num k h))
-      (does_const fs globals names w env frames (neg_ℤ (pos k)) (Num (neg_ℤ (pos k))) base n stack cells left refl stands))
+      (does_const fs globals names w env frames floor ceiling (neg_ℤ (pos k)) (Num (neg_ℤ (pos k))) base n stack cells left refl stands))
 
-  does_too_great : (k at base n : ℕ) → is_num (pos k) ≡ false → Does fs globals names w env frames (tree.number k at) base n (op.Const greatest_num ∷ op.Const (pos 1) ∷ op.Add ∷ []) n
+  does_too_great : (k at base n : ℕ) → is_num (pos k) ≡ false → Does fs globals names w env frames floor ceiling (tree.number k at) base n (op.Const greatest_num ∷ op.Const (pos 1) ∷ op.Add ∷ []) n
   does_too_great k at base n h stack cells left stands below apart holds =
       let s : State = state base stack frames cells left in
       let s1 : State = state (base + 1) (greatest_num ∷ stack) frames cells left in
@@ -128,7 +98,7 @@ module _ (fs : List Function) (globals names : List Name) (w : World) (serves : 
       go_two : (s t u : State) → step w.code w.tokens s ≡ Goes t → step w.code w.tokens t ≡ Goes u → Ends w.code w.tokens u (outcome.Trap Overflow) cells → Ends w.code w.tokens s (outcome.Trap Overflow) cells
       go_two s t u e f r = go e (go f r)
 
-  does_variable : (text : List ℕ) (at base n : ℕ) (x : Name) → named text names ≡ Some x → IsSingle x.shape → Does fs globals names w env frames (tree.variable text at) base n (seat_instr x.seat ∷ []) n
+  does_variable : (text : List ℕ) (at base n : ℕ) (x : Name) → named text names ≡ Some x → IsSingle x.shape → Does fs globals names w env frames floor ceiling (tree.variable text at) base n (seat_instr x.seat ∷ []) n
   does_variable text at base n x e single stack cells left stands below apart holds =
       let s : State = state base stack frames cells left in
       let h : HoldsName w.tokens cells env text x = holds.0 text x e in
@@ -139,39 +109,56 @@ module _ (fs : List Function) (globals names : List Name) (w : World) (serves : 
       (record { same = refl; number = one.0; is = one.1; leaves = seat_leaves x.seat w.tokens stack cells one.0 stand }))
 
   mutual
-    pub does_in : {e : Tree} {base n m : ℕ} {code : List Instr} → IsCode fs names e base n code m → Does fs globals names w env frames e base n code m
-    does_in (number k at base n h) = does_number k at base n h
-    does_in (too_great k at base n h) = does_too_great k at base n h
-    does_in (negative k at base n place h) = does_negative k place at base n h
-    does_in (truth b at base n) = λ stack cells left stands below apart holds. does_const fs globals names w env frames (arithmetic.truth b) (Truth b) base n stack cells left refl stands
-    does_in (variable text at base n x h s) = does_variable text at base n x h s
-    does_in (paren e at base n m code h) = does_in h
-    does_in (prefix o e at base n m code h) = does_prefix fs globals names w env frames o e at base n m code (does_in h)
-    does_in (binary o i l r at base n k m a b e h g) = does_binary fs globals names w env frames o i l r at base n k m a b e (grows h) (grows g) (does_in h) (does_in g)
-    does_in (call text args at base n m code f e h) = does_call fs globals names w serves env frames text args at base n m code f (is_found text (number_of args) fs f e).0 (sym (is_found text (number_of args) fs f e).1) (does_args h) (grows_args h)
-    does_in (item e place at base n m code l g h) = does_item fs globals names w env frames e place at base n m code l g (does_in h)
-    does_in (deep_item e place at base n m code l g h) = does_deep fs globals names w env frames (tree.index e place at) base n m code l g (offsets h)
-    does_in (both l r at base n k m far end a b t h g e f) = does_both fs globals names w env frames l r at base n k m far end a b t (grows_test h) (grows g) e f (tests_in h) (does_in g)
-    does_in (either l r at base n k m right end a b t h g e f) = does_either fs globals names w env frames l r at base n k m right end a b t (grows_test h) (grows g) e f (tests_in h) (does_in g)
-    does_in (if_code test first other at base n k j m else_at end a b c h g d e f) =
-        does_if fs globals names w env frames test first other at base n k j m else_at end a b c (grows_test h) (grows g) (grows d) e f (tests_in h) (does_in g) (does_in d)
+    pub does_in : {e : Tree} {base n m : ℕ} {code : List Instr} → IsCode fs names e base n code m → m ≤ ceiling → Does fs globals names w env frames floor ceiling e base n code m
+    does_in (in_another_way e base n m code h) up = λ stack cells left stands below apart holds.
+        (h.evaluates below.0).goes w globals env stack frames cells left stands serves (prepared fs globals names w env frames floor ceiling n cells below apart holds) (may_use fs globals names w env frames floor ceiling n m cells up below apart holds)
+    does_in (number k at base n h) up = does_number k at base n h
+    does_in (too_great k at base n h) up = does_too_great k at base n h
+    does_in (negative k at base n place h) up = does_negative k place at base n h
+    does_in (truth b at base n) up = λ stack cells left stands below apart holds. does_const fs globals names w env frames floor ceiling (arithmetic.truth b) (Truth b) base n stack cells left refl stands
+    does_in (variable text at base n x h s) up = does_variable text at base n x h s
+    does_in (paren e at base n m code h) up = does_in h up
+    does_in (prefix o e at base n m code h) up = does_prefix fs globals names w env frames floor ceiling o e at base n m code (does_in h up)
+    does_in (binary o i l r at base n k m a b e h g) up =
+        let y = grows g in
+        does_binary fs globals names w env frames floor ceiling o i l r at base n k m a b e (grows h) y (does_in h (omega (arith, y, up))) (does_in g up)
+    does_in (call text args at base n m code f e h) up =
+        does_call fs globals names w serves env frames floor ceiling text args at base n m code f (is_found text (number_of args) fs f e).0 (sym (is_found text (number_of args) fs f e).1) (does_args h up) (grows_args h)
+    does_in (item e place at base n m code l g h) up = does_item fs globals names w env frames floor ceiling e place at base n m code l g (does_in h up)
+    does_in (deep_item e place at base n m code l g h) up = does_deep fs globals names w env frames floor ceiling (tree.index e place at) base n m code l g (offsets h up)
+    does_in (both l r at base n k m far end a b t h g e f) up =
+        let y = grows g in
+        does_both fs globals names w env frames floor ceiling l r at base n k m far end a b t (grows_test h) y e f (tests_in h (omega (arith, y, up))) (does_in g up)
+    does_in (either l r at base n k m right end a b t h g e f) up =
+        let y = grows g in
+        does_either fs globals names w env frames floor ceiling l r at base n k m right end a b t (grows_test h) y e f (tests_in h (omega (arith, y, up))) (does_in g up)
+    does_in (if_code test first other at base n k j m else_at end a b c h g d e f) up =
+        let y = grows g in let z = grows d in
+        does_if fs globals names w env frames floor ceiling test first other at base n k j m else_at end a b c (grows_test h) y z e f (tests_in h (omega (arith, y, z, up))) (does_in g (omega (arith, z, up))) (does_in d up)
 
-    pub does_args : {es : Tree} {base n m : ℕ} {code : List Instr} → AreArgs fs names es base n code m → DoesArgs fs globals names w env frames es base n code m
-    does_args (no_arg base n) = does_no_arg fs globals names w env frames base n
-    does_args (arg_more e es base n k m a b h g) =
-        does_arg_more fs globals names w env frames e es base n k m a b (grows h) (grows_args g) (does_in h) (λ cells left below apart holds. singles_in fs w.calls names w.tokens cells env (kinds_in fs globals w serves env.globals n cells below.1 apart.1 holds.1 holds.2) holds.0 h left) (does_args g)
+    pub does_args : {es : Tree} {base n m : ℕ} {code : List Instr} → AreArgs fs names es base n code m → m ≤ ceiling → DoesArgs fs globals names w env frames floor ceiling es base n code m
+    does_args (no_arg base n) up = does_no_arg fs globals names w env frames floor ceiling base n
+    does_args (arg_more e es base n k m a b h g) up =
+        let y = grows_args g in
+        does_arg_more fs globals names w env frames floor ceiling e es base n k m a b (grows h) y (does_in h (omega (arith, y, up)))
+        (λ cells left stands below apart holds. singles_in fs globals names w serves env floor ceiling cells (kinds_in fs globals w serves env.globals n cells below.1 apart.1 holds.1 holds.2) apart holds h (omega (arith, y, up)) left stands below)
+        (does_args g up)
 
-    pub offsets : {e : Tree} {base n m : ℕ} {code : List Instr} → IsOffset fs names e base n code m → DoesOffset fs globals names w env frames e base n code m
-    offsets (whole text at base n) = does_whole fs globals names w env frames text at base n
-    offsets (row e place at base n k m a b r g h d) = does_row fs globals names w env frames e place at base n k m a b r g (grows_offset h) (grows d) (offsets h) (does_in d)
+    pub offsets : {e : Tree} {base n m : ℕ} {code : List Instr} → IsOffset fs names e base n code m → m ≤ ceiling → DoesOffset fs globals names w env frames floor ceiling e base n code m
+    offsets (whole text at base n) up = does_whole fs globals names w env frames floor ceiling text at base n
+    offsets (row e place at base n k m a b r g h d) up =
+        let y = grows d in
+        does_row fs globals names w env frames floor ceiling e place at base n k m a b r g (grows_offset h) y (offsets h (omega (arith, y, up))) (does_in d up)
 
-    pub tests_in : {e : Tree} {base n far m : ℕ} {code : List Instr} → IsTest fs names e base n far code m → Tests fs globals names w env frames e base n far code m
-    tests_in (tested e base n m far code h) = tests_value fs globals names w env frames e base n m far code (does_in h)
-    tests_in (both_tested l r at base n k m far a b t h g) = tests_both fs globals names w env frames l r at base n k m far a b t (grows_test h) (grows_test g) (tests_in h) (tests_in g)
+    pub tests_in : {e : Tree} {base n far m : ℕ} {code : List Instr} → IsTest fs names e base n far code m → m ≤ ceiling → Tests fs globals names w env frames floor ceiling e base n far code m
+    tests_in (tested e base n m far code h) up = tests_value fs globals names w env frames floor ceiling e base n m far code (does_in h up)
+    tests_in (both_tested l r at base n k m far a b t h g) up =
+        let y = grows_test g in
+        tests_both fs globals names w env frames floor ceiling l r at base n k m far a b t (grows_test h) y (tests_in h (omega (arith, y, up))) (tests_in g up)
 
 -- ---- and no other end
 
-ends_as : (w : World) (n m : ℕ) (s : State) (end : ℕ) (out : Out Value) (o : Outcome) (last : List ℤ) → Follows out (Pushes w n m s end) (CutsOff w n m s) → Ends w.code w.tokens s o last → EndsAs w s end out o last
+pub ends_as : (w : World) (n m : ℕ) (s : State) (end : ℕ) (out : Out Value) (o : Outcome) (last : List ℤ) → Follows out (Pushes w n m s end) (CutsOff w n m s) → Ends w.code w.tokens s o last → EndsAs w s end out o last
 ends_as w n m s end (Gives v left) o last p r = (p.number, p.cells, p.is, ends_back o last p.reaches r)
 ends_as w n m s end (Traps c) o last t r = (one-end w.code w.tokens (outcome.Trap c) t.cells r t.ends).0
 ends_as w n m s end Lacks o last t r = tt
@@ -179,11 +166,11 @@ ends_as w n m s end Clashes o last t r = tt
 
 pub evaluates_with : {fs : List Function} (names : List Name) (e : Tree) (base n m : ℕ) (code : List Instr) → AreBelow n names → IsCode fs names e base n code m → EvaluatesWith fs names e base n m code
 evaluates_with {fs = fs} names e base n m code below coded = record {
-  goes = λ w globals env stack frames cells left stands serves p.
-      does_in fs globals names w serves env frames coded stack cells left stands (below, p.globals_below) (p.apart, p.globals_apart) (p.holds, p.holds_globals, p.room);
-  only = λ w globals env stack frames cells left stands serves p o last r.
+  goes = λ w globals env stack frames cells left stands serves p usable.
+      does_in fs globals names w serves env frames n m coded (omega arith) stack cells left stands (below, p.globals_below, omega arith) (p.apart, p.globals_apart, λ less. (usable less).0) (p.holds, p.holds_globals, p.room, λ less. (usable less).1);
+  only = λ w globals env stack frames cells left stands serves p usable o last r.
       ends_as w n m (state base stack frames cells left) (base + length code) (eval e w.calls env left) o last
-      (does_in fs globals names w serves env frames coded stack cells left stands (below, p.globals_below) (p.apart, p.globals_apart) (p.holds, p.holds_globals, p.room)) r;
+      (does_in fs globals names w serves env frames n m coded (omega arith) stack cells left stands (below, p.globals_below, omega arith) (p.apart, p.globals_apart, λ less. (usable less).0) (p.holds, p.holds_globals, p.room, λ less. (usable less).1)) r;
 }
 
 -- ---- if there are no functions
@@ -206,22 +193,30 @@ no_room high cells some = absurd (omega (arith, some))
 
 -- evaluating and the code come to the same from any operands, cells and turns
 abbrev pub DoesAlone : List Name → World → Env → List ℕ → Tree → ℕ → ℕ → List Instr → ℕ → Type 0
-DoesAlone names w env frames e base n code m = (stack cells : List ℤ) (left : ℕ) → StandsAt w.code.instrs base code → AreBelow n names → AllApart w.low w.high names → Holds names w.tokens cells env
+DoesAlone names w env frames e base n code m = (stack cells : List ℤ) (left : ℕ) → StandsAt w.code.instrs base code → AreBelow n names → AllApart w.low w.high names → Holds names w.tokens cells env → MayUse w n m cells
     → Follows (eval e w.calls env left) (Pushes w n m (state base stack frames cells left) (base + length code)) (CutsOff w n m (state base stack frames cells left))
 
 pub does : (names : List Name) (w : World) (env : Env) (frames : List ℕ) {e : Tree} {base n m : ℕ} {code : List Instr} → IsCode [] names e base n code m → DoesAlone names w env frames e base n code m
-does names w env frames {n = n} coded stack cells left stands below apart holds =
-    does_in [] [] names w (no_serves w) env frames coded stack cells left stands (below, no_below n) (apart, no_apart w.low w.high) (holds, no_held w.tokens cells (outside env.globals), no_room w.high cells)
+does names w env frames {n = n} {m = m} coded stack cells left stands below apart holds usable =
+    does_in [] [] names w (no_serves w) env frames n m coded (omega arith) stack cells left stands (below, no_below n, omega arith) (apart, no_apart w.low w.high, λ less. (usable less).0)
+    (holds, no_held w.tokens cells (outside env.globals), no_room w.high cells, λ less. (usable less).1)
 
 pub tests : (names : List Name) (w : World) (env : Env) (frames : List ℕ) {e : Tree} {base n far m : ℕ} {code : List Instr} → IsTest [] names e base n far code m
-    → (stack cells : List ℤ) (left : ℕ) → StandsAt w.code.instrs base code → AreBelow n names → AllApart w.low w.high names → Holds names w.tokens cells env
+    → (stack cells : List ℤ) (left : ℕ) → StandsAt w.code.instrs base code → AreBelow n names → AllApart w.low w.high names → Holds names w.tokens cells env → MayUse w n m cells
     → Follows (eval e w.calls env left) (Chooses w n m (state base stack frames cells left) (base + length code) far) (CutsOff w n m (state base stack frames cells left))
-tests names w env frames {n = n} coded stack cells left stands below apart holds =
-    tests_in [] [] names w (no_serves w) env frames coded stack cells left stands (below, no_below n) (apart, no_apart w.low w.high) (holds, no_held w.tokens cells (outside env.globals), no_room w.high cells)
+tests names w env frames {n = n} {m = m} coded stack cells left stands below apart holds usable =
+    tests_in [] [] names w (no_serves w) env frames n m coded (omega arith) stack cells left stands (below, no_below n, omega arith) (apart, no_apart w.low w.high, λ less. (usable less).0)
+    (holds, no_held w.tokens cells (outside env.globals), no_room w.high cells, λ less. (usable less).1)
+
+pub singles : (names : List Name) (w : World) (env : Env) {e : Tree} {base n m : ℕ} {code : List Instr} → IsCode [] names e base n code m → (cells : List ℤ) (left : ℕ) → StandsAt w.code.instrs base code → AreBelow n names → AllApart w.low w.high names → Holds names w.tokens cells env → MayUse w n m cells
+    → OnlySingles (eval e w.calls env left)
+singles names w env {n = n} {m = m} coded cells left stands below apart holds usable =
+    singles_in [] [] names w (no_serves w) env n m cells (λ text f e. cc) (apart, no_apart w.low w.high, λ less. (usable less).0)
+    (holds, no_held w.tokens cells (outside env.globals), no_room w.high cells, λ less. (usable less).1) coded (omega arith) left stands (below, no_below n, omega arith)
 
 pub evaluates : (names : List Name) (e : Tree) (base n m : ℕ) (code : List Instr) → AreBelow n names → IsCode [] names e base n code m → Evaluates names e base n m code
 evaluates names e base n m code below coded = record {
-  goes = λ w env stack frames cells left stands apart holds. does names w env frames coded stack cells left stands below apart holds;
-  only = λ w env stack frames cells left stands apart holds o last r.
-      ends_as w n m (state base stack frames cells left) (base + length code) (eval e w.calls env left) o last (does names w env frames coded stack cells left stands below apart holds) r;
+  goes = λ w env stack frames cells left stands apart holds usable. does names w env frames coded stack cells left stands below apart holds usable;
+  only = λ w env stack frames cells left stands apart holds usable o last r.
+      ends_as w n m (state base stack frames cells left) (base + length code) (eval e w.calls env left) o last (does names w env frames coded stack cells left stands below apart holds usable) r;
 }

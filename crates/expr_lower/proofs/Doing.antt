@@ -1,5 +1,5 @@
 -- The code of each form does what evaluating the form does.
-use Rattle.std.proofs.Common.{◌≡◌, ℕ, ◌+◌, ◌≤◌, ℤ, List, [], ◌∷◌, ◌++◌, length, Bool, true, false, refl, sym, ap, ◌∙◌, subst, Some, arith, length-append}
+use Rattle.std.proofs.Common.{◌≡◌, ℕ, ◌+◌, ◌≤◌, ◌<◌, ℤ, List, [], ◌∷◌, ◌++◌, length, Bool, true, false, refl, sym, ap, ◌∙◌, subst, Some, arith, length-append}
 use Rattle.std.specs.Prelude.{if◌then◌else◌, slice_get, pos}
 use Rattle.rvc_base.specs.declared.trap.Trap.{Trap}
 use Rattle.rvc_base.specs.Arithmetic.{is_true, truth}
@@ -19,15 +19,15 @@ use Rattle.code_ir.specs.Effect.{Fails, effect}
 use Rattle.code_ir.specs.Running.{State, step, obey, go_on, stop, Reaches, here, after}
 use Rattle.expr_lower.specs.Flat.{flat}
 use Rattle.expr_lower.specs.Names.{Name}
-use Rattle.expr_lower.specs.Held.{Holds, AreBelow, AllApart, Keeps}
+use Rattle.expr_lower.specs.Held.{Holds, AreApart, AreBelow, AllApart, Keeps}
 use Rattle.expr_lower.specs.Placed.{StandsAt, World, state}
-use Rattle.expr_lower.specs.Following.{Follows, Pushes, Chooses, CutsOff}
+use Rattle.expr_lower.specs.Following.{Follows, MayUse, Pushes, Chooses, CutsOff}
 use Rattle.expr_lower.specs.Coding.{prefix_instr, binary_instr}
 use Rattle.expr_lower.specs.Callees.{Function}
-use Rattle.expr_lower.specs.Calling.{HasRoom, outside}
+use Rattle.expr_lower.specs.Calling.{HasRoom, Prepared, outside}
 use Rattle.expr_lower.specs.Truths.{is_truth}
 use Rattle.expr_lower.proofs.Runs.{reaches_join, ends_join, obeys, follows_then, follows_more, follows_both, stands_left, stands_right}
-use Rattle.expr_lower.proofs.Keeping.{keeps_all, keeps_wider, keeps_join, holds_still, below_more}
+use Rattle.expr_lower.proofs.Keeping.{keeps_all, keeps_wider, keeps_join, holds_still, below_more, apart_first, apart_last}
 use Rattle.expr_lower.proofs.Truthful.{IsTruth, truths}
 use Rattle.expr_lower.proofs.Effects.{Left, Acts, same_number, true_again, prefix_acts, binary_acts, goes_right}
 
@@ -149,26 +149,47 @@ choice_reaches w n m base near there stack frames before left a k c =
 
 -- ---- forms
 
-module _ (fs : List Function) (globals names : List Name) (w : World) (env : Env) (frames : List ℕ) where
+-- The cells from `floor` to `ceiling` may be used, if there are any.
+module _ (fs : List Function) (globals names : List Name) (w : World) (env : Env) (frames : List ℕ) (floor ceiling : ℕ) where
   -- the cells of the names and of the globals lie below n, and outside those of routines
   abbrev pub Below : ℕ → Type 0
-  Below n = AreBelow n names × AreBelow n globals
+  Below n = AreBelow n names × AreBelow n globals × (floor ≤ n)
 
   abbrev pub Apart : Type 0
-  Apart = AllApart w.low w.high names × AllApart w.low w.high globals
+  Apart = AllApart w.low w.high names × AllApart w.low w.high globals × (floor < ceiling → AreApart floor ceiling w.low w.high)
 
-  -- the cells hold what the names mean and what the globals do, and the cells of routines are there
+  -- the cells hold what the names mean and what the globals do, and the cells of routines and those that may be used are
+  -- there
   abbrev pub Held : List ℤ → Type 0
-  Held cells = Holds names w.tokens cells env × Holds globals w.tokens cells (outside env.globals) × HasRoom fs w.high cells
+  Held cells = Holds names w.tokens cells env × Holds globals w.tokens cells (outside env.globals) × HasRoom fs w.high cells × (floor < ceiling → ceiling ≤ length cells)
 
   pub below_on : (n m : ℕ) → n ≤ m → Below n → Below m
-  below_on n m le below = (below_more n m names le below.0, below_more n m globals le below.1)
+  below_on n m le below = (below_more n m names le below.0, below_more n m globals le below.1, omega (arith, below.2, le))
+
+  -- what code of an expression may use lies among these cells
+  pub may_use : (n m : ℕ) (cells : List ℤ) → m ≤ ceiling → Below n → Apart → Held cells → MayUse w n m cells
+  may_use n m cells le below apart holds less =
+      let from = below.2 in
+      let some : floor < ceiling = omega (arith, from, le, less) in
+      let room = holds.3 some in
+      (apart_last floor n m w.low w.high from (apart_first floor m ceiling w.low w.high le (apart.2 some)), omega (arith, room, le))
+
+  pub prepared : (n : ℕ) (cells : List ℤ) → Below n → Apart → Held cells → Prepared w globals names fs n cells env
+  prepared n cells below apart holds = record {
+    apart = apart.0;
+    globals_apart = apart.1;
+    globals_below = below.1;
+    holds = holds.0;
+    holds_globals = holds.1;
+    room = holds.2;
+  }
 
   pub still : {n m : ℕ} {before after : List ℤ} → Keeps n m w.low w.high before after → Below n → Apart → Held before → Held after
   still keeps below apart holds = (
     holds_still names w.tokens env keeps below.0 apart.0 holds.0,
     holds_still globals w.tokens (outside env.globals) keeps below.1 apart.1 holds.1,
     λ some. let h = holds.2 some in let size = keeps.size in omega (arith, h, size),
+    λ less. let h = holds.3 less in let size = keeps.size in omega (arith, h, size),
   )
 
   -- evaluating and the code come to the same from any operands, cells and turns

@@ -1,6 +1,6 @@
 -- Which cells names have doesn't matter to what is left out.
-use Rattle.std.proofs.Common.{◌≡◌, ℕ, List, [], ◌∷◌, map, Bool, true, false, refl, sym, ap, ◌∙◌, Option, None, Some}
-use Rattle.std.specs.Prelude.{if◌then◌else◌, not, ◌&&◌, ◌||◌}
+use Rattle.std.proofs.Common.{◌≡◌, ℕ, ◌+◌, ◌-◌, List, [], ◌∷◌, map, Bool, true, false, refl, sym, ap, ◌∙◌, Option, None, Some}
+use Rattle.std.specs.Prelude.{if◌then◌else◌, nat_eq, not, ◌&&◌, ◌||◌}
 use Rattle.std.specs.Str.{bytes_eq}
 use Rattle.rvc_base.specs.declared.scalar.Scalar.{Scalar}
 use Rattle.cal_ast.specs.Tree as tree
@@ -9,10 +9,12 @@ use Rattle.cal_model.specs.Value.{Shape, Single, Many}
 use Rattle.expr_lower.specs.declared.names.ItemList.{ItemList}
 use Rattle.expr_lower.specs.declared.names.Seat.{Seat}
 use Rattle.expr_lower.specs.declared.names.Seat.TheVariants.{Cell, Tokens}
-use Rattle.expr_lower.specs.Growing.{is_short, left_out_in, left_out_args, left_out_name, left_out_places, ◌or_else◌}
+use Rattle.expr_lower.specs.Generators.{Counted, counted_by, how_many}
+use Rattle.expr_lower.specs.Growing.{first_cell, is_short, left_out_apart, left_out_args, left_out_element, left_out_fill, left_out_fills, left_out_gens, left_out_in, left_out_many, left_out_name, left_out_named, left_out_places, one, unless_none, where_one, ◌or_else◌}
+use Rattle.expr_lower.specs.ItemsSeen.{few, first_seen, items_at, items_listed, items_made, items_seen}
 use Rattle.expr_lower.specs.Listed.{items_in, items_of, list_named}
 use Rattle.expr_lower.specs.Names.{local, Name, named}
-use Rattle.expr_lower.specs.Parted.{Part, deep_named, item_in, item_of, part_at, number_of, part_named, singles_in, sized, whole_in, whole_of}
+use Rattle.expr_lower.specs.Parted.{Part, alike, deep_named, item_in, item_of, part_at, number_of, part_named, singles_in, sized, whole_in, whole_of}
 use Rattle.expr_lower.specs.Starting.{left_out_start}
 use Rattle.expr_lower.specs.Callees.{Function, function_for}
 use Rattle.expr_lower.specs.Truths.{is_truth, is_truth_list, is_truth_shape}
@@ -138,53 +140,170 @@ truth_erased fs names other = refl
 pub both_same : {a b c d : Option ℕ} → a ≡ b → c ≡ d → a or_else c ≡ b or_else d
 both_same {b = b} {c = c} e f = ap (λ x. x or_else c) e ∙ ap (λ x. b or_else x) f
 
--- what is left out of an index: of the place if the list is one of single values, else of a chain if it is one
-abbrev left_index : Option ItemList → Option ItemList → ℕ → Option ℕ → Option ℕ → Option ℕ
-left_index one deep at x y = elim one [ Some l ↦ x | None ↦ elim deep [ None ↦ Some at | Some l ↦ y or_else x ] ]
+-- what is left out of an index where a single value is meant: of the place if the list is one of single values, else of a
+-- chain if it is one, and else of a list that is filled apart
+abbrev left_index : Option ItemList → Option ItemList → Option ℕ → Option ℕ → Option ℕ → Option ℕ
+left_index single deep x y z = elim single [ Some l ↦ x | None ↦ elim deep [ Some l ↦ y or_else x | None ↦ z ] ]
 
-index_left : (one deep : Option ItemList) (at : ℕ) (x y : Option ℕ) → left_index (erased_list one) (erased_list deep) at x y ≡ left_index one deep at x y
-index_left None None at x y = refl
-index_left None (Some l) at x y = refl
-index_left (Some k) deep at x y = refl
+index_left : (single deep : Option ItemList) (x y z : Option ℕ) → left_index (erased_list single) (erased_list deep) x y z ≡ left_index single deep x y z
+index_left None None x y z = refl
+index_left None (Some l) x y z = refl
+index_left (Some k) deep x y z = refl
+
+-- .. and where a list is meant
+abbrev left_part : Shape → Option Part → ℕ → Option ℕ → Option ℕ → Option ℕ
+left_part t o at x z = elim o [
+  | Some p ↦ if alike t p.shape then elim (first_cell p.seat) [ None ↦ Some at | Some c ↦ x ] else Some at
+  | None ↦ z
+]
+
+part_left : (t : Shape) (o : Option Part) (at : ℕ) (x z : Option ℕ) → left_part t (erased_part o) at x z ≡ left_part t o at x z
+part_left t None at x z = refl
+part_left t (Some p) at x z = ap (λ y. if alike t p.shape then y else Some at) (at_seat p.seat)
+  where
+    at_seat : (seat : Seat) → ◌≡◌ {A = Option ℕ} (elim (first_cell (erase_seat seat)) [ None ↦ Some at | Some c ↦ x ]) (elim (first_cell seat) [ None ↦ Some at | Some c ↦ x ])
+    at_seat (Cell c) = refl
+    at_seat (Tokens port first step) = refl
 
 -- .. and of a call: of the arguments, if there are as many as formals
 abbrev left_call : Option Function → ℕ → Option ℕ → Option ℕ
 left_call o at x = elim o [ None ↦ Some at | Some f ↦ x ]
 
+-- what is left out of a name where a list is meant
+abbrev in_whole : Shape → ℕ → Option Part → Option ℕ
+in_whole t at o = elim o [ None ↦ Some at | Some p ↦ if alike t p.shape then None else Some at ]
+
+named_left : (names : List Name) (t : Shape) (text : List ℕ) (at : ℕ) → left_out_named (map erase names) t text at ≡ left_out_named names t text at
+named_left names (Single t) text at = ap (λ o. left_out_name o at) (named_erased text names) ∙ go (named text names)
+  where
+    go : (o : Option Name) → left_out_name (erased o) at ≡ left_out_name o at
+    go None = refl
+    go (Some x) = refl
+named_left names (Many n items) text at = ap (in_whole (Many n items) at) (part_erased names (tree.variable text at)) ∙ go (part_named names (tree.variable text at))
+  where
+    go : (o : Option Part) → in_whole (Many n items) at (erased_part o) ≡ in_whole (Many n items) at o
+    go None = refl
+    go (Some p) = refl
+
+many_same : (t : Shape) (at : ℕ) (many : Option ℕ) (f g : Shape → Option ℕ) → ((items : Shape) → f items ≡ g items) → left_out_many t at many f ≡ left_out_many t at many g
+many_same (Single t) at many f g h = refl
+many_same (Many n items) at None f g h = refl
+many_same (Many n items) at (Some k) f g h = ap (λ o. if nat_eq k n then o else Some at) (h items)
+
+pub element_same : (t : Shape) (a b x y : Option ℕ) → a ≡ b → x ≡ y → left_out_element t a x ≡ left_out_element t b y
+element_same (Single t) a b x y e f = e
+element_same (Many n items) a b x y e f = f
+
+abbrev pub inside_gens : List Name → Tree → (List Name → Option ℕ) → Option Counted → Option ℕ
+inside_gens names gens f o = elim o [ None ↦ None | Some x ↦ left_out_gens (local x.text x.kind 0 ∷ names) gens f ]
+
+inside_same : (names : List Name) (gens : Tree) (f : List Name → Option ℕ) (o : Option Counted) → ((inner : List Name) → left_out_gens (map erase inner) gens f ≡ left_out_gens inner gens f) → inside_gens (map erase names) gens f o ≡ inside_gens names gens f o
+inside_same names gens f None h = refl
+inside_same names gens f (Some x) h = h (local x.text x.kind 0 ∷ names)
+
+pub gens_erased : (names : List Name) (gens : Tree) (f : List Name → Option ℕ) → ((inner : List Name) → f (map erase inner) ≡ f inner) → left_out_gens (map erase names) gens f ≡ left_out_gens names gens f
+gens_erased names (tree.cons g gens) f h = inside_same names gens f (counted_by g) (λ inner. gens_erased inner gens f h)
+gens_erased names gens f h = h names
+
+-- lists that are filled apart
+apart_same : (n : Option ℕ) (t : Shape) (at : ℕ) (f g : Shape → Option ℕ) (x y : Option ℕ) → ((list : Shape) → f list ≡ g list) → x ≡ y → left_out_apart n t at f x ≡ left_out_apart n t at g y
+apart_same None t at f g x y h e = refl
+apart_same (Some n) t at f g x y h e = ap (λ (a : Option ℕ). elim (unless_none (sized (Many n t))) [ None ↦ Some at | Some size ↦ a ]) (both_same (h (Many n t)) e)
+
+abbrev seen_in : ℕ → Option Part → Option ℕ
+seen_in d o = elim o [ None ↦ None | Some p ↦ items_at d p.shape ]
+
+listed_same : (d n : ℕ) (f g : ℕ → Option ℕ) → ((k : ℕ) → f k ≡ g k) → items_listed d n f ≡ items_listed d n g
+listed_same d n f g h = ap (λ o. if nat_eq d 0 then few n else o) (h (d - 1))
+
+made_same : (d : ℕ) (o : Option ℕ) (f g : ℕ → Option ℕ) → ((k : ℕ) → f k ≡ g k) → items_made d o f ≡ items_made d o g
+made_same d o f g h = ap (λ x. if nat_eq d 0 then o else x) (h (d - 1))
+
+abbrev deeper : Option ℕ → (ℕ → Option ℕ) → Option ℕ
+deeper o f = elim o [ None ↦ None | Some k ↦ f k ]
+
+deeper_same : (o : Option ℕ) (f g : ℕ → Option ℕ) → ((k : ℕ) → f k ≡ g k) → deeper o f ≡ deeper o g
+deeper_same None f g h = refl
+deeper_same (Some k) f g h = h k
+
+mutual
+  items_erased_seen : (names : List Name) (e : Tree) (d : ℕ) → items_seen (map erase names) e d ≡ items_seen names e d
+  items_erased_seen names (tree.variable text at) d = ap (seen_in d) (part_erased names (tree.variable text at)) ∙ go (part_named names (tree.variable text at))
+    where
+      go : (o : Option Part) → seen_in d (erased_part o) ≡ seen_in d o
+      go None = refl
+      go (Some p) = refl
+  items_erased_seen names (tree.paren e at) d = items_erased_seen names e d
+  items_erased_seen names (tree.if_expr test first other at) d = items_erased_seen names first d
+  items_erased_seen names (tree.list es at) d = listed_same d (number_of es) (λ k. first_seen (map erase names) es k) (λ k. first_seen names es k) (λ k. first_erased_seen names es k)
+  items_erased_seen names (tree.comp item gens at) d = made_same d (how_many gens) (λ k. items_seen (map erase names) item k) (λ k. items_seen names item k) (λ k. items_erased_seen names item k)
+  items_erased_seen names (tree.index base place at) d = deeper_same (few (d + 1)) (λ k. items_seen (map erase names) base k) (λ k. items_seen names base k) (λ k. items_erased_seen names base k)
+  items_erased_seen names rest d = refl
+
+  first_erased_seen : (names : List Name) (es : Tree) (d : ℕ) → first_seen (map erase names) es d ≡ first_seen names es d
+  first_erased_seen names (tree.cons e es) d = items_erased_seen names e d
+  first_erased_seen names rest d = refl
+
 mutual
   -- which cells names have doesn't matter to what is left out
-  pub out_erased : (fs : List Function) (names : List Name) (e : Tree) → left_out_in fs (map erase names) e ≡ left_out_in fs names e
-  out_erased fs names (tree.number k at) = refl
-  out_erased fs names (tree.truth b at) = refl
-  out_erased fs names (tree.variable text at) = ap (λ o. left_out_name o at) (named_erased text names) ∙ go (named text names)
-    where
-      go : (o : Option Name) → left_out_name (erased o) at ≡ left_out_name o at
-      go None = refl
-      go (Some x) = refl
-  out_erased fs names (tree.paren e at) = out_erased fs names e
-  out_erased fs names (tree.if_expr test first other at) = both_same (out_erased fs names test) (both_same (out_erased fs names first) (out_erased fs names other))
-  out_erased fs names (tree.prefix o e at) = out_erased fs names e
-  out_erased fs names (tree.binary o l r at) =
-      ap (λ b. if is_short o && not b then Some at else left_out_in fs (map erase names) l or_else left_out_in fs (map erase names) r) (truth_erased fs names l)
-      ∙ ap (λ x. if is_short o && not (is_truth fs names l) then Some at else x) (both_same (out_erased fs names l) (out_erased fs names r))
-  out_erased fs names (tree.call text args at) = ap (left_call (function_for text (number_of args) fs) at) (args_erased fs names args)
-  out_erased fs names (tree.list items at) = refl
-  out_erased fs names (tree.comp item gens at) = refl
-  out_erased fs names (tree.index base place at) =
-      ap (λ o. left_index o (deep_named (map erase names) (tree.index base place at)) at (left_out_in fs (map erase names) place) (left_out_places fs (map erase names) base)) (list_erased names base)
-      ∙ ap (λ o. left_index (erased_list (list_named names base)) o at (left_out_in fs (map erase names) place) (left_out_places fs (map erase names) base)) (deep_erased names (tree.index base place at))
-      ∙ index_left (list_named names base) (deep_named names (tree.index base place at)) at (left_out_in fs (map erase names) place) (left_out_places fs (map erase names) base)
-      ∙ ap (λ x. left_index (list_named names base) (deep_named names (tree.index base place at)) at x (left_out_places fs (map erase names) base)) (out_erased fs names place)
-      ∙ ap (λ y. left_index (list_named names base) (deep_named names (tree.index base place at)) at (left_out_in fs names place) y) (places_erased fs names base)
-  out_erased fs names other = refl
+  pub fill_erased : (fs : List Function) (names : List Name) (t : Shape) (e : Tree) → left_out_fill fs (map erase names) t e ≡ left_out_fill fs names t e
+  fill_erased fs names t (tree.number k at) = refl
+  fill_erased fs names t (tree.truth b at) = refl
+  fill_erased fs names t (tree.variable text at) = named_left names t text at
+  fill_erased fs names t (tree.paren e at) = fill_erased fs names t e
+  fill_erased fs names t (tree.if_expr test first other at) = both_same (fill_erased fs names one test) (both_same (fill_erased fs names t first) (fill_erased fs names t other))
+  fill_erased fs names t (tree.prefix o e at) = ap (where_one t at) (fill_erased fs names one e)
+  fill_erased fs names t (tree.binary o l r at) =
+      ap (where_one t at) (ap (λ b. if is_short o && not b then Some at else left_out_fill fs (map erase names) one l or_else left_out_fill fs (map erase names) one r) (truth_erased fs names l)
+      ∙ ap (λ x. if is_short o && not (is_truth fs names l) then Some at else x) (both_same (fill_erased fs names one l) (fill_erased fs names one r)))
+  fill_erased fs names t (tree.call text args at) = ap (where_one t at) (ap (left_call (function_for text (number_of args) fs) at) (args_erased fs names args))
+  fill_erased fs names t (tree.list es at) = many_same t at (Some (number_of es)) (λ items. left_out_fills fs (map erase names) items es) (λ items. left_out_fills fs names items es) (λ items. fills_erased fs names items es)
+  fill_erased fs names t (tree.comp item gens at) =
+      many_same t at (how_many gens) (λ items. left_out_gens (map erase names) gens (λ inner. left_out_element items (left_out_fill fs inner one item) (left_out_fill fs inner items item)))
+      (λ items. left_out_gens names gens (λ inner. left_out_element items (left_out_fill fs inner one item) (left_out_fill fs inner items item)))
+      (λ items. gens_erased names gens (λ inner. left_out_element items (left_out_fill fs inner one item) (left_out_fill fs inner items item))
+      (λ inner. element_same items (left_out_fill fs (map erase inner) one item) (left_out_fill fs inner one item) (left_out_fill fs (map erase inner) items item) (left_out_fill fs inner items item) (fill_erased fs inner one item) (fill_erased fs inner items item)))
+  fill_erased fs names (Single s) (tree.index base place at) =
+      let place_same = fill_erased fs names one place in
+      let list_same : (list : Shape) → left_out_fill fs (map erase names) list base ≡ left_out_fill fs names list base = λ list. fill_erased fs names list base in
+      let places_same = places_erased fs names base in
+      let after : List Name → Option ℕ = λ ns. left_out_apart (items_seen ns base 0) one at (λ list. left_out_fill fs ns list base) (left_out_fill fs ns one place) in
+      let after_same : after (map erase names) ≡ after names =
+      ap (λ o. left_out_apart o one at (λ list. left_out_fill fs (map erase names) list base) (left_out_fill fs (map erase names) one place)) (items_erased_seen names base 0)
+      ∙ apart_same (items_seen names base 0) one at (λ list. left_out_fill fs (map erase names) list base) (λ list. left_out_fill fs names list base) (left_out_fill fs (map erase names) one place) (left_out_fill fs names one place) list_same place_same in
+      ap (λ o. left_index o (deep_named (map erase names) (tree.index base place at)) (left_out_fill fs (map erase names) one place) (left_out_places fs (map erase names) base) (after (map erase names))) (list_erased names base)
+      ∙ ap (λ o. left_index (erased_list (list_named names base)) o (left_out_fill fs (map erase names) one place) (left_out_places fs (map erase names) base) (after (map erase names))) (deep_erased names (tree.index base place at))
+      ∙ index_left (list_named names base) (deep_named names (tree.index base place at)) (left_out_fill fs (map erase names) one place) (left_out_places fs (map erase names) base) (after (map erase names))
+      ∙ ap (λ x. left_index (list_named names base) (deep_named names (tree.index base place at)) x (left_out_places fs (map erase names) base) (after (map erase names))) place_same
+      ∙ ap (λ y. left_index (list_named names base) (deep_named names (tree.index base place at)) (left_out_fill fs names one place) y (after (map erase names))) places_same
+      ∙ ap (left_index (list_named names base) (deep_named names (tree.index base place at)) (left_out_fill fs names one place) (left_out_places fs names base)) after_same
+  fill_erased fs names (Many n items) (tree.index base place at) =
+      let place_same = fill_erased fs names one place in
+      let list_same : (list : Shape) → left_out_fill fs (map erase names) list base ≡ left_out_fill fs names list base = λ list. fill_erased fs names list base in
+      let after : List Name → Option ℕ = λ ns. left_out_apart (items_seen ns base 0) (Many n items) at (λ list. left_out_fill fs ns list base) (left_out_fill fs ns one place) in
+      let after_same : after (map erase names) ≡ after names =
+      ap (λ o. left_out_apart o (Many n items) at (λ list. left_out_fill fs (map erase names) list base) (left_out_fill fs (map erase names) one place)) (items_erased_seen names base 0)
+      ∙ apart_same (items_seen names base 0) (Many n items) at (λ list. left_out_fill fs (map erase names) list base) (λ list. left_out_fill fs names list base) (left_out_fill fs (map erase names) one place) (left_out_fill fs names one place) list_same place_same in
+      ap (λ o. left_part (Many n items) o at (left_out_places fs (map erase names) (tree.index base place at)) (after (map erase names))) (part_erased names (tree.index base place at))
+      ∙ part_left (Many n items) (part_named names (tree.index base place at)) at (left_out_places fs (map erase names) (tree.index base place at)) (after (map erase names))
+      ∙ ap (λ x. left_part (Many n items) (part_named names (tree.index base place at)) at x (after (map erase names))) (both_same (places_erased fs names base) place_same)
+      ∙ ap (left_part (Many n items) (part_named names (tree.index base place at)) at (left_out_places fs names (tree.index base place at))) after_same
+  fill_erased fs names t rest = refl
 
-  pub args_erased : (fs : List Function) (names : List Name) (es : Tree) → left_out_args fs (map erase names) es ≡ left_out_args fs names es
-  args_erased fs names (tree.cons e es) = both_same (out_erased fs names e) (args_erased fs names es)
-  args_erased fs names other = refl
+  pub fills_erased : (fs : List Function) (names : List Name) (t : Shape) (es : Tree) → left_out_fills fs (map erase names) t es ≡ left_out_fills fs names t es
+  fills_erased fs names t (tree.cons e es) = both_same (fill_erased fs names t e) (fills_erased fs names t es)
+  fills_erased fs names t rest = refl
 
   pub places_erased : (fs : List Function) (names : List Name) (e : Tree) → left_out_places fs (map erase names) e ≡ left_out_places fs names e
-  places_erased fs names (tree.index base place at) = both_same (places_erased fs names base) (out_erased fs names place)
-  places_erased fs names other = refl
+  places_erased fs names (tree.index base place at) = both_same (places_erased fs names base) (fill_erased fs names one place)
+  places_erased fs names rest = refl
+
+  pub args_erased : (fs : List Function) (names : List Name) (es : Tree) → left_out_args fs (map erase names) es ≡ left_out_args fs names es
+  args_erased fs names (tree.cons e es) = both_same (fill_erased fs names one e) (args_erased fs names es)
+  args_erased fs names rest = refl
+
+pub out_erased : (fs : List Function) (names : List Name) (e : Tree) → left_out_in fs (map erase names) e ≡ left_out_in fs names e
+out_erased fs names e = fill_erased fs names one e
 
 -- ---- locals
 

@@ -30,8 +30,10 @@ use Rattle.expr_lower.proofs.PartValues.{IsDeep, IsPartOf, deep_found, part_foun
 use Rattle.expr_lower.specs.declared.callees.Formal.{Formal}
 use Rattle.expr_lower.specs.Callees.{Function, function_for}
 use Rattle.expr_lower.specs.Calling.{AreInRow, AreOfSizes, HasFormals, HasRoutines}
-use Rattle.expr_lower.specs.Coding.{AreArgs, IsCode, IsTest, arg_more, call, call_code, formal_stores, no_arg, number, too_great, negative, truth, variable, paren, prefix, binary, both, either, if_code, tested, both_tested, seat_instr, prefix_instr, binary_instr, item, item_instr, IsOffset, deep_item, whole, row, row_instr}
-use Rattle.expr_lower.proofs.Coded.{grows, grows_args, grows_offset, grows_test}
+use Rattle.expr_lower.specs.Coding.{AreArgs, IsCode, IsTest, in_another_way, arg_more, call, call_code, formal_stores, no_arg, number, too_great, negative, truth, variable, paren, prefix, binary, both, either, if_code, tested, both_tested, seat_instr, prefix_instr, binary_instr, item, item_instr, IsOffset, deep_item, whole, row, row_instr}
+use Rattle.expr_lower.specs.Placed.{StandsAt}
+use Rattle.expr_lower.proofs.Grown.{grows, grows_args, grows_offset, grows_test}
+use Rattle.expr_lower.proofs.Runs.{stands_left, stands_right}
 use Rattle.expr_lower.proofs.Finding.{is_found}
 use Rattle.expr_lower.proofs.Keeping.{below_more}
 
@@ -353,85 +355,104 @@ module _ (code : Code) (callable limit : ℕ) where
       (fits_one (base + 1 + length puts) h (h + 1) (op.Call f.routine) (omega arith) (omega (arith, one)) refl tt small tt tt))
 
   module _ (fs : List Function) (has : HasRoutines code callable limit fs) (names : List Name) where
+    abbrev There : ℕ → List Instr → Type 0
+    There base instrs = StandsAt code.instrs base instrs
+
+    left : (base : ℕ) (a b : List Instr) → There base (a ++ b) → There base a
+    left base a b at = stands_left code.instrs base a b at
+
+    right : (base : ℕ) (a b : List Instr) → There base (a ++ b) → There (base + length a) b
+    right base a b at = stands_right code.instrs base a b at
+
     mutual
-      pub fits_in : {e : Tree} {base n m : ℕ} {instrs : List Instr} (h : ℕ) → AreBelow n names → m ≤ limit → IsCode fs names e base n instrs m → Plain base h instrs (h + 1)
-      fits_in h below le (number k at base n g) = fits_const base h (pos k)
-      fits_in h below le (too_great k at base n g) =
+      pub fits_in : {e : Tree} {base n m : ℕ} {instrs : List Instr} (h : ℕ) → AreBelow n names → m ≤ limit → There base instrs → IsCode fs names e base n instrs m → Plain base h instrs (h + 1)
+      fits_in h below le at (in_another_way e base n m instrs g) = g.fits code callable limit h has below le at
+      fits_in h below le at (number k place base n g) = fits_const base h (pos k)
+      fits_in h below le at (too_great k place base n g) =
           plain_then base h (h + 1) (h + 1) (op.Const greatest_num ∷ []) (op.Const (pos 1) ∷ op.Add ∷ []) (fits_const base h greatest_num)
           (plain_then (base + 1) (h + 1) (h + 1 + 1) (h + 1) (op.Const (pos 1) ∷ []) (op.Add ∷ []) (fits_const (base + 1) (h + 1) (pos 1)) (fits_binary (base + 1 + 1) h binaries.Add op.Add refl))
-      fits_in h below le (negative k at base n place g) = fits_const base h (neg_ℤ (pos k))
-      fits_in h below le (truth b at base n) = fits_const base h (arithmetic.truth b)
-      fits_in h below le (variable text at base n x g s) = fits_seat base h x.seat (single_below n x.shape x.seat s (below text x g) le)
-      fits_in h below le (paren e at base n m code g) = fits_in h below le g
-      fits_in h below le (prefix o e at base n m code g) = plain_then base h (h + 1) (h + 1) code (prefix_instr o ∷ []) (fits_in h below le g) (fits_prefix (base + length code) h o)
-      fits_in h below le (binary o i l r at base n k m a b e g d) =
+      fits_in h below le at (negative k spot base n place g) = fits_const base h (neg_ℤ (pos k))
+      fits_in h below le at (truth b place base n) = fits_const base h (arithmetic.truth b)
+      fits_in h below le at (variable text place base n x g s) = fits_seat base h x.seat (single_below n x.shape x.seat s (below text x g) le)
+      fits_in h below le at (paren e place base n m code g) = fits_in h below le at g
+      fits_in h below le at (prefix o e place base n m code g) = plain_then base h (h + 1) (h + 1) code (prefix_instr o ∷ []) (fits_in h below le (left base code (prefix_instr o ∷ []) at) g) (fits_prefix (base + length code) h o)
+      fits_in h below le at (binary o i l r place base n k m a b e g d) =
           let x = grows g in let y = grows d in
-          plain_then base h (h + 1) (h + 1) a (b ++ i ∷ []) (fits_in h below (omega (arith, x, y)) g)
-          (plain_then (base + length a) (h + 1) (h + 1 + 1) (h + 1) b (i ∷ []) (fits_in (h + 1) (below_more n k names x below) le d) (fits_binary (base + length a + length b) h o i e))
-      fits_in h below le (call text args at base n m part f e g) =
-          plain_then base h (h + number_of args) (h + 1) part (call_code f) (fits_args h below le g)
+          let rest = right base a (b ++ i ∷ []) at in
+          plain_then base h (h + 1) (h + 1) a (b ++ i ∷ []) (fits_in h below (omega (arith, x, y)) (left base a (b ++ i ∷ []) at) g)
+          (plain_then (base + length a) (h + 1) (h + 1 + 1) (h + 1) b (i ∷ []) (fits_in (h + 1) (below_more n k names x below) le (left (base + length a) b (i ∷ []) rest) d) (fits_binary (base + length a + length b) h o i e))
+      fits_in h below le at (call text args place base n m part f e g) =
+          plain_then base h (h + number_of args) (h + 1) part (call_code f) (fits_args h below le (left base part (call_code f) at) g)
           (subst (λ k. Plain (base + length part) (h + k) (call_code f) (h + 1)) (is_found text (number_of args) fs f e).1 (fits_call (base + length part) h f (there f e).0 (there f e).1 (there f e).2))
         where
           there : (f : Function) → function_for text (number_of args) fs ≡ Some f → (f.routine < callable) × (results_of code f.routine ≡ 1) × HasFormals 0 limit f
           there f e = has text f (is_found text (number_of args) fs f e).0
-      fits_in h below le (item e place at base n m code l g d) =
-          plain_then base h (h + 1) (h + 1) code (item_instr l ∷ []) (fits_in h below le d) (fits_item (base + length code) h l (list_below n names e l g below (let x = grows d in omega (arith, x))))
-      fits_in h below le (deep_item e place at base n m code l g d) =
-          plain_then base h (h + 1) (h + 1) code (item_instr l ∷ []) (fits_offset h below le d) (fits_item (base + length code) h l (deep_below n names (tree.index e place at) l g below (let x = grows_offset d in omega (arith, x))))
-      fits_in h below le (both l r at base n k m far end a b t g d e f) =
+      fits_in h below le at (item e place spot base n m code l g d) =
+          plain_then base h (h + 1) (h + 1) code (item_instr l ∷ []) (fits_in h below le (left base code (item_instr l ∷ []) at) d) (fits_item (base + length code) h l (list_below n names e l g below (let x = grows d in omega (arith, x))))
+      fits_in h below le at (deep_item e place spot base n m code l g d) =
+          plain_then base h (h + 1) (h + 1) code (item_instr l ∷ []) (fits_offset h below le (left base code (item_instr l ∷ []) at) d) (fits_item (base + length code) h l (deep_below n names (tree.index e place spot) l g below (let x = grows_offset d in omega (arith, x))))
+      fits_in h below le at (both l r place base n k m far end a b t g d e f) =
           let x = grows_test g in let y = grows d in
           let at_tail : base + length a + length b + 1 ≡ far = sym e in
+          let ends : List Instr = op.Jump end ∷ op.Const (pos 0) ∷ [] in
+          let rest = right base a (b ++ ends) at in
           let tail = fits_jump (base + length a + length b) h (h + 1) end (op.Const (pos 0) ∷ []) (fits_const (base + length a + length b + 1) h (pos 0)) (omega arith) in
-          branch h (h + 1) base far a b (op.Jump end ∷ op.Const (pos 0) ∷ []) (fits_test_in h below (omega (arith, x, y)) (omega arith) g) (fits_in h (below_more n k names x below) le d) tail.0
+          branch h (h + 1) base far a b ends (fits_test_in h below (omega (arith, x, y)) (omega arith) (left base a (b ++ ends) at) g) (fits_in h (below_more n k names x below) le (left (base + length a) b ends rest) d) tail.0
           (omega arith) (omega arith) (tail.1 far (omega arith) ∙ ap (fits_const (base + length a + length b + 1) h (pos 0)).height e ∙ (fits_const (base + length a + length b + 1) h (pos 0)).first)
-      fits_in h below le (either l r at base n k m right end a b t g d e f) =
+      fits_in h below le at (either l r place base n k m beyond end a b t g d e f) =
           let x = grows_test g in let y = grows d in
-          let right_is : right ≡ base + length a + 1 + 1 = omega arith in
-          let second : Plain (base + length a + 1 + 1) h b (h + 1) = subst (λ p. Plain p h b (h + 1)) right_is (fits_in h (below_more n k names x below) le d) in
+          let right_is : beyond ≡ base + length a + 1 + 1 = omega arith in
+          let ends : List Instr = op.Const (pos 1) ∷ op.Jump end ∷ b in
+          let last : There beyond b = subst (λ p. There p b) (sym right_is) (right base a ends at).1.1 in
+          let second : Plain (base + length a + 1 + 1) h b (h + 1) = subst (λ p. Plain p h b (h + 1)) right_is (fits_in h (below_more n k names x below) le last d) in
           let tail = fits_jump (base + length a + 1) h (h + 1) end b second (omega arith) in
-          short h base right a (op.Const (pos 1)) (op.Jump end ∷ b) (fits_test_in h below (omega (arith, x, y)) (omega arith) g) (fits_const (base + length a) h (pos 1)) tail.0
-          (omega arith) (omega arith) (tail.1 right (omega arith) ∙ ap second.height right_is ∙ second.first)
-      fits_in h below le (if_code test first other at base n k j m else_at end a b c g d q e f) =
+          short h base beyond a (op.Const (pos 1)) (op.Jump end ∷ b) (fits_test_in h below (omega (arith, x, y)) (omega arith) (left base a ends at) g) (fits_const (base + length a) h (pos 1)) tail.0
+          (omega arith) (omega arith) (tail.1 beyond (omega arith) ∙ ap second.height right_is ∙ second.first)
+      fits_in h below le at (if_code test first other place base n k j m else_at end a b c g d q e f) =
           let x = grows_test g in let y = grows d in let z = grows q in
           let wide : n ≤ j = omega (arith, x, y) in
-          let third : Plain (base + length a + length b + 1) h c (h + 1) = subst (λ p. Plain p h c (h + 1)) e (fits_in h (below_more n j names wide below) le q) in
+          let ends : List Instr = op.Jump end ∷ c in
+          let rest = right base a (b ++ ends) at in
+          let last : There else_at c = subst (λ p. There p c) (sym e) (right (base + length a) b ends rest).1 in
+          let third : Plain (base + length a + length b + 1) h c (h + 1) = subst (λ p. Plain p h c (h + 1)) e (fits_in h (below_more n j names wide below) le last q) in
           let tail = fits_jump (base + length a + length b) h (h + 1) end c third (omega arith) in
-          branch h (h + 1) base else_at a b (op.Jump end ∷ c) (fits_test_in h below (omega (arith, x, y, z)) (omega arith) g) (fits_in h (below_more n k names x below) (omega (arith, z)) d) tail.0
+          branch h (h + 1) base else_at a b ends (fits_test_in h below (omega (arith, x, y, z)) (omega arith) (left base a (b ++ ends) at) g) (fits_in h (below_more n k names x below) (omega (arith, z)) (left (base + length a) b ends rest) d) tail.0
           (omega arith) (omega arith) (tail.1 else_at (omega arith) ∙ ap third.height e ∙ third.first)
 
-      pub fits_args : {es : Tree} {base n m : ℕ} {instrs : List Instr} (h : ℕ) → AreBelow n names → m ≤ limit → AreArgs fs names es base n instrs m → Plain base h instrs (h + number_of es)
-      fits_args h below le (no_arg base n) = let e : h ≡ h + 0 = omega arith in subst (λ k. Plain base h [] k) e (fits_none base h)
-      fits_args h below le (arg_more e es base n k m a b g d) =
+      pub fits_args : {es : Tree} {base n m : ℕ} {instrs : List Instr} (h : ℕ) → AreBelow n names → m ≤ limit → There base instrs → AreArgs fs names es base n instrs m → Plain base h instrs (h + number_of es)
+      fits_args h below le at (no_arg base n) = let e : h ≡ h + 0 = omega arith in subst (λ k. Plain base h [] k) e (fits_none base h)
+      fits_args h below le at (arg_more e es base n k m a b g d) =
           let x = grows g in let y = grows_args d in
           let sum : h + 1 + number_of es ≡ h + suc (number_of es) = omega arith in
           subst (λ j. Plain base h (a ++ b) j) sum
-          (plain_then base h (h + 1) (h + 1 + number_of es) a b (fits_in h below (omega (arith, y, le)) g) (fits_args (h + 1) (below_more n k names x below) le d))
+          (plain_then base h (h + 1) (h + 1 + number_of es) a b (fits_in h below (omega (arith, y, le)) (left base a b at) g) (fits_args (h + 1) (below_more n k names x below) le (right base a b at) d))
 
-      pub fits_offset : {e : Tree} {base n m : ℕ} {instrs : List Instr} (h : ℕ) → AreBelow n names → m ≤ limit → IsOffset fs names e base n instrs m → Plain base h instrs (h + 1)
-      fits_offset h below le (whole text at base n) = fits_const base h (pos 0)
-      fits_offset h below le (row e place at base n k m a b r g d q) =
+      pub fits_offset : {e : Tree} {base n m : ℕ} {instrs : List Instr} (h : ℕ) → AreBelow n names → m ≤ limit → There base instrs → IsOffset fs names e base n instrs m → Plain base h instrs (h + 1)
+      fits_offset h below le at (whole text place base n) = fits_const base h (pos 0)
+      fits_offset h below le at (row e place spot base n k m a b r g d q) =
           let x = grows_offset d in let y = grows q in
-          plain_then base h (h + 1) (h + 1) a (b ++ row_instr r ∷ []) (fits_offset h below (omega (arith, x, y)) d)
-          (plain_then (base + length a) (h + 1) (h + 1 + 1) (h + 1) b (row_instr r ∷ []) (fits_in (h + 1) (below_more n k names x below) le q) (fits_row (base + length a + length b) h r))
+          let rest = right base a (b ++ row_instr r ∷ []) at in
+          plain_then base h (h + 1) (h + 1) a (b ++ row_instr r ∷ []) (fits_offset h below (omega (arith, x, y)) (left base a (b ++ row_instr r ∷ []) at) d)
+          (plain_then (base + length a) (h + 1) (h + 1 + 1) (h + 1) b (row_instr r ∷ []) (fits_in (h + 1) (below_more n k names x below) le (left (base + length a) b (row_instr r ∷ []) rest) q) (fits_row (base + length a + length b) h r))
 
-      pub fits_test_in : {e : Tree} {base n far m : ℕ} {instrs : List Instr} (h : ℕ) → AreBelow n names → m ≤ limit → base + length instrs ≤ far → IsTest fs names e base n far instrs m → Fits code callable limit base h instrs h far h
-      fits_test_in h below le ge (tested e base n m far instrs g) =
+      pub fits_test_in : {e : Tree} {base n far m : ℕ} {instrs : List Instr} (h : ℕ) → AreBelow n names → m ≤ limit → base + length instrs ≤ far → There base instrs → IsTest fs names e base n far instrs m → Fits code callable limit base h instrs h far h
+      fits_test_in h below le ge at (tested e base n m far instrs g) =
           let size : length (instrs ++ op.JumpIfNot far ∷ []) ≡ length instrs + 1 = length-append instrs (op.JumpIfNot far ∷ []) in
           let last = fits_branch (base + length instrs) h far (omega (arith, ge, size)) in
-          (fits_then base h (h + 1) h (base + length instrs) (h + 1) far h instrs (op.JumpIfNot far ∷ []) (fits_in h below le g) last (omega arith) last.first (inl (omega arith)) (omega (arith, ge, size))).0
-      fits_test_in h below le ge (both_tested l r at base n k m far a b t g d) =
+          (fits_then base h (h + 1) h (base + length instrs) (h + 1) far h instrs (op.JumpIfNot far ∷ []) (fits_in h below le (left base instrs (op.JumpIfNot far ∷ []) at) g) last (omega arith) last.first (inl (omega arith)) (omega (arith, ge, size))).0
+      fits_test_in h below le ge at (both_tested l r place base n k m far a b t g d) =
           let x = grows_test g in let y = grows_test d in
           let size : length (a ++ b) ≡ length a + length b = length-append a b in
-          let second = fits_test_in h (below_more n k names x below) le (omega (arith, ge, size)) d in
-          (fits_then base h h h far h far h a b (fits_test_in h below (omega (arith, x, y)) (omega (arith, ge, size)) g) second (omega (arith, ge, size)) second.exit (inr refl) (omega (arith, ge, size))).0
+          let second = fits_test_in h (below_more n k names x below) le (omega (arith, ge, size)) (right base a b at) d in
+          (fits_then base h h h far h far h a b (fits_test_in h below (omega (arith, x, y)) (omega (arith, ge, size)) (left base a b at) g) second (omega (arith, ge, size)) second.exit (inr refl) (omega (arith, ge, size))).0
 
 -- ---- if there are no functions
 
 pub no_routines : (code : Code) (callable limit : ℕ) → HasRoutines code callable limit []
 no_routines code callable limit text f e = cc
 
-pub fits : (code : Code) (callable limit : ℕ) (names : List Name) {e : Tree} {base n m : ℕ} {instrs : List Instr} (h : ℕ) → AreBelow n names → m ≤ limit → IsCode [] names e base n instrs m → Plain code callable limit base h instrs (h + 1)
-fits code callable limit names h below le coded = fits_in code callable limit [] (no_routines code callable limit) names h below le coded
+pub fits : (code : Code) (callable limit : ℕ) (names : List Name) {e : Tree} {base n m : ℕ} {instrs : List Instr} (h : ℕ) → AreBelow n names → m ≤ limit → StandsAt code.instrs base instrs → IsCode [] names e base n instrs m → Plain code callable limit base h instrs (h + 1)
+fits code callable limit names h below le at coded = fits_in code callable limit [] (no_routines code callable limit) names h below le at coded
 
-pub fits_test : (code : Code) (callable limit : ℕ) (names : List Name) {e : Tree} {base n far m : ℕ} {instrs : List Instr} (h : ℕ) → AreBelow n names → m ≤ limit → base + length instrs ≤ far → IsTest [] names e base n far instrs m → Fits code callable limit base h instrs h far h
-fits_test code callable limit names h below le ge coded = fits_test_in code callable limit [] (no_routines code callable limit) names h below le ge coded
+pub fits_test : (code : Code) (callable limit : ℕ) (names : List Name) {e : Tree} {base n far m : ℕ} {instrs : List Instr} (h : ℕ) → AreBelow n names → m ≤ limit → base + length instrs ≤ far → StandsAt code.instrs base instrs → IsTest [] names e base n far instrs m → Fits code callable limit base h instrs h far h
+fits_test code callable limit names h below le ge at coded = fits_test_in code callable limit [] (no_routines code callable limit) names h below le ge at coded

@@ -11,47 +11,49 @@ use Rattle.expr_lower.specs.Callees.{Function}
 use Rattle.expr_lower.specs.Calling.{HasRoutines}
 use Rattle.expr_lower.specs.Held.{AreBelow}
 use Rattle.expr_lower.specs.Names.{Name}
-use Rattle.expr_lower.specs.Routining.{FitsAsRoutine, FunSized, IsBody, IsRoutine, LocalsSized, no_more_locals, one_more_local}
+use Rattle.expr_lower.specs.Placed.{StandsAt}
+use Rattle.expr_lower.specs.Routining.{FitsAsRoutine, FunSized, IsBody, IsRoutine, LocalsSized, no_more_locals, one_more_local, return_code}
 use Rattle.expr_lower.specs.Starting.{IsStart, at_zero, at_value}
 use Rattle.expr_lower.proofs.Coded.{grows}
 use Rattle.expr_lower.proofs.Fitted.{Plain, fits_const, fits_in, fits_one, plain_then}
 use Rattle.expr_lower.proofs.Keeping.{below_more}
+use Rattle.expr_lower.proofs.Runs.{stands_left, stands_right}
 use Rattle.expr_lower.proofs.Routined.{body_grows, front_below, start_grows}
 use Rattle.expr_lower.proofs.Served.{formals_below}
 
 module _ (code : Code) (callable limit : ℕ) (fs : List Function) (has : HasRoutines code callable limit fs) where
-  fits_first : (names : List Name) (t : Scalar) (c : ℕ) {start : Tree} {base n m : ℕ} {a : List Instr} → IsSize t → c + 1 ≤ limit → AreBelow n names → m ≤ limit → IsStart fs names t c start base n a m → Plain code callable limit base 0 a 0
-  fits_first names t c sized room below le (at_zero base n) =
+  fits_first : (names : List Name) (t : Scalar) (c : ℕ) {start : Tree} {base n m : ℕ} {a : List Instr} → IsSize t → c + 1 ≤ limit → AreBelow n names → m ≤ limit → StandsAt code.instrs base a → IsStart fs names t c start base n a m → Plain code callable limit base 0 a 0
+  fits_first names t c sized room below le at (at_zero base n) =
       plain_then code callable limit base 0 1 0 (op.Const (pos 0) ∷ []) (op.Store c None ∷ []) (fits_const code callable limit base 0 (pos 0))
       (fits_one code callable limit (base + 1) 1 0 (op.Store c None) (omega arith) (omega arith) refl room tt tt tt)
-  fits_first names t c sized room below le (at_value e base n m instrs g) =
-      plain_then code callable limit base 0 1 0 instrs (op.Store c (Some t) ∷ []) (fits_in code callable limit fs has names 0 below le g)
+  fits_first names t c sized room below le at (at_value e base n m instrs g) =
+      plain_then code callable limit base 0 1 0 instrs (op.Store c (Some t) ∷ []) (fits_in code callable limit fs has names 0 below le (stands_left code.instrs base instrs (op.Store c (Some t) ∷ []) at) g)
       (fits_one code callable limit (base + length instrs) 1 0 (op.Store c (Some t)) (omega arith) (omega arith) refl room tt tt sized)
 
-  pub body_fits : {t : Scalar} {e : Tree} {names : List Name} {xs : List Local} {base n m : ℕ} {instrs : List Instr} → IsSize t → LocalsSized xs → AreBelow n names → m ≤ limit → IsBody fs t e names xs base n instrs m
+  pub body_fits : {t : Scalar} {e : Tree} {names : List Name} {xs : List Local} {base n m : ℕ} {instrs : List Instr} → IsSize t → LocalsSized xs → AreBelow n names → m ≤ limit → StandsAt code.instrs base instrs → IsBody fs t e names xs base n instrs m
       → FitsAsRoutine code callable limit base instrs
-  body_fits {t = t} size sizes below le (no_more_locals names base n m instrs g) =
+  body_fits {t = t} size sizes below le at (no_more_locals names base n m instrs g) =
       let up = grows g in
       record {
         body = instrs ++ op.Store n (Some t) ∷ op.Load n ∷ [];
         is = sym (append_assoc instrs (op.Store n (Some t) ∷ op.Load n ∷ []) (op.Return ∷ []));
-        fits = plain_then code callable limit base 0 1 1 instrs (op.Store n (Some t) ∷ op.Load n ∷ []) (fits_in code callable limit fs has names 0 (below_more n (n + 1) names (omega arith) below) le g)
+        fits = plain_then code callable limit base 0 1 1 instrs (op.Store n (Some t) ∷ op.Load n ∷ []) (fits_in code callable limit fs has names 0 (below_more n (n + 1) names (omega arith) below) le (stands_left code.instrs base instrs (return_code n t) at) g)
             (plain_then code callable limit (base + length instrs) 1 0 1 (op.Store n (Some t) ∷ []) (op.Load n ∷ [])
             (fits_one code callable limit (base + length instrs) 1 0 (op.Store n (Some t)) (omega arith) (omega arith) refl (omega (arith, up, le)) tt tt size)
             (fits_one code callable limit (base + length instrs + 1) 0 1 (op.Load n) (omega arith) (omega arith) refl (omega (arith, up, le)) tt tt tt));
       }
-  body_fits size sizes below le (one_more_local names x xs kind base n k m a b shape first rest) =
+  body_fits size sizes below le at (one_more_local names x xs kind base n k m a b shape first rest) =
       let up = start_grows first in
       let more = body_grows rest in
-      let later : FitsAsRoutine code callable limit (base + length a) b = body_fits size sizes.1 (front_below names x.name kind n k up (below_more n k names (omega (arith, up)) below)) le rest in
+      let later : FitsAsRoutine code callable limit (base + length a) b = body_fits size sizes.1 (front_below names x.name kind n k up (below_more n k names (omega (arith, up)) below)) le (stands_right code.instrs base a b at) rest in
       record {
         body = a ++ later.body;
         is = ap (λ c. a ++ c) later.is ∙ sym (append_assoc a later.body (op.Return ∷ []));
-        fits = plain_then code callable limit base 0 0 1 a later.body (fits_first names kind n (sizes.0 kind shape) (omega (arith, up, more, le)) (below_more n (n + 1) names (omega arith) below) (omega (arith, more, le)) first) later.fits;
+        fits = plain_then code callable limit base 0 0 1 a later.body (fits_first names kind n (sizes.0 kind shape) (omega (arith, up, more, le)) (below_more n (n + 1) names (omega arith) below) (omega (arith, more, le)) (stands_left code.instrs base a b at) first) later.fits;
       }
 
-pub routine_fits : (whole : Code) (callable limit : ℕ) (globals : List Name) (fs : List Function) (f : Fun) (g : Function) (base n m : ℕ) (code : List Instr) → HasRoutines whole callable limit fs → AreBelow n globals → FunSized f → m ≤ limit
+pub routine_fits : (whole : Code) (callable limit : ℕ) (globals : List Name) (fs : List Function) (f : Fun) (g : Function) (base n m : ℕ) (code : List Instr) → HasRoutines whole callable limit fs → AreBelow n globals → FunSized f → m ≤ limit → StandsAt whole.instrs base code
     → IsRoutine globals fs f g base n code m → FitsAsRoutine whole callable limit base code
-routine_fits whole callable limit globals fs f g base n m code has below sized le is =
+routine_fits whole callable limit globals fs f g base n m code has below sized le at is =
     body_fits whole callable limit fs has sized.result sized.locals
-    (formals_below f.formals g.formals n (n + length g.formals) globals is.row (omega arith) (below_more n (n + length g.formals) globals (omega arith) below)) le is.body
+    (formals_below f.formals g.formals n (n + length g.formals) globals is.row (omega arith) (below_more n (n + length g.formals) globals (omega arith) below)) le at is.body

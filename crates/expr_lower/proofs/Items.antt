@@ -64,11 +64,15 @@ reads_below : (seat : Seat) (size k : ℕ) (tokens : ℕ → List ℤ) (stack ce
 reads_below (Cell c) size k tokens stack cells = refl
 reads_below (Tokens port first step) size k tokens stack cells = refl
 
-module _ (l : ItemList) (vs : Values) (tokens : ℕ → List ℤ) (stack cells : List ℤ) (left : ℕ) (size : count vs ≡ l.size) (kinds : HaveKind (kind_of_scalar l.kind) vs) (stands : StandAt l.seat tokens cells (flat_all vs)) where
+-- each of these values is one number, which stands at its place among the numbers of them all
+abbrev pub AreNumbers : Values → Type 0
+AreNumbers vs = (k : ℕ) (u : Value) → value_at vs k ≡ Some u → (y : ℤ) × (flat u ≡ y ∷ []) × (slice_get (flat_all vs) k ≡ Some y)
+
+module _ (l : ItemList) (vs : Values) (tokens : ℕ → List ℤ) (stack cells : List ℤ) (left : ℕ) (size : count vs ≡ l.size) (items : AreNumbers vs) (stands : StandAt l.seat tokens cells (flat_all vs)) where
   at_place : (k : ℕ) (o : Option Value) → value_at vs k ≡ o → Acts (effect tokens (reads l.seat l.size) (pos k ∷ stack) cells) stack cells left (elim o [ None ↦ Traps IndexRange | Some v ↦ Gives v left ])
   at_place k None e = reads_past l.seat l.size k tokens stack cells (let h = item_past vs k e in omega (arith, h, size))
   at_place k (Some u) e =
-      let f = item_flat l.kind vs k u kinds e in
+      let f = items k u e in
       let h = item_within vs k u e in
       record { same = refl; number = f.0; is = f.1; leaves = reads_inside l.seat l.size k tokens stack cells (flat_all vs) f.0 (omega (arith, h, size)) stands f.2 }
 
@@ -83,9 +87,9 @@ module _ (l : ItemList) (vs : Values) (tokens : ℕ → List ℤ) (stack cells :
   item_acts (Truth b) z e = tt
   item_acts (Items us) z e = tt
 
-pub does_item : (fs : List Function) (globals names : List Name) (w : World) (env : Env) (frames : List ℕ) (e place : Tree) (at base n m : ℕ) (code : List Instr) (l : ItemList) → list_named names e ≡ Some l
-    → Does fs globals names w env frames place base n code m → Does fs globals names w env frames (tree.index e place at) base n (code ++ item_instr l ∷ []) m
-does_item fs globals names w env frames e place at base n m code l g does stack cells left stands below apart holds =
+pub does_item : (fs : List Function) (globals names : List Name) (w : World) (env : Env) (frames : List ℕ) (floor ceiling : ℕ) (e place : Tree) (at base n m : ℕ) (code : List Instr) (l : ItemList) → list_named names e ≡ Some l
+    → Does fs globals names w env frames floor ceiling place base n code m → Does fs globals names w env frames floor ceiling (tree.index e place at) base n (code ++ item_instr l ∷ []) m
+does_item fs globals names w env frames floor ceiling e place at base n m code l g does stack cells left stands below apart holds =
     let i : Instr = item_instr l in
     let s : State = state base stack frames cells left in
     let there : slice_get w.code.instrs (base + length code) ≡ Some i = (stands_right w.code.instrs base code (i ∷ []) stands).0 in
@@ -97,9 +101,9 @@ does_item fs globals names w env frames e place at base n m code l g does stack 
     (λ x k p.
     let later : IsList w.tokens p.cells (eval e w.calls env left) left l = named_list names w.tokens p.cells env e l w.calls left g (holds_still names w.tokens env p.keeps below.0 apart.0 holds.0) in
     let same : later.values ≡ list.values = same_items later.values list.values left (sym later.gives ∙ list.gives) in
-    at_end fs globals names w env frames (indexed (Items list.values) x k) n m _ _ s end
+    at_end fs globals names w env frames floor ceiling (indexed (Items list.values) x k) n m _ _ s end
     (acts_after w n m base (base + length code) (p.number ∷ stack) stack frames cells p.cells left k i (indexed (Items list.values) x k) (reads_straight l.seat l.size) there p.reaches p.keeps
-    (item_acts l list.values w.tokens stack p.cells k list.size list.kinds (subst (λ vs. StandAt l.seat w.tokens p.cells (flat_all vs)) same later.stands) x p.number p.is)))
+    (item_acts l list.values w.tokens stack p.cells k list.size (λ i u e. item_flat l.kind list.values i u list.kinds e) (subst (λ vs. StandAt l.seat w.tokens p.cells (flat_all vs)) same later.stands) x p.number p.is)))
     (λ c t. t))
   where
     same_items : (vs us : Values) (left : ℕ) → ◌≡◌ {A = Out Value} (Gives (Items vs) left) (Gives (Items us) left) → vs ≡ us

@@ -14,6 +14,7 @@ pub mod Routined
 pub mod Served
 pub mod FittedRoutines
 pub mod Finding
+pub mod Grown
 pub mod Coded
 pub mod Fitted
 pub mod Whole

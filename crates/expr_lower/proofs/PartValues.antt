@@ -265,12 +265,12 @@ module _ (names : List Name) (tokens : ℕ → List ℤ) (cells : List ℤ) (env
 
 -- ---- numbers of items
 
-front_get : (xs ys : List ℤ) (j : ℕ) (z : ℤ) → slice_get xs j ≡ Some z → slice_get (xs ++ ys) j ≡ Some z
+pub front_get : (xs ys : List ℤ) (j : ℕ) (z : ℤ) → slice_get xs j ≡ Some z → slice_get (xs ++ ys) j ≡ Some z
 front_get [] ys j z e = cc
 front_get (x ∷ xs) ys zero z e = e
 front_get (x ∷ xs) ys (suc j) z e = front_get xs ys j z e
 
-behind_get : (xs ys : List ℤ) (j : ℕ) → slice_get (xs ++ ys) (length xs + j) ≡ slice_get ys j
+pub behind_get : (xs ys : List ℤ) (j : ℕ) → slice_get (xs ++ ys) (length xs + j) ≡ slice_get ys j
 behind_get [] ys j = let e : 0 + j ≡ j = omega arith in ap (λ i. slice_get ys i) e
 behind_get (x ∷ xs) ys j = let e : suc (length xs) + j ≡ suc (length xs + j) = omega arith in ap (λ i. slice_get (x ∷ (xs ++ ys)) i) e ∙ behind_get xs ys j
 

@@ -103,7 +103,7 @@ pub record Gets (w : World) (t : Scalar) (n m : ℕ) (s : State) (back : ℕ) (f
   pub reaches : Reaches w.code w.tokens s (state back (number ∷ s.stack) frames cells left)
   pub keeps : Keeps n m w.low w.high s.cells cells
 
-module _ (fs : List Function) (globals : List Name) (w : World) (serves : Serves w globals fs) (back : ℕ) (frames : List ℕ) where
+module _ (fs : List Function) (globals : List Name) (w : World) (serves : Serves w globals fs) (back : ℕ) (frames : List ℕ) (floor ceiling : ℕ) where
   abbrev open_frames : List ℕ
   open_frames = back ∷ frames
 
@@ -135,9 +135,9 @@ module _ (fs : List Function) (globals : List Name) (w : World) (serves : Serves
 
   starts : (names : List Name) (env : Env) (t : Scalar) (c base m : ℕ) (start : Option Tree) (a : List Instr) (stack cells : List ℤ) (left : ℕ) → IsSize t
       → IsStart fs names t c (optional start) base (c + 1) a m → StandsAt w.code.instrs base a
-      → Below fs globals names w env open_frames c → Apart fs globals names w env open_frames → Held fs globals names w env open_frames cells → m ≤ length cells
+      → Below fs globals names w env open_frames floor ceiling c → Apart fs globals names w env open_frames floor ceiling → Held fs globals names w env open_frames floor ceiling cells → m ≤ length cells → m ≤ ceiling
       → Follows (first_value (Single t) start w.calls env left) (Starts t c m (state base stack open_frames cells left) (base + length a)) (CutsOff w c m (state base stack open_frames cells left))
-  starts names env t c base m None _ stack cells left size (at_zero _ _) stands below apart holds room =
+  starts names env t c base m None _ stack cells left size (at_zero _ _) stands below apart holds room top =
       let s : State = state base stack open_frames cells left in
       let u : State = state (base + 1) (pos 0 ∷ stack) open_frames cells left in
       let made = zero_kind t in
@@ -152,7 +152,7 @@ module _ (fs : List Function) (globals : List Name) (w : World) (serves : Serves
         is = made.1;
         there = set_there cells c (slice_index_or cells c (pos 0)) (pos 0) (old_at cells c (omega (arith, room)));
       }
-  starts names env t c base m (Some e) _ stack cells left size (at_value _ _ _ _ code coded) stands below apart holds room =
+  starts names env t c base m (Some e) _ stack cells left size (at_value _ _ _ _ code coded) stands below apart holds room top =
       let s : State = state base stack open_frames cells left in
       let i : List Instr = op.Store c (Some t) ∷ [] in
       let up : c + 1 ≤ m = grows coded in
@@ -161,8 +161,8 @@ module _ (fs : List Function) (globals : List Name) (w : World) (serves : Serves
       (λ v j. Pushes w (c + 1) m s (base + length code) v j × IsSingleValue v) (λ d. CutsOff w (c + 1) m s d × Unit {0})
       (Starts t c m s (base + length (code ++ i))) (CutsOff w c m s)
       (follows_both (eval e w.calls env left) (Pushes w (c + 1) m s (base + length code)) (CutsOff w (c + 1) m s) (λ v j. IsSingleValue v) (λ d. Unit {0})
-      (does_in fs globals names w serves env open_frames coded stack cells left (stands_left w.code.instrs base code i stands) (below_on fs globals names w env open_frames c (c + 1) (omega arith) below) apart holds)
-      (singles_in fs w.calls names w.tokens cells env (kinds_in fs globals w serves env.globals c cells below.1 apart.1 holds.1 holds.2) holds.0 coded left))
+      (does_in fs globals names w serves env open_frames floor ceiling coded top stack cells left (stands_left w.code.instrs base code i stands) (below_on fs globals names w env open_frames floor ceiling c (c + 1) (omega arith) below) apart holds)
+      (singles_in fs globals names w serves env floor ceiling cells (kinds_in fs globals w serves env.globals c cells below.1 apart.1 holds.1 holds.2) apart holds coded top left (stands_left w.code.instrs base code i stands) (below_on fs globals names w env open_frames floor ceiling c (c + 1) (omega arith) below)))
       (λ v j both.
       let p : Pushes w (c + 1) m s (base + length code) v j = both.0 in
       let made = single_stored t v p.number size both.1 p.is in
@@ -186,9 +186,9 @@ module _ (fs : List Function) (globals : List Name) (w : World) (serves : Serves
 
   returns_value : (names : List Name) (env : Env) (t : Scalar) (e : Tree) (base n m : ℕ) (code : List Instr) (stack cells : List ℤ) (left : ℕ) → IsSize t
       → IsCode fs names e base (n + 1) code m → StandsAt w.code.instrs base (code ++ return_code n t)
-      → Below fs globals names w env open_frames n → Apart fs globals names w env open_frames → Held fs globals names w env open_frames cells → m ≤ length cells
+      → Below fs globals names w env open_frames floor ceiling n → Apart fs globals names w env open_frames floor ceiling → Held fs globals names w env open_frames floor ceiling cells → m ≤ length cells → m ≤ ceiling
       → Follows (and_then (eval e w.calls env left) (λ v k. Gives (stored (Single t) v) k)) (Gets w t n m (state base stack open_frames cells left) back frames) (CutsOff w n m (state base stack open_frames cells left))
-  returns_value names env t e base n m code stack cells left size coded stands below apart holds room =
+  returns_value names env t e base n m code stack cells left size coded stands below apart holds room top =
       let s : State = state base stack open_frames cells left in
       let up : n + 1 ≤ m = grows coded in
       let tail = stands_right w.code.instrs base code (return_code n t) stands in
@@ -196,8 +196,8 @@ module _ (fs : List Function) (globals : List Name) (w : World) (serves : Serves
       (λ v j. Pushes w (n + 1) m s (base + length code) v j × IsSingleValue v) (λ d. CutsOff w (n + 1) m s d × Unit {0})
       (Gets w t n m s back frames) (CutsOff w n m s)
       (follows_both (eval e w.calls env left) (Pushes w (n + 1) m s (base + length code)) (CutsOff w (n + 1) m s) (λ v j. IsSingleValue v) (λ d. Unit {0})
-      (does_in fs globals names w serves env open_frames coded stack cells left (stands_left w.code.instrs base code (return_code n t) stands) (below_on fs globals names w env open_frames n (n + 1) (omega arith) below) apart holds)
-      (singles_in fs w.calls names w.tokens cells env (kinds_in fs globals w serves env.globals n cells below.1 apart.1 holds.1 holds.2) holds.0 coded left))
+      (does_in fs globals names w serves env open_frames floor ceiling coded top stack cells left (stands_left w.code.instrs base code (return_code n t) stands) (below_on fs globals names w env open_frames floor ceiling n (n + 1) (omega arith) below) apart holds)
+      (singles_in fs globals names w serves env floor ceiling cells (kinds_in fs globals w serves env.globals n cells below.1 apart.1 holds.1 holds.2) apart holds coded top left (stands_left w.code.instrs base code (return_code n t) stands) (below_on fs globals names w env open_frames floor ceiling n (n + 1) (omega arith) below)))
       (λ v j both.
       let p : Pushes w (n + 1) m s (base + length code) v j = both.0 in
       let z : ℤ = conv t p.number in
@@ -223,26 +223,26 @@ module _ (fs : List Function) (globals : List Name) (w : World) (serves : Serves
 
   pub body_returns : (t : Scalar) (e : Tree) {names : List Name} {xs : List Local} {base n m : ℕ} {code : List Instr} (env : Env) (stack cells : List ℤ) (left : ℕ) → IsSize t → LocalsSized xs
       → IsBody fs t e names xs base n code m → StandsAt w.code.instrs base code → AreApart n m w.low w.high
-      → Below fs globals names w env open_frames n → Apart fs globals names w env open_frames → Held fs globals names w env open_frames cells → m ≤ length cells
+      → Below fs globals names w env open_frames floor ceiling n → Apart fs globals names w env open_frames floor ceiling → Held fs globals names w env open_frames floor ceiling cells → m ≤ length cells → m ≤ ceiling
       → Follows (ends_body e t xs env left) (Gets w t n m (state base stack open_frames cells left) back frames) (CutsOff w n m (state base stack open_frames cells left))
-  body_returns t e env stack cells left size sizes (no_more_locals names base n m code coded) stands far below apart holds room =
-      returns_value names env t e base n m code stack cells left size coded stands below apart holds room
-  body_returns t e env stack cells left size sizes (one_more_local names x xs kind base n k m a b shape first rest) stands far below apart holds room =
+  body_returns t e env stack cells left size sizes (no_more_locals names base n m code coded) stands far below apart holds room top =
+      returns_value names env t e base n m code stack cells left size coded stands below apart holds room top
+  body_returns t e env stack cells left size sizes (one_more_local names x xs kind base n k m a b shape first rest) stands far below apart holds room top =
       subst (λ (h : Shape). Follows (and_then (and_then (first_value h x.start w.calls env left) (λ v j. declared xs w.calls (with_local (variable x.name h x.changes v) env) j)) (λ now i. and_then (eval e w.calls now i) (λ v q. Gives (stored (Single t) v) q))) (Gets w t n m s back frames) (CutsOff w n m s)) (sym shape)
       (subst (λ (o : Out Value). Follows o (Gets w t n m s back frames) (CutsOff w n m s)) (sym (then_then (first_value (Single kind) x.start w.calls env left) (λ v j. declared xs w.calls (with_local (variable x.name (Single kind) x.changes v) env) j) (λ now i. and_then (eval e w.calls now i) (λ v q. Gives (stored (Single t) v) q))))
       (follows_then (first_value (Single kind) x.start w.calls env left) (λ v j. ends_body e t xs (with_local (variable x.name (Single kind) x.changes v) env) j) (Starts kind n k s (base + length a)) (CutsOff w n k s) (Gets w t n m s back frames) (CutsOff w n m s)
-      (starts names env kind n base k x.start a stack cells left (sizes.0 kind shape) first (stands_left w.code.instrs base a b stands) below apart holds (omega (arith, room, more)))
+      (starts names env kind n base k x.start a stack cells left (sizes.0 kind shape) first (stands_left w.code.instrs base a b stands) below apart holds (omega (arith, room, more)) (omega (arith, top, more)))
       (λ v j p.
-      let held = still fs globals names w env open_frames p.keeps below apart holds in
-      let wide = below_on fs globals names w env open_frames n k (omega (arith, up)) below in
+      let held = still fs globals names w env open_frames floor ceiling p.keeps below apart holds in
+      let wide = below_on fs globals names w env open_frames floor ceiling n k (omega (arith, up)) below in
       let size_same = p.keeps.size in
       later v j p
       (body_returns t e (with_local (variable x.name (Single kind) x.changes v) env) stack p.cells j size sizes.1 rest (stands_right w.code.instrs base a b stands)
       (⊎_elim (λ (g : m ≤ w.low). inl g) (λ (g : w.high ≤ n). inr (omega (arith, g, up))) far)
-      (front_below names x.name kind n k up wide.0, wide.1)
-      (front_apart w.low w.high names x.name kind n (one_apart n m w.low w.high (omega (arith, up, more)) far) apart.0, apart.1)
-      (front_holds w.tokens names x.name kind (Single kind) x.changes n p.cells env v p.number p.kind p.is p.there held.0, held.1, held.2)
-      (omega (arith, room, size_same))))
+      (front_below names x.name kind n k up wide.0, wide.1, wide.2)
+      (front_apart w.low w.high names x.name kind n (one_apart n m w.low w.high (omega (arith, up, more)) far) apart.0, apart.1, apart.2)
+      (front_holds w.tokens names x.name kind (Single kind) x.changes n p.cells env v p.number p.kind p.is p.there held.0, held.1, held.2, held.3)
+      (omega (arith, room, size_same)) top))
       (λ d q. cut_wider w n k m s d (omega (arith, more)) q)))
     where
       s : State

@@ -158,11 +158,11 @@ row_item names e place at r p h g =
 
 -- ---- chains
 
-module _ (fs : List Function) (globals names : List Name) (w : World) (env : Env) (frames : List ℕ) where
+module _ (fs : List Function) (globals names : List Name) (w : World) (env : Env) (frames : List ℕ) (floor ceiling : ℕ) where
   -- evaluating and the code come to the same, from any operands, cells and turns
   abbrev pub DoesOffset : Tree → ℕ → ℕ → List Instr → ℕ → Type 0
   DoesOffset e base n code m = (p : Part) → part_named names e ≡ Some p
-      → (stack cells : List ℤ) (left : ℕ) → StandsAt w.code.instrs base code → Below fs globals names w env frames n → Apart fs globals names w env frames → Held fs globals names w env frames cells
+      → (stack cells : List ℤ) (left : ℕ) → StandsAt w.code.instrs base code → Below fs globals names w env frames floor ceiling n → Apart fs globals names w env frames floor ceiling → Held fs globals names w env frames floor ceiling cells
       → Follows (eval e w.calls env left) (AtOffset names w env p n m (state base stack frames cells left) (base + length code)) (CutsOff w n m (state base stack frames cells left))
 
   offset_end : (p : Part) (o : Out Value) (n m a b : ℕ) (s : State) → a ≡ b → Follows o (AtOffset names w env p n m s a) (CutsOff w n m s) → Follows o (AtOffset names w env p n m s b) (CutsOff w n m s)
@@ -215,7 +215,7 @@ module _ (fs : List Function) (globals names : List Name) (w : World) (env : Env
       (λ c g. record { cells = cells; ends = ends_join reach (stop (steps ∙ ap (go_on s) g)); keeps = keeps })
 
   pub does_row : (e place : Tree) (at base n k m : ℕ) (a b : List Instr) (r : Rows) → rows_named names e ≡ Some r → n ≤ k → k ≤ m
-      → DoesOffset e base n a k → Does fs globals names w env frames place (base + length a) k b m → DoesOffset (tree.index e place at) base n (a ++ (b ++ row_instr r ∷ [])) m
+      → DoesOffset e base n a k → Does fs globals names w env frames floor ceiling place (base + length a) k b m → DoesOffset (tree.index e place at) base n (a ++ (b ++ row_instr r ∷ [])) m
   does_row e place at base n k m a b r g le ge first second p h stack cells left stands below apart holds =
       let i : Instr = row_instr r in
       let rest = stands_right w.code.instrs base a (b ++ i ∷ []) stands in
@@ -226,7 +226,7 @@ module _ (fs : List Function) (globals names : List Name) (w : World) (env : Env
       follows_then (eval e w.calls env left) (λ v j. and_then (eval place w.calls env j) (λ u c. indexed v u c)) (AtOffset names w env rows.part n k s (base + length a)) (CutsOff w n k s) (AtOffset names w env p n m s (base + length (a ++ (b ++ i ∷ [])))) (CutsOff w n m s)
       (first rows.part rows.is stack cells left (stands_left w.code.instrs base a (b ++ i ∷ []) stands) below apart holds)
       (λ v j x. follows_then (eval place w.calls env j) (λ u c. indexed v u c) (Pushes w k m (state (base + length a) (pos x.offset ∷ stack) frames x.cells j) (base + length a + length b)) (CutsOff w k m (state (base + length a) (pos x.offset ∷ stack) frames x.cells j)) (AtOffset names w env p n m s (base + length (a ++ (b ++ i ∷ [])))) (CutsOff w n m s)
-      (second (pos x.offset ∷ stack) x.cells j (stands_left w.code.instrs (base + length a) b (i ∷ []) rest) (below_on fs globals names w env frames n k le below) apart (still fs globals names w env frames x.keeps below apart holds))
+      (second (pos x.offset ∷ stack) x.cells j (stands_left w.code.instrs (base + length a) b (i ∷ []) rest) (below_on fs globals names w env frames floor ceiling n k le below) apart (still fs globals names w env frames floor ceiling x.keeps below apart holds))
       (λ u c y. offset_end p (indexed v u c) n m _ _ s end
       (row_after rows.part p r rows.items n m base (base + length a + length b) stack cells y.cells left c x.offset v u y.number rows.shape rows.each (row_item names e place at r p rows h) x.inside y.is there
       (reaches_join x.reaches y.reaches) (keeps_join (keeps_wider n m (omega arith) ge x.keeps) (keeps_wider n m le (omega arith) y.keeps))))
@@ -261,7 +261,7 @@ module _ (fs : List Function) (globals names : List Name) (w : World) (env : Env
       same_value : (v u : Value) → ◌≡◌ {A = Option Value} (Some v) (Some u) → v ≡ u
       same_value v u e = cc
 
-  pub does_deep : (e : Tree) (base n m : ℕ) (code : List Instr) (l : ItemList) → deep_named names e ≡ Some l → DoesOffset e base n code m → Does fs globals names w env frames e base n (code ++ item_instr l ∷ []) m
+  pub does_deep : (e : Tree) (base n m : ℕ) (code : List Instr) (l : ItemList) → deep_named names e ≡ Some l → DoesOffset e base n code m → Does fs globals names w env frames floor ceiling e base n (code ++ item_instr l ∷ []) m
   does_deep e base n m code l g does stack cells left stands below apart holds =
       let i : Instr = item_instr l in
       let s : State = state base stack frames cells left in

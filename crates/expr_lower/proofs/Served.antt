@@ -103,18 +103,18 @@ answers_one code tokens low high globals fs inner outer f g base n m instrs r is
         let s : State = state base stack (back ∷ frames) cells left in
         let e : Enters vars f.formals g.formals args globals tokens cells [] = enters vars f.formals g.formals args globals tokens cells [] is.formals held holds in
         let entry : Env = record { globals = vars; locals = e.args ++ [] } in
-        let body : Follows (ends_body fs globals w serves back frames f.body f.result f.locals entry left) (Gets w f.result (n + length g.formals) m s back frames) (CutsOff w (n + length g.formals) m s) =
-        body_returns fs globals w serves back frames f.result f.body entry stack cells left sized.result sized.locals is.body stands (inr (omega arith))
-        (formals_below f.formals g.formals n (n + length g.formals) globals is.row (omega arith) (below_more low (n + length g.formals) globals (omega (arith, le)) below), below_more low (n + length g.formals) globals (omega (arith, le)) below)
-        (formals_apart f.formals g.formals n low n globals is.row (omega arith) globals_apart, globals_apart)
-        (e.holds, holds, λ some. omega (arith, room, up, ge)) (omega (arith, room, ge)) in
+        let body : Follows (ends_body fs globals w serves back frames (n + length g.formals) m f.body f.result f.locals entry left) (Gets w f.result (n + length g.formals) m s back frames) (CutsOff w (n + length g.formals) m s) =
+        body_returns fs globals w serves back frames (n + length g.formals) m f.result f.body entry stack cells left sized.result sized.locals is.body stands (inr (omega arith))
+        (formals_below f.formals g.formals n (n + length g.formals) globals is.row (omega arith) (below_more low (n + length g.formals) globals (omega (arith, le)) below), below_more low (n + length g.formals) globals (omega (arith, le)) below, omega arith)
+        (formals_apart f.formals g.formals n low n globals is.row (omega arith) globals_apart, globals_apart, λ less. inr (omega arith))
+        (e.holds, holds, λ some. omega (arith, room, up, ge), λ less. omega (arith, room, ge)) (omega (arith, room, ge)) (omega arith) in
         subst (λ (o : Out Value). Follows o (Returns (world_of code tokens outer low high) g.result (state r.start stack (back ∷ frames) cells left) back frames) (CutsOff (world_of code tokens outer low high) 0 0 (state r.start stack (back ∷ frames) cells left))) (sym (same vars args left))
         (subst (λ p. Follows (answered f inner vars args left) (Returns (world_of code tokens outer low high) g.result (state p stack (back ∷ frames) cells left) back frames) (CutsOff (world_of code tokens outer low high) 0 0 (state p stack (back ∷ frames) cells left))) (sym starts)
         (subst (λ (o : Option (List Var)). Follows (and_then (and_then (needed o left) (λ vs k. Gives (record { globals = vars; locals = vs }) k)) (λ entry h. and_then (declared f.locals inner entry h) (λ env i. and_then (eval f.body inner env i) (λ v k. Gives (stored (Single f.result) v) k))))
         (Returns (world_of code tokens outer low high) g.result s back frames) (CutsOff (world_of code tokens outer low high) 0 0 s)) (sym e.are)
         (subst (λ ls. Follows (and_then (declared f.locals inner (record { globals = vars; locals = ls }) left) (λ env i. and_then (eval f.body inner env i) (λ v k. Gives (stored (Single f.result) v) k)))
         (Returns (world_of code tokens outer low high) g.result s back frames) (CutsOff (world_of code tokens outer low high) 0 0 s)) (append-nil e.args)
-        (follows_more (ends_body fs globals w serves back frames f.body f.result f.locals entry left) (Gets w f.result (n + length g.formals) m s back frames) (CutsOff w (n + length g.formals) m s) (Returns (world_of code tokens outer low high) g.result s back frames) (CutsOff (world_of code tokens outer low high) 0 0 s)
+        (follows_more (ends_body fs globals w serves back frames (n + length g.formals) m f.body f.result f.locals entry left) (Gets w f.result (n + length g.formals) m s back frames) (CutsOff w (n + length g.formals) m s) (Returns (world_of code tokens outer low high) g.result s back frames) (CutsOff (world_of code tokens outer low high) 0 0 s)
         body
         (λ v k q. record {
           kind = subst (λ t. HasKind (kind_of_scalar t) v) (sym is.result) q.kind;

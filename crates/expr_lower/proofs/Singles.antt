@@ -1,5 +1,5 @@
 -- Lowered expressions give single values.
-use Rattle.std.proofs.Common.{◌≡◌, ℕ, ℤ, pos, negsuc, List, Bool, true, false, refl, sym, subst, Option, None, Some, zero, suc, [], length, ap, ◌∙◌}
+use Rattle.std.proofs.Common.{◌≡◌, ℕ, ◌+◌, ◌≤◌, ◌∷◌, ◌++◌, arith, ℤ, pos, negsuc, List, Bool, true, false, refl, sym, subst, Option, None, Some, zero, suc, [], length, ap, ◌∙◌}
 use Rattle.std.specs.Prelude.{if◌then◌else◌, nat_le, ◌==◌, unsigned_abs, ◌+ℤ◌, ◌-ℤ◌, ◌*ℤ◌, neg_ℤ, int_div, int_rem, ◌^◌}
 use Rattle.std.specs.Int.{int_shr}
 use Rattle.rvc_base.specs.declared.scalar.Scalar.{Scalar}
@@ -19,28 +19,24 @@ use Rattle.cal_model.specs.Expression.{Calls, eval, eval_all, computed, prefixed
 use Rattle.cal_model.proofs.Numbers.{is-num, rest-is-num, shifted-is-num, and-is-num, or-is-num, xor-is-num, not-is-num}
 use Rattle.code_ir.specs.declared.instr.Instr.{Instr}
 use Rattle.expr_lower.specs.Names.{Name, IsSingle}
-use Rattle.expr_lower.specs.Held.{HoldsName, Holds}
+use Rattle.expr_lower.specs.Held.{HoldsName}
 use Rattle.expr_lower.specs.Following.{Follows}
 use Rattle.expr_lower.specs.declared.names.ItemList.{ItemList}
 use Rattle.expr_lower.specs.Callees.{Function, function_named}
-use Rattle.expr_lower.specs.Coding.{AreArgs, IsCode, IsTest, arg_more, call, no_arg, number, too_great, negative, truth, variable, paren, prefix, binary, both, either, if_code, tested, both_tested, item, deep_item}
+use Rattle.expr_lower.specs.Coding.{AreArgs, IsCode, IsTest, call_code, item_instr, prefix_instr, in_another_way, arg_more, call, no_arg, number, too_great, negative, truth, variable, paren, prefix, binary, both, either, if_code, tested, both_tested, item, deep_item}
 use Rattle.expr_lower.proofs.Effects.{goes_right}
 use Rattle.cal_ast.specs.Tree as tree
 use Rattle.expr_lower.proofs.Listing.{IsList, named_list, item_kind}
 use Rattle.expr_lower.proofs.PartValues.{deep_only}
 use Rattle.expr_lower.specs.Parted.{number_of}
 use Rattle.expr_lower.proofs.Finding.{is_found}
-use Rattle.expr_lower.proofs.Runs.{follows_more, follows_then}
-
--- a truth value, or a number of the language
-abbrev pub IsSingleValue : Value → Type 0
-IsSingleValue (Num z) = IsNum z
-IsSingleValue (Truth b) = Unit {0}
-IsSingleValue (Items vs) = ⊥
-
--- what the outcome gives, if anything, is a single value
-abbrev pub OnlySingles : Out Value → Type 0
-OnlySingles o = Follows o (λ v m. IsSingleValue v) (λ c. Unit {0})
+use Rattle.expr_lower.proofs.Doing.{Apart, Below, Held, below_on, may_use, prepared}
+use Rattle.expr_lower.proofs.Grown.{grows, grows_args, grows_test}
+use Rattle.expr_lower.proofs.Runs.{follows_more, follows_then, stands_left, stands_right}
+use Rattle.expr_lower.specs.Calling.{Serves}
+use Rattle.expr_lower.specs.Placed.{StandsAt, World}
+use Rattle.code_ir.specs.declared.instr.Instr.TheVariants as op
+pub use Rattle.expr_lower.specs.Single.{IsSingleValue, OnlySingles}
 
 single_then : (o : Out Value) (f : Value → ℕ → Out Value) → OnlySingles o → ((v : Value) (m : ℕ) → IsSingleValue v → OnlySingles (f v m)) → OnlySingles (and_then o f)
 single_then o f h g = follows_then o f (λ v m. IsSingleValue v) (λ c. Unit {0}) (λ v m. IsSingleValue v) (λ c. Unit {0}) h g (λ c t. tt)
@@ -191,59 +187,87 @@ abbrev pub KindsIn : Calls → List Var → List Function → Type 0
 KindsIn calls vars fs = (text : List ℕ) (f : Function) → function_named text fs ≡ Some f → (vs : Values) (left : ℕ) → AreSingles vs → count vs ≡ length f.formals
     → Follows (calls vars text vs left) (λ v k. HasKind (kind_of_scalar f.result) v) (λ c. Unit {0})
 
-module _ (fs : List Function) (calls : Calls) (names : List Name) (tokens : ℕ → List ℤ) (cells : List ℤ) (env : Env) (gives : KindsIn calls env.globals fs) (holds : Holds names tokens cells env) where
+module _ (fs : List Function) (globals names : List Name) (w : World) (serves : Serves w globals fs) (env : Env) (floor ceiling : ℕ) (cells : List ℤ) (gives : KindsIn w.calls env.globals fs)
+    (apart : Apart fs globals names w env [] floor ceiling) (held : Held fs globals names w env [] floor ceiling cells) where
+  abbrev Under : ℕ → Type 0
+  Under n = Below fs globals names w env [] floor ceiling n
+
+  further : (n m : ℕ) → n ≤ m → Under n → Under m
+  further n m le below = below_on fs globals names w env [] floor ceiling n m le below
+
+  abbrev There : ℕ → List Instr → Type 0
+  There base code = StandsAt w.code.instrs base code
+
   mutual
-    pub singles_in : {e : Tree} {base n m : ℕ} {code : List Instr} → IsCode fs names e base n code m → (left : ℕ) → OnlySingles (eval e calls env left)
-    singles_in (number k at base n h) left = whole_single (pos k) left
-    singles_in (too_great k at base n h) left = whole_single (pos k) left
-    singles_in (negative k at base n place h) left = single_then (computed (arithmetic.whole (pos k)) left) (λ v m. prefixed prefixes.Neg v m) (whole_single (pos k) left) (λ v m i. prefix_single prefixes.Neg v m i)
-    singles_in (truth b at base n) left = tt
-    singles_in (variable text at base n x e s) left =
-        let h : HoldsName tokens cells env text x = holds text x e in
+    pub singles_in : {e : Tree} {base n m : ℕ} {code : List Instr} → IsCode fs names e base n code m → m ≤ ceiling → (left : ℕ) → There base code → Under n → OnlySingles (eval e w.calls env left)
+    singles_in (in_another_way e base n m code h) up left at below =
+        h.singles below.0 w globals env cells left at serves (prepared fs globals names w env [] floor ceiling n cells below apart held) (may_use fs globals names w env [] floor ceiling n m cells up below apart held)
+    singles_in (number k base_at base n h) up left at below = whole_single (pos k) left
+    singles_in (too_great k base_at base n h) up left at below = whole_single (pos k) left
+    singles_in (negative k base_at base n place h) up left at below = single_then (computed (arithmetic.whole (pos k)) left) (λ v m. prefixed prefixes.Neg v m) (whole_single (pos k) left) (λ v m i. prefix_single prefixes.Neg v m i)
+    singles_in (truth b base_at base n) up left at below = tt
+    singles_in (variable text base_at base n x e s) up left at below =
+        let h : HoldsName w.tokens cells env text x = held.0 text x e in
         subst (λ (o : Option Value). OnlySingles (known o left)) (sym h.meant) (shape_single x.shape h.value s h.of_type)
-    singles_in (paren e at base n m code h) left = singles_in h left
-    singles_in (prefix o e at base n m code h) left = single_then (eval e calls env left) (λ v m. prefixed o v m) (singles_in h left) (λ v m i. prefix_single o v m i)
-    singles_in (binary o i l r at base n k m a b e h g) left =
-        single_then (eval l calls env left) (λ v m. with_right o v (λ k. eval r calls env k) m) (singles_in h left) (λ v m s.
-        subst OnlySingles (sym (goes_right o i v (λ k. eval r calls env k) m e)) (right_single o v (λ k. eval r calls env k) m s (λ k. singles_in g k)))
-    singles_in (call text args at base n m code f e h) left =
-        follows_then (eval_all args calls env left) (λ vs k. turn k (λ j. calls env.globals text vs j)) (λ vs k. AreSingles vs × (count vs ≡ number_of args)) (λ c. Unit {0}) (λ v m. IsSingleValue v) (λ c. Unit {0})
-        (singles_args h left) (λ vs k p. turned vs k p) (λ c t. tt)
+    singles_in (paren e base_at base n m code h) up left at below = singles_in h up left at below
+    singles_in (prefix o e base_at base n m code h) up left at below =
+        single_then (eval e w.calls env left) (λ v m. prefixed o v m) (singles_in h up left (stands_left w.code.instrs base code (prefix_instr o ∷ []) at) below) (λ v m i. prefix_single o v m i)
+    singles_in (binary o i l r base_at base n k m a b e h g) up left at below =
+        let x = grows h in let y = grows g in
+        let rest = stands_right w.code.instrs base a (b ++ i ∷ []) at in
+        single_then (eval l w.calls env left) (λ v m. with_right o v (λ k. eval r w.calls env k) m) (singles_in h (omega (arith, y, up)) left (stands_left w.code.instrs base a (b ++ i ∷ []) at) below) (λ v j s.
+        subst OnlySingles (sym (goes_right o i v (λ k. eval r w.calls env k) j e)) (right_single o v (λ k. eval r w.calls env k) j s (λ j. singles_in g up j (stands_left w.code.instrs (base + length a) b (i ∷ []) rest) (further n k x below))))
+    singles_in (call text args base_at base n m code f e h) up left at below =
+        follows_then (eval_all args w.calls env left) (λ vs k. turn k (λ j. w.calls env.globals text vs j)) (λ vs k. AreSingles vs × (count vs ≡ number_of args)) (λ c. Unit {0}) (λ v m. IsSingleValue v) (λ c. Unit {0})
+        (singles_args h up left (stands_left w.code.instrs base code (call_code f) at) below) (λ vs k p. turned vs k p) (λ c t. tt)
       where
-        turned : (vs : Values) (k : ℕ) → AreSingles vs × (count vs ≡ number_of args) → OnlySingles (turn k (λ j. calls env.globals text vs j))
+        turned : (vs : Values) (k : ℕ) → AreSingles vs × (count vs ≡ number_of args) → OnlySingles (turn k (λ j. w.calls env.globals text vs j))
         turned vs zero p = tt
         turned vs (suc j) p =
             let there = is_found text (number_of args) fs f e in
-            follows_more (calls env.globals text vs j) (λ v m. HasKind (kind_of_scalar f.result) v) (λ c. Unit {0}) (λ v m. IsSingleValue v) (λ c. Unit {0})
+            follows_more (w.calls env.globals text vs j) (λ v m. HasKind (kind_of_scalar f.result) v) (λ c. Unit {0}) (λ v m. IsSingleValue v) (λ c. Unit {0})
             (gives text f there.0 vs j p.0 (p.1 ∙ sym there.1)) (λ v m k. kind_single f.result v k) (λ c t. tt)
-    singles_in (item e place at base n m code l g h) left =
-        let list : IsList tokens cells (eval e calls env left) left l = named_list names tokens cells env e l calls left g holds in
-        subst (λ (o : Out Value). OnlySingles (and_then o (λ v h. and_then (eval place calls env h) (λ x k. indexed v x k)))) (sym list.gives)
-        (single_then (eval place calls env left) (λ x k. indexed (Items list.values) x k) (singles_in h left) (λ x k s. item_single l list.values x k list.kinds))
-    singles_in (deep_item e place at base n m code l g h) left =
-        follows_more (eval (tree.index e place at) calls env left) (λ v m. HasKind (kind_of_scalar l.kind) v) (λ c. Unit {0}) (λ v m. IsSingleValue v) (λ c. Unit {0})
-        (deep_only names tokens cells env calls holds (tree.index e place at) l left g) (λ v m k. kind_single l.kind v k) (λ c t. tt)
-    singles_in (both l r at base n k m far end a b t h g e f) left =
-        single_then (eval l calls env left) (λ v m. with_right binaries.And v (λ k. eval r calls env k) m) (singles_test h left) (λ v m s. and_single v (λ k. eval r calls env k) m s (λ k. singles_in g k))
-    singles_in (either l r at base n k m right end a b t h g e f) left =
-        single_then (eval l calls env left) (λ v m. with_right binaries.Or v (λ k. eval r calls env k) m) (singles_test h left) (λ v m s. or_single v (λ k. eval r calls env k) m s (λ k. singles_in g k))
-    singles_in (if_code test first other at base n k j m else_at end a b c h g d e f) left =
-        single_then (eval test calls env left) (λ v m. chosen v (λ k. eval first calls env k) (λ k. eval other calls env k) m) (singles_test h left)
-        (λ v m s. chosen_single v (λ k. eval first calls env k) (λ k. eval other calls env k) m (λ k. singles_in g k) (λ k. singles_in d k))
+    singles_in (item e place base_at base n m code l g h) up left at below =
+        let list : IsList w.tokens cells (eval e w.calls env left) left l = named_list names w.tokens cells env e l w.calls left g held.0 in
+        subst (λ (o : Out Value). OnlySingles (and_then o (λ v h. and_then (eval place w.calls env h) (λ x k. indexed v x k)))) (sym list.gives)
+        (single_then (eval place w.calls env left) (λ x k. indexed (Items list.values) x k) (singles_in h up left (stands_left w.code.instrs base code (item_instr l ∷ []) at) below) (λ x k s. item_single l list.values x k list.kinds))
+    singles_in (deep_item e place base_at base n m code l g h) up left at below =
+        follows_more (eval (tree.index e place base_at) w.calls env left) (λ v m. HasKind (kind_of_scalar l.kind) v) (λ c. Unit {0}) (λ v m. IsSingleValue v) (λ c. Unit {0})
+        (deep_only names w.tokens cells env w.calls held.0 (tree.index e place base_at) l left g) (λ v m k. kind_single l.kind v k) (λ c t. tt)
+    singles_in (both l r base_at base n k m far end a b t h g e f) up left at below =
+        let x = grows_test h in let y = grows g in
+        let tail : List Instr = op.Jump end ∷ op.Const (pos 0) ∷ [] in
+        let rest = stands_right w.code.instrs base a (b ++ tail) at in
+        single_then (eval l w.calls env left) (λ v m. with_right binaries.And v (λ k. eval r w.calls env k) m) (singles_test h (omega (arith, y, up)) left (stands_left w.code.instrs base a (b ++ tail) at) below)
+        (λ v j s. and_single v (λ k. eval r w.calls env k) j s (λ j. singles_in g up j (stands_left w.code.instrs (base + length a) b tail rest) (further n k x below)))
+    singles_in (either l r base_at base n k m right end a b t h g e f) up left at below =
+        let x = grows_test h in let y = grows g in
+        let tail : List Instr = op.Const (pos 1) ∷ op.Jump end ∷ b in
+        let there : base + length a + 1 + 1 ≡ right = omega (arith, e) in
+        let last : There right b = subst (λ p. There p b) there (stands_right w.code.instrs base a tail at).1.1 in
+        single_then (eval l w.calls env left) (λ v m. with_right binaries.Or v (λ k. eval r w.calls env k) m) (singles_test h (omega (arith, y, up)) left (stands_left w.code.instrs base a tail at) below)
+        (λ v j s. or_single v (λ k. eval r w.calls env k) j s (λ j. singles_in g up j last (further n k x below)))
+    singles_in (if_code test first other base_at base n k j m else_at end a b c h g d e f) up left at below =
+        let x = grows_test h in let y = grows g in let z = grows d in
+        let tail : List Instr = op.Jump end ∷ c in
+        let rest = stands_right w.code.instrs base a (b ++ tail) at in
+        let there : There else_at c = subst (λ p. There p c) (sym e) (stands_right w.code.instrs (base + length a) b tail rest).1 in
+        single_then (eval test w.calls env left) (λ v m. chosen v (λ k. eval first w.calls env k) (λ k. eval other w.calls env k) m) (singles_test h (omega (arith, y, z, up)) left (stands_left w.code.instrs base a (b ++ tail) at) below)
+        (λ v i s. chosen_single v (λ k. eval first w.calls env k) (λ k. eval other w.calls env k) i (λ i. singles_in g (omega (arith, z, up)) i (stands_left w.code.instrs (base + length a) b tail rest) (further n k x below)) (λ i. singles_in d up i there (further n j (omega (arith, x, y)) below)))
 
-    singles_args : {es : Tree} {base n m : ℕ} {code : List Instr} → AreArgs fs names es base n code m → (left : ℕ) → Follows (eval_all es calls env left) (λ vs k. AreSingles vs × (count vs ≡ number_of es)) (λ c. Unit {0})
-    singles_args (no_arg base n) left = (tt, refl)
-    singles_args (arg_more e es base n k m a b h g) left =
-        follows_then (eval e calls env left) (λ v j. and_then (eval_all es calls env j) (λ vs i. Gives (Cons v vs) i)) (λ v j. IsSingleValue v) (λ c. Unit {0}) (λ vs i. AreSingles vs × (count vs ≡ suc (number_of es))) (λ c. Unit {0})
-        (singles_in h left)
-        (λ v j s. follows_then (eval_all es calls env j) (λ vs i. Gives (Cons v vs) i) (λ vs i. AreSingles vs × (count vs ≡ number_of es)) (λ c. Unit {0}) (λ vs i. AreSingles vs × (count vs ≡ suc (number_of es))) (λ c. Unit {0})
-        (singles_args g j) (λ vs i p. ((s, p.0), ap suc p.1)) (λ c t. tt))
+    singles_args : {es : Tree} {base n m : ℕ} {code : List Instr} → AreArgs fs names es base n code m → m ≤ ceiling → (left : ℕ) → There base code → Under n → Follows (eval_all es w.calls env left) (λ vs k. AreSingles vs × (count vs ≡ number_of es)) (λ c. Unit {0})
+    singles_args (no_arg base n) up left at below = (tt, refl)
+    singles_args (arg_more e es base n k m a b h g) up left at below =
+        let x = grows h in let y = grows_args g in
+        follows_then (eval e w.calls env left) (λ v j. and_then (eval_all es w.calls env j) (λ vs i. Gives (Cons v vs) i)) (λ v j. IsSingleValue v) (λ c. Unit {0}) (λ vs i. AreSingles vs × (count vs ≡ suc (number_of es))) (λ c. Unit {0})
+        (singles_in h (omega (arith, y, up)) left (stands_left w.code.instrs base a b at) below)
+        (λ v j s. follows_then (eval_all es w.calls env j) (λ vs i. Gives (Cons v vs) i) (λ vs i. AreSingles vs × (count vs ≡ number_of es)) (λ c. Unit {0}) (λ vs i. AreSingles vs × (count vs ≡ suc (number_of es))) (λ c. Unit {0})
+        (singles_args g up j (stands_right w.code.instrs base a b at) (further n k x below)) (λ vs i p. ((s, p.0), ap suc p.1)) (λ c t. tt))
         (λ c t. tt)
 
-    singles_test : {e : Tree} {base n far m : ℕ} {code : List Instr} → IsTest fs names e base n far code m → (left : ℕ) → OnlySingles (eval e calls env left)
-    singles_test (tested e base n m far code h) left = singles_in h left
-    singles_test (both_tested l r at base n k m far a b t h g) left =
-        single_then (eval l calls env left) (λ v m. with_right binaries.And v (λ k. eval r calls env k) m) (singles_test h left) (λ v m s. and_single v (λ k. eval r calls env k) m s (λ k. singles_test g k))
-
-pub singles : (names : List Name) (tokens : ℕ → List ℤ) (cells : List ℤ) (env : Env) (calls : Calls) → Holds names tokens cells env → {e : Tree} {base n m : ℕ} {code : List Instr} → IsCode [] names e base n code m → (left : ℕ) → OnlySingles (eval e calls env left)
-singles names tokens cells env calls holds coded left = singles_in [] calls names tokens cells env (λ text f e. cc) holds coded left
+    singles_test : {e : Tree} {base n far m : ℕ} {code : List Instr} → IsTest fs names e base n far code m → m ≤ ceiling → (left : ℕ) → There base code → Under n → OnlySingles (eval e w.calls env left)
+    singles_test (tested e base n m far code h) up left at below = singles_in h up left (stands_left w.code.instrs base code (op.JumpIfNot far ∷ []) at) below
+    singles_test (both_tested l r base_at base n k m far a b t h g) up left at below =
+        let x = grows_test h in let y = grows_test g in
+        single_then (eval l w.calls env left) (λ v m. with_right binaries.And v (λ k. eval r w.calls env k) m) (singles_test h (omega (arith, y, up)) left (stands_left w.code.instrs base a b at) below)
+        (λ v j s. and_single v (λ k. eval r w.calls env k) j s (λ j. singles_test g up j (stands_right w.code.instrs base a b at) (further n k x below)))

@@ -19,7 +19,7 @@ lowered names e old new below a = record {
   has = record {
     cells = grows a.has;
     evaluates = evaluates names e (length old.instrs.items) old.cells new.cells a.code below a.has;
-    fits = λ whole callable h. fits whole callable new.cells names h below (omega arith) a.has;
+    fits = λ whole callable h at. fits whole callable new.cells names h below (omega arith) at a.has;
   };
 }
 
@@ -31,6 +31,6 @@ lowered_with fs names e old new below a = record {
   has = record {
     cells = grows a.has;
     evaluates = evaluates_with names e (length old.instrs.items) old.cells new.cells a.code below a.has;
-    fits = λ whole callable h has. fits_in whole callable new.cells fs has names h below (omega arith) a.has;
+    fits = λ whole callable h has at. fits_in whole callable new.cells fs has names h below (omega arith) at a.has;
   };
 }

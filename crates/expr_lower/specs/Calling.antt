@@ -16,7 +16,7 @@ use Rattle.expr_lower.specs.declared.callees.Formal.{Formal}
 use Rattle.expr_lower.specs.Callees.{Function, function_named}
 use Rattle.expr_lower.specs.Fitting.{Fits}
 use Rattle.expr_lower.specs.Flat.{flat}
-use Rattle.expr_lower.specs.Following.{CutsOff, EndsAs, Follows, Pushes}
+use Rattle.expr_lower.specs.Following.{CutsOff, EndsAs, Follows, MayUse, Pushes}
 use Rattle.expr_lower.specs.Held.{AllApart, AreBelow, Holds, Keeps}
 use Rattle.expr_lower.specs.Names.{Name}
 use Rattle.expr_lower.specs.Placed.{StandsAt, World, state}
@@ -111,14 +111,14 @@ pub record EvaluatesWith (fs : List Function) (names : List Name) (e : Tree) (ba
   pub goes : (w : World) (globals : List Name) (env : Env) (stack : List ℤ) (frames : List ℕ)
       (cells : List ℤ) (left : ℕ)
       → StandsAt w.code.instrs base code → Serves w globals fs
-      → Prepared w globals names fs n cells env
+      → Prepared w globals names fs n cells env → MayUse w n m cells
       → Follows (eval e w.calls env left)
       (Pushes w n m (state base stack frames cells left) (base + length code))
       (CutsOff w n m (state base stack frames cells left))
   pub only : (w : World) (globals : List Name) (env : Env) (stack : List ℤ) (frames : List ℕ)
       (cells : List ℤ) (left : ℕ)
       → StandsAt w.code.instrs base code → Serves w globals fs
-      → Prepared w globals names fs n cells env
+      → Prepared w globals names fs n cells env → MayUse w n m cells
       → (o : Outcome) (last : List ℤ)
       → Ends w.code w.tokens (state base stack frames cells left) o last
       → EndsAs w (state base stack frames cells left) (base + length code)
@@ -137,4 +137,5 @@ pub record IsLoweredWith (fs : List Function) (names : List Name) (e : Tree) (ba
   pub cells : n ≤ m
   pub evaluates : EvaluatesWith fs names e base n m code
   pub fits : (whole : Code) (callable h : ℕ) → HasRoutines whole callable m fs
+      → StandsAt whole.instrs base code
       → Fits whole callable m base h code (h + 1) (base + length code) (h + 1)

@@ -1,6 +1,6 @@
 -- The code of each form of an expression. It stands at a place of the code, since jumps name places.
 -- Not trusted: no promise is read with it.
-use Rattle.std.specs.Prelude.{◌≡◌, ℕ, ◌+◌, Bool, pos, neg_ℤ, true, false, List, [], ◌∷◌, ◌++◌, length, map, Option, None, Some}
+use Rattle.std.specs.Prelude.{◌≡◌, ℕ, ◌+◌, ◌≤◌, ℤ, Bool, pos, neg_ℤ, true, false, List, [], ◌∷◌, ◌++◌, length, map, Option, None, Some}
 use Rattle.rvc_base.specs.Arithmetic as arithmetic
 use Rattle.rvc_base.specs.Width.{is_num, greatest_num}
 use Rattle.cal_ast.specs.declared.expr.PrefixOp.{PrefixOp}
@@ -21,6 +21,15 @@ use Rattle.expr_lower.specs.Listed.{list_named}
 use Rattle.expr_lower.specs.declared.parts.Rows.{Rows}
 use Rattle.expr_lower.specs.Parted.{rows_named, deep_named, number_of}
 use Rattle.expr_lower.specs.Truths.{is_truth}
+use Rattle.cal_model.specs.Env.{Env}
+use Rattle.cal_model.specs.Expression.{eval}
+use Rattle.code_ir.specs.Code.{Code}
+use Rattle.expr_lower.specs.Calling.{EvaluatesWith, HasRoutines, Prepared, Serves}
+use Rattle.expr_lower.specs.Fitting.{Fits}
+use Rattle.expr_lower.specs.Following.{MayUse}
+use Rattle.expr_lower.specs.Held.{AreBelow}
+use Rattle.expr_lower.specs.Placed.{StandsAt, World}
+use Rattle.expr_lower.specs.Single.{OnlySingles}
 
 -- the instruction of an operation with one operand
 abbrev pub prefix_instr : PrefixOp → Instr
@@ -80,9 +89,31 @@ formal_stores (x ∷ xs) = formal_stores xs ++ op.Store x.cell (Some x.kind) ∷
 abbrev pub call_code : Function → List Instr
 call_code f = op.Turn ∷ (formal_stores f.formals ++ op.Call f.routine ∷ [])
 
+-- an instruction with the place to jump to: `Done`, which code of expressions doesn't have, stands for the jump
+abbrev pub aimed : ℕ → Instr → Instr
+aimed out op.Done = op.JumpIfNot out
+aimed out i = i
+
+-- Code that evaluates an expression in any other way: what is known of it is that it pushes the value, which is a
+-- single one, that it fits where it stands, and that it has no jump whose target isn't known.
+pub record IsOtherCode (fs : List Function) (names : List Name) (e : Tree) (base n : ℕ) (code : List Instr) (m : ℕ) : Type 0 where
+  pub cells : n ≤ m
+  pub evaluates : AreBelow n names → EvaluatesWith fs names e base n m code
+  pub singles : AreBelow n names
+      → (w : World) (globals : List Name) (env : Env) (cells : List ℤ) (left : ℕ)
+      → StandsAt w.code.instrs base code → Serves w globals fs
+      → Prepared w globals names fs n cells env → MayUse w n m cells
+      → OnlySingles (eval e w.calls env left)
+  pub fits : (whole : Code) (callable limit h : ℕ) → HasRoutines whole callable limit fs
+      → AreBelow n names → m ≤ limit → StandsAt whole.instrs base code
+      → Fits whole callable limit base h code (h + 1) (base + length code) (h + 1)
+  pub aims : (out : ℕ) → map (aimed out) code ≡ code
+
 mutual
   -- Code of an expression that stands at a place. It pushes the value. Of the cells, it uses those from n to m.
   pub data IsCode (fs : List Function) (names : List Name) : Tree → ℕ → ℕ → List Instr → ℕ → Type 0 where
+    in_another_way : (e : Tree) (base n m : ℕ) (code : List Instr) → IsOtherCode fs names e base n code m
+        → IsCode fs names e base n code m
     number : (k at base n : ℕ) → is_num (pos k) ≡ true
         → IsCode fs names (tree.number k at) base n (op.Const (pos k) ∷ []) n
     -- a literal that is no number traps
@@ -167,11 +198,6 @@ mutual
         → IsTest fs names (tree.binary binaries.And l r at) base n out (a ++ b) m
 
 -- ---- conditions whose place to jump to isn't known yet
-
--- an instruction with the place to jump to: `Done`, which code of expressions doesn't have, stands for the jump
-abbrev pub aimed : ℕ → Instr → Instr
-aimed out op.Done = op.JumpIfNot out
-aimed out i = i
 
 -- code of a condition, whatever the place is that it is to jump to
 abbrev pub IsOpenTest : List Function → List Name → Tree → ℕ → ℕ → List Instr → ℕ → Type 0

@@ -1,6 +1,6 @@
 -- Runs of code that go as an evaluation does.
 -- Trusted but for `Chooses`: part of what a promise means.
-use Rattle.std.specs.Prelude.{◌≡◌, ℕ, ◌+◌, ℤ, if◌then◌else◌, List, [], ◌∷◌, length}
+use Rattle.std.specs.Prelude.{◌≡◌, ℕ, ◌+◌, ◌<◌, ◌≤◌, ℤ, if◌then◌else◌, List, [], ◌∷◌, length}
 use Rattle.rvc_base.specs.declared.trap.Trap.{Trap}
 use Rattle.rvc_base.specs.Arithmetic.{is_true}
 use Rattle.cal_ast.specs.Tree.{Tree}
@@ -13,7 +13,7 @@ use Rattle.code_ir.specs.declared.outcome.Outcome.{Outcome}
 use Rattle.code_ir.specs.declared.outcome.Outcome.TheVariants as outcome
 use Rattle.code_ir.specs.Running.{State, Reaches, Ends}
 use Rattle.expr_lower.specs.Flat.{flat}
-use Rattle.expr_lower.specs.Held.{AllApart, Holds, Keeps}
+use Rattle.expr_lower.specs.Held.{AllApart, AreApart, Holds, Keeps}
 use Rattle.expr_lower.specs.Names.{Name}
 use Rattle.expr_lower.specs.Placed.{StandsAt, World, state}
 
@@ -59,6 +59,10 @@ EndsAs w s end (Traps c) o last = o ≡ outcome.Trap c
 EndsAs w s end Lacks o last = Unit {0}
 EndsAs w s end Clashes o last = Unit {0}
 
+-- the cells from n to m, if there are any, are there, and are none of routines
+abbrev pub MayUse : World → ℕ → ℕ → List ℤ → Type 0
+MayUse w n m cells = n < m → AreApart n m w.low w.high × (m ≤ length cells)
+
 -- Wherever these instructions stand, with cells that hold an environment, they do what evaluating the expression
 -- does: they push the value or trap, after as many turns; and a run of them has no other end. They use the cells
 -- from n to m.
@@ -66,13 +70,13 @@ pub record Evaluates (names : List Name) (e : Tree) (base n m : ℕ) (code : Lis
     Type 0 where
   pub goes : (w : World) (env : Env) (stack : List ℤ) (frames : List ℕ) (cells : List ℤ) (left : ℕ)
       → StandsAt w.code.instrs base code → AllApart w.low w.high names
-      → Holds names w.tokens cells env
+      → Holds names w.tokens cells env → MayUse w n m cells
       → Follows (eval e w.calls env left)
       (Pushes w n m (state base stack frames cells left) (base + length code))
       (CutsOff w n m (state base stack frames cells left))
   pub only : (w : World) (env : Env) (stack : List ℤ) (frames : List ℕ) (cells : List ℤ) (left : ℕ)
       → StandsAt w.code.instrs base code → AllApart w.low w.high names
-      → Holds names w.tokens cells env
+      → Holds names w.tokens cells env → MayUse w n m cells
       → (o : Outcome) (last : List ℤ)
       → Ends w.code w.tokens (state base stack frames cells left) o last
       → EndsAs w (state base stack frames cells left) (base + length code)

@@ -8,6 +8,7 @@ use Rattle.expr_lower.specs.declared.draft.Draft.{Draft}
 use Rattle.expr_lower.specs.Names.{Name}
 use Rattle.expr_lower.specs.Following.{Evaluates}
 use Rattle.expr_lower.specs.Fitting.{Fits}
+use Rattle.expr_lower.specs.Placed.{StandsAt}
 
 -- these instructions were put at the end of a draft, and nothing else changed
 pub record IsPut (code : List Instr) (old new : Draft) : Type 0 where
@@ -28,5 +29,5 @@ pub record IsLowered (names : List Name) (e : Tree) (base n : ℕ) (code : List 
     Type 0 where
   pub cells : n ≤ m
   pub evaluates : Evaluates names e base n m code
-  pub fits : (whole : Code) (callable h : ℕ)
+  pub fits : (whole : Code) (callable h : ℕ) → StandsAt whole.instrs base code
       → Fits whole callable m base h code (h + 1) (base + length code) (h + 1)

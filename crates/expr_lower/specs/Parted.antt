@@ -1,6 +1,6 @@
 -- Parts of named lists that chains of indexes give.
 -- Trusted: part of what a promise means.
-use Rattle.std.specs.Prelude.{◌≢◌, ℕ, suc, ◌*◌, ◌^◌, nat_lt, if◌then◌else◌, List, Option, None, Some}
+use Rattle.std.specs.Prelude.{◌≢◌, ℕ, suc, ◌*◌, ◌^◌, ◌&&◌, Bool, true, false, nat_eq, nat_lt, if◌then◌else◌, List, Option, None, Some}
 use Rattle.cal_ast.specs.Tree as tree
 use Rattle.cal_ast.specs.Tree.{Tree}
 use Rattle.cal_model.specs.Value.{Shape, Single, Many}
@@ -80,3 +80,11 @@ deep_named names e =
 abbrev pub number_of : Tree → ℕ
 number_of (tree.cons place places) = suc (number_of places)
 number_of other = 0
+
+-- ---- types that differ in the sizes of their numbers alone
+
+-- two types are of lists of as many items at each depth
+abbrev pub alike : Shape → Shape → Bool
+alike (Single t) (Single u) = true
+alike (Many n items) (Many m others) = nat_eq n m && alike items others
+alike t u = false

@@ -39,7 +39,7 @@ pub fn put_all(draft: &mut Draft, instrs: &[Instr]) -> Result<(), LowerFault>
 }
 
 /// Appends an instruction that pushes a number.
-pub(crate) fn put_const(draft: &mut Draft, value: Num) -> Result<(), LowerFault>
+pub fn put_const(draft: &mut Draft, value: Num) -> Result<(), LowerFault>
     ensures added { OnOk result (IsPut (op.Const value ∷ []) draft.old draft.new) }
     ensures memory { IfErr result (λ fault. fault ≡ Memory) }
     ensures cells { draft.new.cells ≡ draft.old.cells }

@@ -13,6 +13,7 @@ ghost use Rattle.expr_lower.specs.Fitting.{FitsAsGuard, guard_of};
 ghost use Rattle.expr_lower.specs.Flat.{flat, of_flat};
 ghost use Rattle.expr_lower.specs.Held.{AreBelow};
 ghost use Rattle.expr_lower.specs.Names.{Name};
+ghost use Rattle.expr_lower.specs.Placed.{StandsAt};
 ghost use Rattle.expr_lower.specs.Routining.{AreRoutines, FitsAsRoutine, FunSized, IsRoutine};
 ghost use Rattle.expr_lower.specs.Routining.{world_of};
 
@@ -41,5 +42,5 @@ pub fn routines_do_what_functions_do()
 pub fn routines_fit()
     ensures { (whole : Code) (callable limit : ℕ) (globals : List Name) (fs : List Function) (f : Fun) (g : Function) (base n m : ℕ) (code : List Instr)
         → HasRoutines whole callable limit fs → AreBelow n globals → FunSized f → m ≤ limit
-        → IsRoutine globals fs f g base n code m → FitsAsRoutine whole callable limit base code }
+        → StandsAt whole.instrs base code → IsRoutine globals fs f g base n code m → FitsAsRoutine whole callable limit base code }
 {}

@@ -13,19 +13,17 @@ pub mod laws;
 mod names;
 mod operators;
 mod parts;
-mod routines;
 mod scope;
-mod starts;
 mod truths;
 
 pub use callees::{Callee, Formal, function_for, put_call, put_formals};
-pub use draft::{Draft, next_place, put, put_all, take_cell};
-pub use exprs::{close, link, lower, lower_args, lower_calling, lower_expr, lower_test, offset};
+pub use draft::{Draft, next_place, put, put_all, put_const, take_cell};
+pub use exprs::{close, link, number, truth, variable, whole_offset};
 pub use fault::LowerFault;
 pub use names::{
     ItemList, Named, OneCell, OneSeat, Seat, list_called, list_named, one_named, single,
 };
-pub use parts::{Part, Rows, part_named, scalars, whole_called};
-pub use routines::{lower_function, take_formals};
+pub use operators::{binary_instr, item_instr, negative, prefix_instr};
+pub use parts::{Part, Rows, deep_item_named, part_named, rows_named, scalars, whole_called};
 pub use scope::{Frame, Scope};
-pub use starts::start;
+pub use truths::is_truth;

@@ -11,7 +11,7 @@ use code_ir::Instr;
 use rvc_base::Num;
 
 /// The instruction of an operator before its operand.
-pub(crate) fn prefix_instr(op: PrefixOp) -> Instr
+pub fn prefix_instr(op: PrefixOp) -> Instr
     ensures { result ≡ prefix_instr op }
 {
     match op {
@@ -22,7 +22,7 @@ pub(crate) fn prefix_instr(op: PrefixOp) -> Instr
 }
 
 /// The instruction of an operator between two operands; none if the right operand may not be evaluated.
-pub(crate) fn binary_instr(op: BinOp) -> Option<Instr>
+pub fn binary_instr(op: BinOp) -> Option<Instr>
     ensures { result ≡ binary_instr op }
 {
     match op {
@@ -62,7 +62,7 @@ pub(crate) fn seat_instr(seat: Seat) -> Instr
 }
 
 /// The instruction that pushes the item of a list whose place is on the stack.
-pub(crate) fn item_instr(list: ItemList) -> Instr
+pub fn item_instr(list: ItemList) -> Instr
     ensures { result ≡ item_instr list }
 {
     match list.seat {
@@ -72,7 +72,7 @@ pub(crate) fn item_instr(list: ItemList) -> Instr
 }
 
 /// The number that a minus sign and a literal after it are together.
-pub(crate) fn negative(op: PrefixOp, of: &Expr) -> Option<Num>
+pub fn negative(op: PrefixOp, of: &Expr) -> Option<Num>
     ensures { IfSome result (IsNegative op (expr_tree of.now)) }
 {
     if op != PrefixOp::Neg {

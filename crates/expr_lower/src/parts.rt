@@ -32,7 +32,7 @@ pub struct Rows {
 }
 
 /// The single values among which an index on a chain of indexes on a name chooses, if it chooses one.
-pub(crate) fn deep_item_named(scope: &Scope, base: &Expr) -> Option<ItemList>
+pub fn deep_item_named(scope: &Scope, base: &Expr) -> Option<ItemList>
     ensures { result ≡
         deep_named (seen scope.now) (tree.index (expr_tree base.now) tree.nil 0) }
 {
@@ -41,7 +41,7 @@ pub(crate) fn deep_item_named(scope: &Scope, base: &Expr) -> Option<ItemList>
 }
 
 /// How many items the list has that a chain of indexes on a name gives, if it gives one.
-pub(crate) fn rows_named(scope: &Scope, e: &Expr) -> Option<Rows>
+pub fn rows_named(scope: &Scope, e: &Expr) -> Option<Rows>
     ensures { result ≡ rows_named (seen scope.now) (expr_tree e.now) }
 {
     let part = part_named(scope, e)?;

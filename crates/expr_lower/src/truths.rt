@@ -13,7 +13,7 @@ use cal_ast::{BinOp, Expr, ExprForm, PrefixOp};
 use rvc_base::Scalar;
 
 /// Whether what an expression gives, if it gives anything, is seen to be a truth value.
-pub(crate) fn is_truth(scope: &Scope, e: &Expr) -> bool
+pub fn is_truth(scope: &Scope, e: &Expr) -> bool
     ensures { result ≡ is_truth (called scope.now) (seen scope.now) (expr_tree e.now) }
 {
     match &e.form {

@@ -26,7 +26,7 @@ use Rattle.list_lower.specs.declared.lists.Target.{Target}
 use Rattle.list_lower.specs.FillWords.{AddsIn}
 use Rattle.list_lower.specs.Filling as filling
 use Rattle.list_lower.specs.Filling.{AreElements, AreFills, IsFill, alike, at_first, either_list, each_number, filled_more, item_more, list_element, next_number, no_item, one_element, part_list, take_instr, whole_list}
-use Rattle.list_lower.specs.Generators.{AllCount, Counted, counted_by, how_many, spanned, times}
+use Rattle.expr_lower.specs.Generators.{AllCount, Counted, counted_by, how_many, spanned, times}
 use Rattle.list_lower.specs.GoingOn.{GoesOn}
 use Rattle.list_lower.specs.LeftOut.{first_cell}
 use Rattle.list_lower.specs.Reserving.{HasMore}

@@ -18,7 +18,7 @@ use Rattle.expr_lower.specs.Placed.{StandsAt, World, state}
 use Rattle.expr_lower.proofs.Coded.{load_leaves}
 use Rattle.expr_lower.proofs.Runs.{obeys, reaches_join, stands_left, stands_right}
 use Rattle.list_lower.specs.Filling.{at_first, filled_more, set_number}
-use Rattle.list_lower.specs.Generators.{AllCount, Counted, counted_by}
+use Rattle.expr_lower.specs.Generators.{AllCount, Counted, counted_by}
 use Rattle.list_lower.proofs.Steps.{store_reaches, straight_reaches}
 
 -- how many cells generators take

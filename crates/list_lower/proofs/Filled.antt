@@ -30,12 +30,13 @@ use Rattle.expr_lower.proofs.Coded.{grows, grows_offset, grows_test}
 use Rattle.expr_lower.proofs.Keeping.{keeps_join}
 use Rattle.expr_lower.proofs.Runs.{ends_back, follows_then, reaches_join, stands_left, stands_right}
 use Rattle.list_lower.specs.Filled.{EndsFilled, Fills, FillsWith}
-use Rattle.list_lower.specs.Filling.{AreElements, AreFills, IsFill, at_first, either_list, elements as comprehension, each_number, in_parens, item_more, items, list_element, no_item, one_cell, one_element, part_list, whole_list, filled_more}
-use Rattle.list_lower.specs.Generators.{AllCount, how_many}
+use Rattle.list_lower.specs.Filling.{AreElements, AreFills, IsFill, apart_list, at_first, either_list, elements as comprehension, each_number, in_parens, item_more, items, list_element, no_item, one_cell, one_element, part_list, whole_list, filled_more}
+use Rattle.expr_lower.specs.Generators.{AllCount, how_many}
 use Rattle.list_lower.proofs.Counters.{GoesToFirst, goes_to_first, width}
 use Rattle.list_lower.proofs.Elements.{AtElements, DoesElements, does_list, does_one}
 use Rattle.list_lower.proofs.Forms.{FillsAt, FillsEach, Ready, fills_either, fills_items, fills_more, fills_name, fills_none, fills_one, ready_still}
 use Rattle.list_lower.proofs.PartForms.{fills_part}
+use Rattle.list_lower.proofs.ApartLists.{fills_apart}
 use Rattle.list_lower.proofs.Generated.{IsMany, many_found}
 use Rattle.list_lower.proofs.Going.{IsSet, below_clear, went_keeps}
 use Rattle.list_lower.proofs.Loops.{does_each}
@@ -53,6 +54,7 @@ mutual
   grows_fill (one_cell names e t c base n m code h) = grows h
   grows_fill (whole_list names text t at c base n x is same) = omega arith
   grows_fill (part_list names e t c base n m from code p is seat same h) = grows_offset h
+  grows_fill (apart_list names e place t many at c base n k m a b small h g) = let x = grows_fill h in let y = grows g in omega (arith, x, y)
   grows_fill (in_parens names e t at c base n m code h) = grows_fill h
   grows_fill (items names es t at c base n m code h) = grows_fills h
   grows_fill (either_list names test first other t at c base n k h m else_at end a b d x y z e f) = let p = grows_test x in let q = grows_fill y in let r = grows_fill z in omega (arith, p, q, r)
@@ -132,6 +134,7 @@ module _ (fs : List Function) (globals : List Name) (w : World) (serves : Serves
     fills_in (one_cell names e t c base n m code h) le = fills_one fs globals w serves frames names e t c base n m code h le (grows h)
     fills_in (whole_list names text t at c base n x is same) le = fills_name fs globals w serves frames names text t at c base n x is same le
     fills_in (part_list names e t c base n m from code p is seat same h) le = fills_part fs globals w serves frames names e t c base n m from code p is seat same h le (grows_offset h)
+    fills_in (apart_list names e place t many at c base n k m a b small h g) le = fills_apart fs globals w serves frames names e place t many at c base n k m a b small le (grows_fill h) (grows g) (fills_in h (omega arith)) g
     fills_in (in_parens names e t at c base n m code h) le = fills_in h le
     fills_in (items names es t at c base n m code h) le = fills_items fs globals w serves frames names es t at c base m code (fills_each h le)
     fills_in (either_list names test first other t at c base n k h m else_at end a b d x y z e f) le =

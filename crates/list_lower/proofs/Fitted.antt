@@ -23,8 +23,8 @@ use Rattle.expr_lower.proofs.Fitted.{Plain, branch, fits_branch, fits_const, fit
 use Rattle.expr_lower.proofs.Keeping.{below_more}
 use Rattle.expr_lower.proofs.Routined.{front_below}
 use Rattle.expr_lower.proofs.Runs.{stands_left, stands_right}
-use Rattle.list_lower.specs.Filling.{AreElements, AreFills, IsFill, at_first, either_list, elements as comprehension, each_number, filled_more, in_parens, item_more, items, list_element, next_number, no_item, one_cell, one_element, part_list, set_number, take_instr, whole_list}
-use Rattle.list_lower.specs.Generators.{AllCount, Counted}
+use Rattle.list_lower.specs.Filling.{apart_list, apart_tail, AreElements, AreFills, IsFill, at_first, either_list, elements as comprehension, each_number, filled_more, in_parens, item_more, items, list_element, next_number, no_item, one_cell, one_element, part_list, set_number, take_instr, whole_list}
+use Rattle.expr_lower.specs.Generators.{AllCount, Counted}
 use Rattle.list_lower.proofs.Counters.{width}
 use Rattle.list_lower.proofs.Filled.{AreCounted, grows_elements, grows_fill, grows_fills}
 use Rattle.list_lower.proofs.FittedJumps.{fits_back, fits_none}
@@ -128,15 +128,27 @@ module _ (code : Code) (callable limit : ℕ) where
       pub fits_fill : {names : List Name} {e : Tree} {t : Shape} {c base n m : ℕ} {instrs : List Instr} (h : ℕ) → AreBelow c names → c + scalars_of_type t ≤ n → m ≤ limit → StandsAt code.instrs base instrs → IsFill fs names e t c base n instrs m → Whole base h instrs h
       fits_fill h below room le stands (one_cell names e t c base n m instrs g) =
           let x = grows g in let up : c ≤ n = omega (arith, room) in
-          plain_then code callable limit base h (h + 1) h instrs (op.Store c None ∷ []) (fits_in code callable limit fs has names h (below_more c n names up below) le g) (store code callable limit (base + length instrs) h c (omega (arith, room, x, le)))
+          plain_then code callable limit base h (h + 1) h instrs (op.Store c None ∷ []) (fits_in code callable limit fs has names h (below_more c n names up below) le (stands_left code.instrs base instrs (op.Store c None ∷ []) stands) g) (store code callable limit (base + length instrs) h c (omega (arith, room, x, le)))
       fits_fill h below room le stands (whole_list names text t at c base n x is same) =
           fits_take base h c (scalars_of_type t) x.seat (omega (arith, room, le)) (name_below c t x names text below is (alike_sizes t x.shape same) (omega (arith, room, le)))
       fits_fill h below room le stands (part_list names e t c base n m from instrs p is seat same g) =
           let x = grows_offset g in
           let up : c ≤ n = omega (arith, room) in
           let there : from + p.size ≤ c = part_there c from names e p below is seat in
-          plain_then code callable limit base h (h + 1) h instrs (op.CopyFrom c from p.size (scalars_of_type t) ∷ []) (fits_offset code callable limit fs has names h (below_more c n names up below) le g)
+          plain_then code callable limit base h (h + 1) h instrs (op.CopyFrom c from p.size (scalars_of_type t) ∷ []) (fits_offset code callable limit fs has names h (below_more c n names up below) le (stands_left code.instrs base instrs (op.CopyFrom c from p.size (scalars_of_type t) ∷ []) stands) g)
           (fits_one code callable limit (base + length instrs) (h + 1) h (op.CopyFrom c from p.size (scalars_of_type t)) (omega arith) (omega arith) refl (omega (arith, room, x, le), omega (arith, there, room, x, le)) tt tt tt)
+      fits_fill h below room le stands (apart_list names e place t many at c base n k m a b small g d) =
+          let x = grows_fill g in let y = grows d in
+          let up : c ≤ n = omega (arith, room) in
+          let each : ℕ = scalars_of_type t in
+          let tail : List Instr = apart_tail c n many each in
+          let rest = stands_right code.instrs base a (op.Const (pos 0) ∷ (b ++ tail)) stands in
+          let q : ℕ = base + length a + 1 + length b in
+          plain_then code callable limit base h h h a (op.Const (pos 0) ∷ (b ++ tail)) (fits_fill h (below_more c n names up below) (omega arith) (omega (arith, y, le)) (stands_left code.instrs base a (op.Const (pos 0) ∷ (b ++ tail)) stands) g)
+          (before (base + length a) h (h + 1) h (op.Const (pos 0)) (b ++ tail) (fits_const code callable limit (base + length a) h (pos 0))
+          (plain_then code callable limit (base + length a + 1) (h + 1) (h + 1 + 1) h b tail (fits_in code callable limit fs has names (h + 1) (below_more c k names (omega (arith, up, x)) below) le (stands_left code.instrs (base + length a + 1) b tail rest.1) d)
+          (before q (h + 1 + 1) (h + 1) h (op.Index many each) (op.CopyFrom c n (many * each) each ∷ []) (fits_one code callable limit q (h + 1 + 1) (h + 1) (op.Index many each) (omega arith) (omega arith) refl tt tt tt tt)
+          (fits_one code callable limit (q + 1) (h + 1) h (op.CopyFrom c n (many * each) each) (omega arith) (omega arith) refl (omega (arith, room, x, y, le), omega (arith, x, y, le)) tt tt tt))))
       fits_fill h below room le stands (in_parens names e t at c base n m instrs g) = fits_fill h below room le stands g
       fits_fill h below room le stands (items names es t at c base n m instrs g) = fits_fills h below room le stands g
       fits_fill h below room le stands (either_list names test first other t at c base n k j m else_at end a b d x y z e f) =
@@ -149,7 +161,7 @@ module _ (code : Code) (callable limit : ℕ) where
           let third : Whole (base + length a + length b + 1) h d h =
           at_place else_at (base + length a + length b + 1) h d e there (λ st. fits_fill h below (omega (arith, room, p, q)) le st z) in
           let last = fits_jump code callable limit (base + length a + length b) h h end d third (omega (arith, e, f)) in
-          branch code callable limit h h base else_at a b tail (fits_test_in code callable limit fs has names h (below_more c n names up below) (omega (arith, q, r, le)) (omega (arith, e)) x)
+          branch code callable limit h h base else_at a b tail (fits_test_in code callable limit fs has names h (below_more c n names up below) (omega (arith, q, r, le)) (omega (arith, e)) (stands_left code.instrs base a (b ++ tail) stands) x)
           (fits_fill h below (omega (arith, room, p)) (omega (arith, r, le)) (stands_left code.instrs (base + length a) b tail rest) y) last.0
           (omega (arith, e)) (omega (arith, e)) (last.1 else_at (omega (arith, e)) ∙ ap third.height e ∙ third.first)
       fits_fill h below room le stands (comprehension names item gens t at c base n m many turn_at instrs e small f g) =
@@ -176,7 +188,7 @@ module _ (code : Code) (callable limit : ℕ) where
           let place : turn_at + 2 ≡ turn_at + 1 + 1 = omega arith in
           let last : List Instr = op.StoreAt c all None ∷ filled_more filled 1 in
           let q : ℕ = turn_at + 1 + 1 + length instrs in
-          let inner : Whole (turn_at + 1 + 1) (h + 1) instrs (h + 1 + 1) = subst (λ p. Whole p (h + 1) instrs (h + 1 + 1)) place (fits_in code callable limit fs has names (h + 1) below le g) in
+          let inner : Whole (turn_at + 1 + 1) (h + 1) instrs (h + 1 + 1) = subst (λ p. Whole p (h + 1) instrs (h + 1 + 1)) place (fits_in code callable limit fs has names (h + 1) below le (stands_left code.instrs (turn_at + 2) instrs last (subst (λ p. StandsAt code.instrs p (instrs ++ last)) (sym place) stands.1.1)) g) in
           before turn_at h h h op.Turn (op.Load filled ∷ (instrs ++ last)) (turn turn_at h)
           (before (turn_at + 1) h (h + 1) h (op.Load filled) (instrs ++ last) (load code callable limit (turn_at + 1) h filled (omega (arith, less, x, le)))
           (plain_then code callable limit (turn_at + 1 + 1) (h + 1) (h + 1 + 1) h instrs last inner

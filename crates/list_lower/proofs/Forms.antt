@@ -14,18 +14,18 @@ use Rattle.code_ir.specs.Running.{State, Reaches, here, after}
 use Rattle.code_ir.proofs.Marks.{get-set}
 use Rattle.expr_lower.specs.declared.names.Seat.TheVariants.{Cell}
 use Rattle.expr_lower.specs.Callees.{Function}
-use Rattle.expr_lower.specs.Calling.{Serves}
+use Rattle.expr_lower.specs.Calling.{HasRoom, Serves, outside}
 use Rattle.expr_lower.specs.Coding.{IsCode, IsTest}
 use Rattle.expr_lower.specs.Flat.{flat, flat_all}
 use Rattle.expr_lower.specs.Following.{Chooses, CutsOff, Follows, Pushes}
-use Rattle.expr_lower.specs.Held.{AreApart, HoldsName, Keeps, SeatIsBelow, StandAt}
+use Rattle.expr_lower.specs.Held.{AllApart, AreApart, AreBelow, Holds, HoldsName, Keeps, SeatIsBelow, StandAt}
 use Rattle.expr_lower.specs.Names.{Name, named}
 use Rattle.expr_lower.specs.Parted.{number_of}
 use Rattle.expr_lower.specs.Placed.{StandsAt, World, state}
 use Rattle.expr_lower.proofs.Coded.{does_in, tests_in}
-use Rattle.expr_lower.proofs.Doing.{Apart, Below, Held, below_on, choice_reaches, still}
+use Rattle.expr_lower.proofs.Doing.{Apart, Below, Held, choice_reaches, still}
 use Rattle.expr_lower.proofs.GivenKinds.{kinds_in}
-use Rattle.expr_lower.proofs.Keeping.{apart_first, apart_last, keeps_join, keeps_wider}
+use Rattle.expr_lower.proofs.Keeping.{apart_first, apart_last, below_more, keeps_join, keeps_wider}
 use Rattle.expr_lower.proofs.Runs.{follows_both, follows_more, follows_then, obeys, reaches_join, stands_left, stands_right}
 use Rattle.expr_lower.proofs.Singles.{IsSingleValue, singles_in}
 use Rattle.expr_lower.proofs.Written.{stand_one, written_keeps}
@@ -47,16 +47,26 @@ pub record FillsAll (w : World) (n m c : ℕ) (t : Shape) (many : ℕ) (s : Stat
 module _ (fs : List Function) (globals : List Name) (w : World) (serves : Serves w globals fs) (frames : List ℕ) where
   -- the cells hold what the names mean, and those from c to m may be used
   pub record Ready (names : List Name) (env : Env) (c m : ℕ) (cells : List ℤ) : Type 0 where
-    pub below : Below fs globals names w env frames c
-    pub apart : Apart fs globals names w env frames
+    pub below : AreBelow c names × AreBelow c globals
+    pub apart : AllApart w.low w.high names × AllApart w.low w.high globals
     pub free : AreApart c m w.low w.high
     pub room : m ≤ length cells
-    pub held : Held fs globals names w env frames cells
+    pub held : Holds names w.tokens cells env × Holds globals w.tokens cells (outside env.globals) × HasRoom fs w.high cells
+
+  -- what code of an expression of a single value asks for, whose cells lie from n on
+  pub under : (names : List Name) (env : Env) (c m n : ℕ) (cells : List ℤ) → c ≤ n → Ready names env c m cells → Below fs globals names w env frames c m n
+  under names env c m n cells le r = (below_more c n names le r.below.0, below_more c n globals le r.below.1, le)
+
+  pub away : (names : List Name) (env : Env) (c m : ℕ) (cells : List ℤ) → Ready names env c m cells → Apart fs globals names w env frames c m
+  away names env c m cells r = (r.apart.0, r.apart.1, λ less. r.free)
+
+  pub holding : (names : List Name) (env : Env) (c m : ℕ) (cells : List ℤ) → Ready names env c m cells → Held fs globals names w env frames c m cells
+  holding names env c m cells r = (r.held.0, r.held.1, r.held.2, λ less. r.room)
 
   -- of these cells some may be used
   pub ready_in : (names : List Name) (env : Env) (c m d k : ℕ) (cells : List ℤ) → c ≤ d → k ≤ m → Ready names env c m cells → Ready names env d k cells
   ready_in names env c m d k cells le ge r = record {
-    below = below_on fs globals names w env frames c d le r.below;
+    below = (below_more c d names le r.below.0, below_more c d globals le r.below.1);
     apart = r.apart;
     free = apart_last c d k w.low w.high le (apart_first c k m w.low w.high ge r.free);
     room = let room = r.room in omega (arith, room, ge);
@@ -70,7 +80,9 @@ module _ (fs : List Function) (globals : List Name) (w : World) (serves : Serves
     apart = r.apart;
     free = r.free;
     room = let room = r.room in let size = keeps.size in omega (arith, room, size);
-    held = still fs globals names w env frames keeps r.below r.apart r.held;
+    held =
+        let h = still fs globals names w env frames c m keeps (under names env c m c before (omega arith) r) (away names env c m before r) (holding names env c m before r) in
+        (h.0, h.1, h.2);
   }
 
   -- evaluating and the code come to the same from any operands, cells and turns
@@ -105,10 +117,10 @@ module _ (fs : List Function) (globals : List Name) (w : World) (serves : Serves
   pub evaluated : (names : List Name) (env : Env) {e : Tree} {base n m : ℕ} {code : List Instr} (c : ℕ) → IsCode fs names e base n code m → c ≤ n → (stack cells : List ℤ) (left : ℕ) → StandsAt w.code.instrs base code → Ready names env c m cells
       → Follows (eval e w.calls env left) (λ v j. Pushes w n m (state base stack frames cells left) (base + length code) v j × IsSingleValue v) (λ d. CutsOff w n m (state base stack frames cells left) d × Unit {0})
   evaluated names env {e = e} {base = base} {n = n} {m = m} {code = code} c coded le stack cells left stands r =
-      let below : Below fs globals names w env frames n = below_on fs globals names w env frames c n le r.below in
+      let below : Below fs globals names w env frames c m n = under names env c m n cells le r in
       follows_both (eval e w.calls env left) (Pushes w n m (state base stack frames cells left) (base + length code)) (CutsOff w n m (state base stack frames cells left)) (λ v j. IsSingleValue v) (λ d. Unit {0})
-      (does_in fs globals names w serves env frames coded stack cells left stands below r.apart r.held)
-      (singles_in fs w.calls names w.tokens cells env (kinds_in fs globals w serves env.globals n cells below.1 r.apart.1 r.held.1 r.held.2) r.held.0 coded left)
+      (does_in fs globals names w serves env frames c m coded (omega arith) stack cells left stands below (away names env c m cells r) (holding names env c m cells r))
+      (singles_in fs globals names w serves env c m cells (kinds_in fs globals w serves env.globals n cells below.1 r.apart.1 r.held.1 r.held.2) (away names env c m cells r) (holding names env c m cells r) coded (omega arith) left stands below)
 
   pub fills_one : (names : List Name) (e : Tree) (t : Scalar) (c base n m : ℕ) (code : List Instr) → IsCode fs names e base n code m → c + 1 ≤ n → n ≤ m → FillsAt names e (Single t) c base (code ++ op.Store c None ∷ []) m
   fills_one names e t c base n m code coded le ge env stack cells left stands r =
@@ -257,6 +269,6 @@ module _ (fs : List Function) (globals : List Name) (w : World) (serves : Serves
       let finish : end ≡ base + length (a ++ (b ++ tail)) = omega (arith, length-append a (b ++ tail), length-append b tail, else_is, end_is) in
       fill_end c m c t s end (base + length (a ++ (b ++ tail))) (eval (tree.if_expr test first other at) w.calls env left) finish
       (follows_then (eval test w.calls env left) (λ v j. chosen v (λ i. eval first w.calls env i) (λ i. eval other w.calls env i) j) (Chooses w n k s (base + length a) else_at) (CutsOff w n k s) (Fills w c m c t s end) (CutsOff w c m s)
-      (tests_in fs globals names w serves env frames test_is stack cells left (stands_left w.code.instrs base a (b ++ tail) stands) (below_on fs globals names w env frames c n up r.below) r.apart r.held)
+      (tests_in fs globals names w serves env frames c m test_is (omega (arith, ge, more)) stack cells left (stands_left w.code.instrs base a (b ++ tail) stands) (under names env c m n cells up r) (away names env c m cells r) (holding names env c m cells r))
       (λ v j p. branch_fills names first other t c base n k h m else_at end a b d env stack cells left v j up le ge more end_is one two (stands_left w.code.instrs (base + length a) b tail rest) last.0 there r p)
       (λ f q. cut_on w n k c m s f up (omega (arith, ge, more)) q))

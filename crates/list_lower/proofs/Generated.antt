@@ -17,8 +17,8 @@ use Rattle.cal_model.specs.Env.{Env, variable, with_local}
 use Rattle.cal_model.specs.Expression.{Calls, computed, each_from, elements, eval, prefixed, range_of, span}
 use Rattle.cal_model.proofs.Numbers.{is-num}
 use Rattle.expr_lower.proofs.Coded.{negative_num}
-use Rattle.list_lower.specs.Generators.{Counted, bound_of, counted, counted_by, how_many, literal_of, negative_of, spanned, times}
-use Rattle.list_lower.specs.Meant.{single_meant}
+use Rattle.expr_lower.specs.Generators.{Counted, bound_of, counted, counted_by, how_many, literal_of, negative_of, spanned, times}
+use Rattle.expr_lower.specs.Meant.{single_meant}
 use Rattle.list_lower.proofs.MeantIs.{meant_is}
 
 -- ---- bounds

@@ -12,12 +12,11 @@ use Rattle.cal_model.specs.Env.{Env, variable, with_local}
 use Rattle.expr_lower.specs.declared.names.Seat.{Seat}
 use Rattle.expr_lower.specs.declared.names.Seat.TheVariants.{Cell, Tokens}
 use Rattle.expr_lower.specs.Callees.{Function}
-use Rattle.expr_lower.specs.Calling.{Serves, outside}
+use Rattle.expr_lower.specs.Calling.{HasRoom, Serves, outside}
 use Rattle.expr_lower.specs.Flat.{flat}
 use Rattle.expr_lower.specs.Held.{AllApart, AreApart, AreBelow, Holds, HoldsName, Keeps, SeatIsApart, SeatIsBelow, StandAt}
 use Rattle.expr_lower.specs.Names.{Name, local, named}
 use Rattle.expr_lower.specs.Placed.{World}
-use Rattle.expr_lower.proofs.Doing.{Apart, Held}
 use Rattle.expr_lower.proofs.Keeping.{apart_last, flat_length, scalars_same}
 use Rattle.expr_lower.proofs.Routined.{front_apart, front_holds}
 use Rattle.expr_lower.proofs.Storing.{single_stored}
@@ -122,10 +121,10 @@ module _ (fs : List Function) (globals : List Name) (w : World) (serves : Serves
   -- the cells hold what the names mean, none of which lies among those that are filled or from k on
   pub record IsSet (names : List Name) (env : Env) (k m : ℕ) (cells : List ℤ) : Type 0 where
     pub clear : AreClear k names × AreClear k globals
-    pub apart : Apart fs globals names w env frames
+    pub apart : AllApart w.low w.high names × AllApart w.low w.high globals
     pub free : AreApart c m w.low w.high
     pub room : m ≤ length cells
-    pub held : Held fs globals names w env frames cells
+    pub held : Holds names w.tokens cells env × Holds globals w.tokens cells (outside env.globals) × HasRoom fs w.high cells
 
   pub set_ready : (names : List Name) (env : Env) (k m : ℕ) (cells : List ℤ) → c ≤ k → IsSet names env k m cells → Ready fs globals w serves frames names env k m cells
   set_ready names env k m cells le r = record {

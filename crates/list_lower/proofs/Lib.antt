@@ -6,6 +6,8 @@ pub mod Shapes
 pub mod Steps
 pub mod Forms
 pub mod PartForms
+pub mod ApartForms
+pub mod ApartLists
 pub mod Generated
 pub mod Counters
 pub mod Nexts
@@ -20,4 +22,6 @@ pub mod Weights
 pub mod Erased
 pub mod Putting
 pub mod Adding
+pub mod Unaimed
+pub mod ApartItems
 pub mod Whole

@@ -22,7 +22,7 @@ use Rattle.expr_lower.specs.Names.{Name, local}
 use Rattle.expr_lower.specs.Placed.{StandsAt, World, state}
 use Rattle.expr_lower.proofs.Runs.{follows_more, follows_then, reaches_join, stands_left, stands_right}
 use Rattle.list_lower.specs.Filling.{next_number}
-use Rattle.list_lower.specs.Generators.{AllCount, Counted, counted_by}
+use Rattle.expr_lower.specs.Generators.{AllCount, Counted, counted_by}
 use Rattle.list_lower.proofs.Counters.{AtFirst, width}
 use Rattle.list_lower.proofs.Elements.{AtElements, DoesElements}
 use Rattle.list_lower.proofs.Generated.{IsGenerator, IsRange, bound_num, elements_are, generator, range}

@@ -16,7 +16,7 @@ use Rattle.cal_model.specs.Value.{Shape, Single, Many}
 use Rattle.cal_model.specs.Outcome.{Out, Gives, and_then, alone, needed}
 use Rattle.cal_model.specs.Env.{Env}
 use Rattle.cal_model.specs.Expression.{Calls, Given, args_given, bits, computed, size_of_value, type_meant, type_named}
-use Rattle.list_lower.specs.Meant.{single_in, single_meant, size_of_arg, size_written}
+use Rattle.expr_lower.specs.Meant.{single_in, single_meant, size_of_arg, size_written}
 
 abbrev given : Option ℕ → Given
 given size = record { items = None; size = size }

@@ -13,7 +13,7 @@ use Rattle.code_ir.specs.Running.{State, Reaches, here, after}
 use Rattle.expr_lower.specs.Placed.{StandsAt, World, state}
 use Rattle.expr_lower.proofs.Runs.{obeys, reaches_join, stands_left, stands_right}
 use Rattle.list_lower.specs.Filling.{at_first, next_number, set_number}
-use Rattle.list_lower.specs.Generators.{AllCount, Counted}
+use Rattle.expr_lower.specs.Generators.{AllCount, Counted}
 use Rattle.list_lower.proofs.Counters.{AtFirst, GoesToFirst, SetsNumber, add_on, goes_to_first, load_on, sets_number, test_on, width}
 use Rattle.list_lower.proofs.Steps.{straight_reaches}
 

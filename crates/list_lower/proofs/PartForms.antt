@@ -22,7 +22,6 @@ use Rattle.expr_lower.specs.Names.{Name}
 use Rattle.expr_lower.specs.Parted.{Part, part_named}
 use Rattle.expr_lower.specs.Placed.{World, state}
 use Rattle.expr_lower.proofs.Coded.{offsets}
-use Rattle.expr_lower.proofs.Doing.{Held, below_on, still}
 use Rattle.expr_lower.proofs.Keeping.{keeps_join, keeps_wider}
 use Rattle.expr_lower.proofs.PartValues.{IsPartOf, part_found, sized_is}
 use Rattle.expr_lower.proofs.Rowed.{AtOffset}
@@ -31,12 +30,12 @@ use Rattle.expr_lower.proofs.Written.{Written, written_keeps}
 use Rattle.list_lower.specs.Filled.{Fills}
 use Rattle.list_lower.specs.Filling.{alike}
 use Rattle.list_lower.specs.Shaped.{IsShaped}
-use Rattle.list_lower.proofs.Forms.{FillsAt}
+use Rattle.list_lower.proofs.Forms.{FillsAt, Ready, away, holding, ready_still, under}
 use Rattle.list_lower.proofs.Moving.{AreMoved, copied_are}
 use Rattle.list_lower.proofs.Shapes.{alike_sizes, flat_shaped, kind_shaped}
 use Rattle.list_lower.proofs.Steps.{cut_on, straight_reaches}
 
-copy_from_leaves : (d s n m i : ℕ) (tokens : ℕ → List ℤ) (stack cells : List ℤ) → i + m ≤ n → d + m ≤ length cells → s + i + m ≤ length cells
+pub copy_from_leaves : (d s n m i : ℕ) (tokens : ℕ → List ℤ) (stack cells : List ℤ) → i + m ≤ n → d + m ≤ length cells → s + i + m ≤ length cells
     → effect tokens (op.CopyFrom d s n m) (pos i ∷ stack) cells ≡ Leaves stack (copied None d (s + i) m cells)
 copy_from_leaves d s n m i tokens stack cells fit to from =
     let near : nat_le (i + m) n ≡ true = grind (arith, nat_tests, fit) in
@@ -61,7 +60,7 @@ module _ (fs : List Function) (globals : List Name) (w : World) (serves : Serves
       let low : from + p.size ≤ c = subst (λ k. from + k ≤ c) many (subst (λ z. SeatIsBelow c (scalars_of_type f.x.shape) z) (f.seat ∙ seat) (r.below.0 f.text f.x f.is)) in
       let wide : size ≡ scalars_of_type p.shape = alike_sizes t p.shape same in
       follows_more (eval e w.calls env left) (AtOffset names w env p n m s (base + length code)) (CutsOff w n m s) (Fills w c m c t s (base + length (code ++ i ∷ []))) (CutsOff w c m s)
-      (offsets fs globals names w serves env frames coded p is stack cells left (stands_left w.code.instrs base code (i ∷ []) stands) (below_on fs globals names w env frames c n up r.below) r.apart r.held)
+      (offsets fs globals names w serves env frames c m coded (omega arith) p is stack cells left (stands_left w.code.instrs base code (i ∷ []) stands) (under fs globals w serves frames names env c m n cells up r) (away fs globals w serves frames names env c m cells r) (holding fs globals w serves frames names env c m cells r))
       (λ v j x.
       let k : ℕ = x.offset in
       let length_same = x.keeps.size in
@@ -71,8 +70,8 @@ module _ (fs : List Function) (globals : List Name) (w : World) (serves : Serves
       let now : List ℤ = copied None c (from + k) size x.cells in
       let moved : AreMoved (in_cell None) (λ q. slice_get x.cells (from + k + q)) c size x.cells now = copied_are None c (from + k) size x.cells (inl (omega (arith, fits, low))) to in
       let keeps : Keeps c m w.low w.high cells x.cells = keeps_wider c m up (omega arith) x.keeps in
-      let held : Held fs globals names w env frames x.cells = still fs globals names w env frames keeps r.below r.apart r.held in
-      let h : HoldsName w.tokens x.cells env x.inside.text x.inside.x = held.0 x.inside.text x.inside.x x.inside.is in
+      let now_ready : Ready fs globals w serves frames names env c m x.cells = ready_still fs globals w serves frames names env c m cells x.cells keeps r in
+      let h : HoldsName w.tokens x.cells env x.inside.text x.inside.x = now_ready.held.0 x.inside.text x.inside.x x.inside.is in
       let one : h.value ≡ x.inside.whole = same_value h.value x.inside.whole (sym h.meant ∙ x.inside.meant) in
       let all : StandAt (Cell from) w.tokens x.cells (flat x.inside.whole) = subst (λ z. StandAt z w.tokens x.cells (flat x.inside.whole)) (x.inside.seat ∙ seat) (subst (λ u. StandAt x.inside.x.seat w.tokens x.cells (flat u)) one h.stands) in
       let shaped : IsShaped t v = kind_shaped t p.shape v same x.inside.of_type in

@@ -10,7 +10,7 @@ use Rattle.expr_lower.specs.Linking.{Closes}
 use Rattle.expr_lower.specs.Lowered.{IsPut}
 use Rattle.expr_lower.proofs.Adding.{put_join}
 use Rattle.list_lower.specs.Filling.{at_first, next_number, set_number}
-use Rattle.list_lower.specs.Generators.{Counted, counted_by}
+use Rattle.expr_lower.specs.Generators.{Counted, counted_by}
 use Rattle.list_lower.specs.GoingOn.{GoesOn}
 
 pub first_put : (k : ℕ) (g gens : Tree) (x : Counted) (old d1 d2 new : Draft) → counted_by g ≡ Some x → IsPut (op.Const x.low ∷ []) old d1 → IsPut (set_number k x) d1 d2 → IsPut (at_first (k + 2) gens) d2 new

@@ -5,7 +5,7 @@ use Rattle.cal_ast.specs.Tree.{Tree, listed}
 use Rattle.cal_ast.specs.View.{gen_tree}
 use Rattle.cal_ast.specs.declared.expr.Gen.{Gen}
 use Rattle.list_lower.specs.declared.generators.Counter.{Counter}
-use Rattle.list_lower.specs.Generators.{Counted}
+use Rattle.expr_lower.specs.Generators.{Counted}
 
 abbrev pub counter_view : Counter → Counted
 counter_view x = record { text = x.name.now; kind = x.kind; low = x.low; high = x.high }

@@ -28,7 +28,7 @@ use Rattle.list_lower.specs.declared.lists.Target.{Target}
 use Rattle.list_lower.specs.CounterView.{gens_of}
 use Rattle.list_lower.specs.Filled.{FillsWith}
 use Rattle.list_lower.specs.Filling.{AreElements, AreFills, IsFill}
-use Rattle.list_lower.specs.Generators.{Counted}
+use Rattle.expr_lower.specs.Generators.{Counted}
 use Rattle.list_lower.specs.LeftOut.{left_out_element, left_out_fill, left_out_fills, left_out_gens}
 
 -- 32 bits hold how many numbers a type has, and cells from c on are there for them

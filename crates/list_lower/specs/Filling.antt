@@ -1,7 +1,7 @@
 -- The code of each form of an expression of a list, which fills cells with it. It stands at a place of the code,
 -- since jumps name places.
 -- Trusted: part of what a promise means.
-use Rattle.std.specs.Prelude.{◌≡◌, ℕ, ◌+◌, ◌*◌, ◌&&◌, Bool, true, false, nat_eq, pos, List, [], ◌∷◌, ◌++◌, length, None, Some}
+use Rattle.std.specs.Prelude.{◌≡◌, ℕ, ◌+◌, ◌*◌, ◌^◌, true, nat_lt, pos, List, [], ◌∷◌, ◌++◌, length, None, Some}
 use Rattle.rvc_base.specs.declared.scalar.Scalar.{Scalar}
 use Rattle.rvc_base.specs.Width.{is_num}
 use Rattle.cal_ast.specs.Tree as tree
@@ -15,18 +15,17 @@ use Rattle.expr_lower.specs.Callees.{Function}
 use Rattle.expr_lower.specs.Coding.{IsCode, IsOffset, IsTest}
 use Rattle.expr_lower.specs.Names.{Name, named, local}
 use Rattle.expr_lower.specs.Parted.{Part, number_of, part_named}
-use Rattle.list_lower.specs.Generators.{Counted, counted_by, how_many}
-
--- two types are of lists of as many items at each depth
-abbrev pub alike : Shape → Shape → Bool
-alike (Single t) (Single u) = true
-alike (Many n items) (Many m others) = nat_eq n m && alike items others
-alike t u = false
+pub use Rattle.expr_lower.specs.Parted.{alike}
+use Rattle.expr_lower.specs.Generators.{Counted, counted_by, how_many}
 
 -- the instruction that copies the numbers of a seat
 abbrev pub take_instr : ℕ → ℕ → Seat → Instr
 take_instr c size (Cell s) = op.Copy c s size None
 take_instr c size (Tokens port first step) = op.TokenList c port first step size
+
+-- the index of an item on the stack leads to its numbers, which are copied from a list in cells
+abbrev pub apart_tail : ℕ → ℕ → ℕ → ℕ → List Instr
+apart_tail c from many each = op.Index many each ∷ op.CopyFrom c from (many * each) each ∷ []
 
 -- ---- parts of the code of a comprehension
 
@@ -71,6 +70,14 @@ mutual
         → part_named names e ≡ Some p → p.seat ≡ Cell from → alike t p.shape ≡ true
         → IsOffset fs names e base n code m
         → IsFill fs names e t c base n (code ++ op.CopyFrom c from p.size (scalars_of_type t) ∷ []) m
+    -- an item, which is a list, of a list that is filled apart: that one, the offset of the item in it, and its numbers,
+    -- from there on
+    apart_list : (names : List Name) (e place : Tree) (t : Shape) (many at c base n k m : ℕ) (a b : List Instr)
+        → nat_lt (many * scalars_of_type t) (2 ^ 32) ≡ true
+        → IsFill fs names e (Many many t) n base (n + many * scalars_of_type t) a k
+        → IsCode fs names place (base + length a + 1) k b m
+        → IsFill fs names (tree.index e place at) t c base n
+        (a ++ op.Const (pos 0) ∷ (b ++ apart_tail c n many (scalars_of_type t))) m
     in_parens : (names : List Name) (e : Tree) (t : Shape) (at c base n m : ℕ) (code : List Instr)
         → IsFill fs names e t c base n code m
         → IsFill fs names (tree.paren e at) t c base n code m

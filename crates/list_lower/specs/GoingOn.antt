@@ -5,7 +5,7 @@ use Rattle.cal_ast.specs.Tree.{Tree}
 use Rattle.expr_lower.specs.declared.draft.Draft.{Draft}
 use Rattle.expr_lower.specs.Lowered.{IsPut}
 use Rattle.list_lower.specs.Filling.{next_number}
-use Rattle.list_lower.specs.Generators.{Counted}
+use Rattle.expr_lower.specs.Generators.{Counted}
 
 -- what leads to the next number of a generator was added, and on to the place behind it
 pub record GoesOn (k : ℕ) (x : Counted) (gens : Tree) (turn : ℕ) (old new : Draft) : Type 0 where

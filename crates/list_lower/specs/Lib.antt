@@ -1,6 +1,4 @@
-pub mod Meant
 pub mod ShapeMeant
-pub mod Generators
 pub mod Filling
 pub mod Shaped
 pub mod Filled

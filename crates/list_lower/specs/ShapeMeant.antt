@@ -6,7 +6,7 @@ use Rattle.cal_ast.specs.Tree as tree
 use Rattle.cal_ast.specs.Tree.{Tree}
 use Rattle.cal_model.specs.Value.{Shape, Single, Many, max_list_scalars}
 use Rattle.expr_lower.specs.Parted.{sized}
-use Rattle.list_lower.specs.Meant.{literal_size, single_meant, size_of_arg}
+use Rattle.expr_lower.specs.Meant.{literal_size, single_meant, size_of_arg}
 
 -- so many items of so many numbers each, if a list may have as many
 abbrev pub list_of_each : ℕ → Shape → ℕ → Option Shape

@@ -5,7 +5,7 @@ ghost use Rattle.std.specs.Prelude.{None, Some, if◌then◌else◌};
 ghost use Rattle.rvc_base.specs.Width.{is_num};
 ghost use Rattle.cal_ast.specs.View.{expr_tree, gen_tree};
 ghost use Rattle.list_lower.specs.CounterView.{counter_view, gens_of};
-ghost use Rattle.list_lower.specs.Generators.{bound_of, counted_by, how_many, negative_of, spanned};
+ghost use Rattle.expr_lower.specs.Generators.{bound_of, counted_by, how_many, negative_of, spanned};
 
 use crate::types::single_meant;
 use cal_ast::{Expr, ExprForm, Gen, PrefixOp};

@@ -4,15 +4,22 @@
 //! [`Draft`](expr_lower::Draft).
 #![tactic(auto)]
 
+mod apart;
 mod counting;
+mod exprs;
 mod generators;
 pub mod laws;
 mod lists;
 mod meanings;
+mod routines;
 mod sizes;
+mod starts;
 mod taking;
 mod types;
 
+pub use exprs::{lower, lower_args, lower_calling, lower_expr, lower_test, offset};
 pub use lists::{fill, fill_all, lower_list};
 pub use meanings::shape_meant;
+pub use routines::{lower_function, take_formals};
+pub use starts::start;
 pub use types::single_meant;

@@ -14,19 +14,21 @@ ghost use Rattle.expr_lower.specs.Parted.{sized};
 ghost use Rattle.expr_lower.specs.PartView.{places_of};
 ghost use Rattle.expr_lower.specs.Seen.{called, seen};
 ghost use Rattle.expr_lower.specs.SeenWords.{IsAll, IsWhy};
-ghost use Rattle.expr_lower.specs.Words.{if_of};
+ghost use Rattle.expr_lower.specs.Words.{if_of, index_of};
 ghost use Rattle.list_lower.specs.CounterView.{counter_view, gens_of};
 ghost use Rattle.list_lower.specs.Filling.{take_instr};
-ghost use Rattle.list_lower.specs.Generators.{AllCount, how_many};
+ghost use Rattle.expr_lower.specs.Generators.{AllCount, how_many};
 ghost use Rattle.list_lower.specs.FillWords.{AddsElements, AddsFilled, AddsInside, AreAllLaid, AreWhyNotLaid};
 ghost use Rattle.list_lower.specs.FillWords.{BeginsAt, HasCells, IsAllLaid, IsSized, IsWhyNotLaid};
 ghost use Rattle.list_lower.specs.FillWords.{IsFaultOfList, IsWholeList};
 ghost use Rattle.list_lower.specs.FillWords.{Lays, LaysAll, comp_of, list_of};
 ghost use Rattle.list_lower.specs.FillWords.{left_out_elements, left_out_inside, left_out_item};
-ghost use Rattle.list_lower.specs.LeftOut.{first_cell, left_out_index, left_out_name, left_out_part};
-ghost use Rattle.list_lower.specs.LeftOut.{left_out_single, left_out_whole};
+ghost use Rattle.expr_lower.specs.Growing.{first_cell, left_out_named, left_out_whole};
+ghost use Rattle.list_lower.specs.LeftOut.{left_out_item_apart, left_out_part, left_out_single};
 
+use crate::apart::{items_seen, list_like, some_scalars};
 use crate::counting::{put_first, put_more, put_next};
+use crate::exprs::{lower, lower_test, offset};
 use crate::generators::{Counter, counted_by, how_many};
 use crate::sizes::alike;
 use crate::taking::{fitting, take_counters, take_row};
@@ -34,8 +36,8 @@ use cal_ast::{Expr, ExprForm, Gen};
 use cal_model::Shape;
 use code_ir::Instr;
 use expr_lower::{
-    Callee, Draft, Frame, LowerFault, Named, Scope, Seat, link, lower, lower_test, next_place,
-    offset, part_named, put, put_all, scalars, whole_called,
+    Callee, Draft, Frame, LowerFault, Named, Scope, Seat, link, next_place, part_named, put,
+    put_all, put_const, scalars, whole_called,
 };
 
 /// The cells that a comprehension fills, how many they are, the cell that counts those that are filled, and the place
@@ -49,7 +51,7 @@ pub(crate) struct Target {
 }
 
 /// Appends code that fills the cells from one on with an expression of a type.
-#[cycle(fill)]
+#[cycle(lower)]
 pub fn fill(
     scope: &Scope,
     e: &Expr,
@@ -68,8 +70,8 @@ pub fn fill(
         ExprForm::Number(_) => single(scope, e, shape, cell, e.at, draft),
         ExprForm::Bool(_) => single(scope, e, shape, cell, e.at, draft),
         ExprForm::Name(text) => named(scope, e, text.as_str(), shape, cell, e.at, draft),
-        ExprForm::Paren(inner) => paren(scope, inner, shape, cell, draft),
-        ExprForm::If { test, yes, no } => choice(scope, test, yes, no, shape, cell, draft),
+        ExprForm::Paren(inner) => fill_paren(scope, inner, shape, cell, draft),
+        ExprForm::If { test, yes, no } => fill_choice(scope, test, yes, no, shape, cell, draft),
         ExprForm::Prefix { op: _, of: _ } => single(scope, e, shape, cell, e.at, draft),
         ExprForm::Binary {
             op: _,
@@ -79,11 +81,14 @@ pub fn fill(
         ExprForm::Call { name: _, args: _ } => single(scope, e, shape, cell, e.at, draft),
         ExprForm::List(items) => list(scope, items, shape, cell, e.at, draft),
         ExprForm::Comp { item, gens } => comp(scope, item, gens, shape, cell, e.at, draft),
-        ExprForm::Index { base: _, place: _ } => index(scope, e, shape, cell, e.at, draft),
+        ExprForm::Index { base, place } => {
+            index(scope, e, base, place, shape, cell, e.at, draft)
+        }
     }
 }
 
 /// Appends a single value, where one is meant.
+#[cycle(lower)]
 fn single(
     scope: &Scope,
     e: &Expr,
@@ -106,6 +111,7 @@ fn single(
 }
 
 /// Appends a single value, and the instruction that keeps it in its cell.
+#[cycle(lower)]
 fn one(scope: &Scope, e: &Expr, cell: u32, draft: &mut Draft) -> Result<(), LowerFault>
     ensures ok { (t : Kind)
         → OnOk result (Lays scope.now (expr_tree e.now) (Single t) cell draft.old draft.new) }
@@ -117,6 +123,7 @@ fn one(scope: &Scope, e: &Expr, cell: u32, draft: &mut Draft) -> Result<(), Lowe
 }
 
 /// Appends a name: of a single value, or of a list, where one is meant.
+#[cycle(lower)]
 fn named(
     scope: &Scope,
     e: &Expr,
@@ -131,9 +138,9 @@ fn named(
     ensures ok { OnOk result
         (Lays scope.now (tree.variable text.now at) (shape_view shape.now) cell draft.old draft.new) }
     ensures whole { OnOk result
-        (left_out_name (called scope.now) (seen scope.now) (shape_view shape.now) text.now at ≡ None) }
+        (left_out_named (seen scope.now) (shape_view shape.now) text.now at ≡ None) }
     ensures fault { IfErr result (IsFault
-        (left_out_name (called scope.now) (seen scope.now) (shape_view shape.now) text.now at) draft.new) }
+        (left_out_named (seen scope.now) (shape_view shape.now) text.now at) draft.new) }
 {
     match shape {
         Shape::Scalar(_) => one(scope, e, cell, draft),
@@ -171,47 +178,55 @@ fn whole(
 }
 
 /// Appends an index: of a single value, or of a list, where one is meant.
+#[cycle(lower)]
 fn index(
     scope: &Scope,
     e: &Expr,
+    base: &Expr,
+    place: &Expr,
     shape: &Shape,
     cell: u32,
     at: u32,
     draft: &mut Draft,
 ) -> Result<(), LowerFault>
+    requires index { expr_tree e.now ≡ index_of base.now place.now at }
     requires cells { HasCells (shape_view shape.now) cell draft.old }
     ensures ok { OnOk result
-        (Lays scope.now (expr_tree e.now) (shape_view shape.now) cell draft.old draft.new) }
+        (Lays scope.now (index_of base.now place.now at) (shape_view shape.now) cell draft.old draft.new) }
     ensures whole { OnOk result
-        (left_out_index (called scope.now) (seen scope.now) (shape_view shape.now) (expr_tree e.now) at ≡ None) }
-    ensures fault { IfErr result (IsFault
-        (left_out_index (called scope.now) (seen scope.now) (shape_view shape.now) (expr_tree e.now) at) draft.new) }
+        (IsAllLaid scope.now (shape_view shape.now) (index_of base.now place.now at)) }
+    ensures fault { IfErr result
+        (IsWhyNotLaid scope.now (shape_view shape.now) (index_of base.now place.now at) draft.new) }
 {
     match shape {
         Shape::Scalar(_) => one(scope, e, cell, draft),
-        Shape::List(_, _) => part(scope, e, shape, cell, at, draft),
+        Shape::List(_, _) => part(scope, e, base, place, shape, cell, at, draft),
     }
 }
 
 /// Appends a part of a named list that stands in cells: its offset, and the instruction that copies its numbers.
+#[cycle(lower)]
 fn part(
     scope: &Scope,
     e: &Expr,
+    base: &Expr,
+    place: &Expr,
     shape: &Shape,
     cell: u32,
     at: u32,
     draft: &mut Draft,
 ) -> Result<(), LowerFault>
+    requires index { expr_tree e.now ≡ index_of base.now place.now at }
     requires cells { HasCells (shape_view shape.now) cell draft.old }
     ensures ok { OnOk result
-        (Lays scope.now (expr_tree e.now) (shape_view shape.now) cell draft.old draft.new) }
+        (Lays scope.now (index_of base.now place.now at) (shape_view shape.now) cell draft.old draft.new) }
     ensures whole { OnOk result
-        (left_out_part (called scope.now) (seen scope.now) (shape_view shape.now) (expr_tree e.now) at ≡ None) }
+        (left_out_part (called scope.now) (seen scope.now) (shape_view shape.now) (expr_tree base.now) (expr_tree place.now) at ≡ None) }
     ensures fault { IfErr result (IsFault
-        (left_out_part (called scope.now) (seen scope.now) (shape_view shape.now) (expr_tree e.now) at) draft.new) }
+        (left_out_part (called scope.now) (seen scope.now) (shape_view shape.now) (expr_tree base.now) (expr_tree place.now) at) draft.new) }
 {
     let Some(part) = part_named(scope, e) else {
-        return Err(LowerFault::NotLowered { at });
+        return apart_list(scope, base, place, shape, cell, at, draft);
     };
     if !alike(shape, part.shape) {
         return Err(LowerFault::NotLowered { at });
@@ -224,6 +239,49 @@ fn part(
     };
     offset(scope, e, draft)?;
     put(draft, Instr::CopyFrom(cell, from, part.size, size))
+}
+
+/// Appends an item, which is a list, of a list that is filled apart: the list, the offset of the item in it, and the
+/// instruction that copies its numbers.
+#[cycle(lower)]
+fn apart_list(
+    scope: &Scope,
+    base: &Expr,
+    place: &Expr,
+    shape: &Shape,
+    cell: u32,
+    at: u32,
+    draft: &mut Draft,
+) -> Result<(), LowerFault>
+    requires cells { HasCells (shape_view shape.now) cell draft.old }
+    ensures ok { OnOk result
+        (Lays scope.now (index_of base.now place.now at) (shape_view shape.now) cell draft.old draft.new) }
+    ensures whole { OnOk result
+        (left_out_item_apart (called scope.now) (seen scope.now) (shape_view shape.now) (expr_tree base.now) (expr_tree place.now) at ≡ None) }
+    ensures fault { IfErr result (IsFault
+        (left_out_item_apart (called scope.now) (seen scope.now) (shape_view shape.now) (expr_tree base.now) (expr_tree place.now) at) draft.new) }
+{
+    let Some(count) = items_seen(scope, base, 0) else {
+        return Err(LowerFault::NotLowered { at });
+    };
+    let list = list_like(*draft.instrs.allocator(), count, shape)?;
+    let Some(size) = some_scalars(&list) else {
+        return Err(LowerFault::NotLowered { at });
+    };
+    let Some(each) = scalars(shape) else {
+        unreachable!();
+    };
+    let first = take_row(size, draft)?;
+    fill(scope, base, &list, first, draft)?;
+    put_const(draft, 0)?;
+    lower(scope, place, draft)?;
+    put_all(
+        draft,
+        &[
+            Instr::Index(count, each),
+            Instr::CopyFrom(cell, first, size, each),
+        ],
+    )
 }
 
 /// The first cell of a seat, if it is in cells.
@@ -251,8 +309,8 @@ fn take_instr(cell: u32, size: u32, seat: Seat) -> Instr
 }
 
 /// Appends what stands in a pair of parentheses.
-#[cycle(fill)]
-fn paren(
+#[cycle(lower)]
+fn fill_paren(
     scope: &Scope,
     inner: &Expr,
     shape: &Shape,
@@ -270,8 +328,8 @@ fn paren(
 }
 
 /// Appends an `if`: the condition, and a branch for each answer.
-#[cycle(fill)]
-fn choice(
+#[cycle(lower)]
+fn fill_choice(
     scope: &Scope,
     test: &Expr,
     yes: &Expr,
@@ -302,7 +360,7 @@ fn choice(
 }
 
 /// Appends a list that is written out, where one of as many items is meant.
-#[cycle(fill)]
+#[cycle(lower)]
 fn list(
     scope: &Scope,
     items: &[Expr],
@@ -333,7 +391,7 @@ fn list(
 }
 
 /// Appends code that fills the cells from one on with items of a type, one after the other.
-#[cycle(fill)]
+#[cycle(lower)]
 pub fn fill_all(
     scope: &Scope,
     items: &[Expr],
@@ -359,7 +417,7 @@ pub fn fill_all(
 }
 
 /// Appends a comprehension, where a list of as many items is meant.
-#[cycle(fill)]
+#[cycle(lower)]
 fn comp(
     scope: &Scope,
     item: &Expr,
@@ -395,7 +453,7 @@ fn comp(
 }
 
 /// Appends a comprehension: the cells of its generators, which are put at their first numbers, and its elements.
-#[cycle(fill)]
+#[cycle(lower)]
 fn generate(
     scope: &Scope,
     item: &Expr,
@@ -428,7 +486,7 @@ fn generate(
 }
 
 /// Appends the elements of generators, from the turn before an element on.
-#[cycle(fill)]
+#[cycle(lower)]
 fn elements(
     scope: &Scope,
     item: &Expr,
@@ -454,7 +512,7 @@ fn elements(
 }
 
 /// Appends the elements for each number of a generator.
-#[cycle(fill)]
+#[cycle(lower)]
 fn each_number(
     scope: &Scope,
     item: &Expr,
@@ -484,7 +542,7 @@ fn each_number(
 }
 
 /// Appends elements that see the variable of a generator.
-#[cycle(fill)]
+#[cycle(lower)]
 fn inside(
     scope: &Scope,
     item: &Expr,
@@ -518,7 +576,7 @@ fn inside(
 }
 
 /// Appends one element: a turn, the element, and what puts it where it belongs and counts it.
-#[cycle(fill)]
+#[cycle(lower)]
 fn element(
     scope: &Scope,
     item: &Expr,
@@ -541,6 +599,7 @@ fn element(
 }
 
 /// Appends an element of a single value.
+#[cycle(lower)]
 fn one_element(scope: &Scope, item: &Expr, to: Target, draft: &mut Draft) -> Result<(), LowerFault>
     requires turn { to.turn ≡ length draft.old.instrs.items }
     ensures ok { (t : Kind) → OnOk result
@@ -555,7 +614,7 @@ fn one_element(scope: &Scope, item: &Expr, to: Target, draft: &mut Draft) -> Res
 }
 
 /// Appends an element that is a list: it is filled apart, and copied.
-#[cycle(fill)]
+#[cycle(lower)]
 fn list_element(
     scope: &Scope,
     item: &Expr,
@@ -597,16 +656,16 @@ fn list_element(
 /// then copied. More cells are taken for generators, and for the items of a comprehension that are lists. What stood in
 /// the draft stays.
 ///
-/// Code is made for single values as by [`lower_calling`](expr_lower::lower_calling), and for lists, also in lists, that
-/// are named or written out, for items of named lists in cells that are lists, for `if`, and for comprehensions whose
-/// types and bounds are written out.
+/// Code is made for single values as by [`lower_calling`](crate::lower_calling), and for lists, also in lists, that are
+/// named or written out, for their items that are lists, for `if`, and for comprehensions whose types and bounds are
+/// written out. A list on which an index is put is filled apart, unless it is a named one in cells.
 ///
 /// # Errors
 ///
 /// `NotLowered` if the expression has a part for which no code is made, with the offset of the first one (`fault`):
-/// beside those of single values an index that is to give a list of anything but a named list in cells, a call that is
-/// to give one, a name, an item or a list with another number of items, or a comprehension whose generators aren't
-/// written out or make none. `TooLong` if the draft has 2 to the power of 32 instructions, `TooManyCells` if it has as
+/// beside those of single values an index that is to give a list of a named list of tokens, a call that is to give one, a
+/// name, an item or a list with another number of items, or a comprehension whose generators aren't written out or make
+/// none. `TooLong` if the draft has 2 to the power of 32 instructions, `TooManyCells` if it has as
 /// many cells. `Memory` if memory runs out.
 pub fn lower_list(
     names: &[Named],

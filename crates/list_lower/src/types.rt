@@ -7,8 +7,8 @@ ghost use Rattle.cal_ast.specs.Tree.{listed};
 ghost use Rattle.cal_ast.specs.View.{expr_tree, type_arg_tree, type_tree};
 ghost use Rattle.cal_model.specs.Expression.{bits, type_named};
 ghost use Rattle.cal_model.specs.Value.{Single};
-ghost use Rattle.list_lower.specs.Meant.{literal_size, only_size, single_in, single_meant};
-ghost use Rattle.list_lower.specs.Meant.{size_of_arg, size_written};
+ghost use Rattle.expr_lower.specs.Meant.{literal_size, only_size, single_in, single_meant};
+ghost use Rattle.expr_lower.specs.Meant.{size_of_arg, size_written};
 ghost use Rattle.rvc_base.specs.declared.scalar.Scalar.TheVariants as scalar;
 
 use cal_ast::{Expr, ExprForm, TypeArg, TypeExpr};

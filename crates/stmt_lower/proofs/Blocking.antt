@@ -19,11 +19,11 @@ use Rattle.code_ir.specs.declared.instr.Instr.TheVariants as op
 use Rattle.code_ir.specs.Running.{State, Reaches, here, after}
 use Rattle.expr_lower.specs.Flat.{flat}
 use Rattle.expr_lower.specs.Names.{Name, local}
-use Rattle.list_lower.specs.Meant.{single_meant}
+use Rattle.expr_lower.specs.Meant.{single_meant}
 use Rattle.expr_lower.specs.Held.{AreApart, Keeps}
 use Rattle.expr_lower.specs.Placed.{StandsAt, World, state}
 use Rattle.expr_lower.specs.Starting.{IsStart, at_zero, at_value}
-use Rattle.expr_lower.specs.Following.{Follows, Pushes, CutsOff}
+use Rattle.expr_lower.specs.Following.{Follows, MayUse, Pushes, CutsOff}
 use Rattle.stmt_lower.proofs.Counting.{store_on, there}
 use Rattle.expr_lower.proofs.Keeping.{keeps_join, keeps_wider, apart_last}
 use Rattle.stmt_lower.proofs.Locals.{inside_moves, local_held}
@@ -36,7 +36,7 @@ use Rattle.expr_lower.proofs.Written.{Written, written_keeps}
 use Rattle.stmt_lower.proofs.Performing.{Moves, Performs, but_wider, cut_breaks, keeps_but, move_after, moves_at}
 use Rattle.stmt_lower.specs.Procedures.{Routines}
 use Rattle.expr_lower.specs.Calling.{Serves}
-use Rattle.stmt_lower.proofs.Evaluating.{does_there, singles_there}
+use Rattle.stmt_lower.proofs.Evaluating.{does_there, may, singles_there}
 use Rattle.stmt_lower.specs.Bodies.{CutShort}
 
 -- ---- environments
@@ -108,9 +108,9 @@ module _ (rs : Routines) (outer : List Name) (w : World) (serves : Serves w oute
       written_keeps n 1 n m w.low w.high cells (slice_set cells n z) (omega arith) le wrote
 
   pub start_moves : (inner : List Name) (t : Scalar) (n : ℕ) {base m : ℕ} {start : Tree} {a : List Instr} → IsSize t → n + 1 ≤ m → IsStart rs.functions (inner ++ outer) t n start base (n + 1) a m
-      → (stack cells : List ℤ) (env : Env) (left : ℕ) → StandsAt w.code.instrs base a → Laid n inner → n + 1 ≤ length cells → Inside inner cells env
+      → (stack cells : List ℤ) (env : Env) (left : ℕ) → StandsAt w.code.instrs base a → Laid n inner → n + 1 ≤ length cells → Inside inner cells env → MayUse w (n + 1) m cells
       → Follows (first_of (Single t) start w.calls env left) (Started t n m (state base stack frames cells left) (base + length a)) (CutShort w (inner ++ outer) outer n m (state base stack frames cells left))
-  start_moves inner t n sized le (at_zero base h) stack cells env left stands laid room holds =
+  start_moves inner t n sized le (at_zero base h) stack cells env left stands laid room holds usable =
       let old = there cells n (omega (arith, room)) in
       let s : State = state base stack frames cells left in
       let end : base + 1 + 1 ≡ base + 2 = omega arith in
@@ -125,7 +125,7 @@ module _ (rs : Routines) (outer : List Name) (w : World) (serves : Serves w oute
         is = made.1;
         stands = set_there cells n old.0 (pos 0) old.1;
       }
-  start_moves inner t n sized le (at_value e base h m code coded) stack cells env left stands laid room holds =
+  start_moves inner t n sized le (at_value e base h m code coded) stack cells env left stands laid room holds usable =
       let names : List Name = inner ++ outer in
       let s : State = state base stack frames cells left in
       let i : List Instr = op.Store n (Some t) ∷ [] in
@@ -136,8 +136,8 @@ module _ (rs : Routines) (outer : List Name) (w : World) (serves : Serves w oute
       (λ v j. Pushes w (n + 1) m s (base + length code) v j × IsSingleValue v) (λ d. CutsOff w (n + 1) m s d × Unit {0})
       (Started t n m s (base + length (code ++ i))) (CutShort w names outer n m s)
       (follows_both (eval e w.calls env left) (Pushes w (n + 1) m s (base + length code)) (CutsOff w (n + 1) m s) (λ v j. IsSingleValue v) (λ d. Unit {0})
-      (does_there rs outer w serves frames inner coded stack cells env left (stands_left w.code.instrs base code i stands) more holds)
-      (singles_there rs outer w serves frames inner coded cells env left (n + 1) more holds))
+      (does_there rs outer w serves frames inner coded stack cells env left (stands_left w.code.instrs base code i stands) more holds usable)
+      (singles_there rs outer w serves frames inner coded cells env left (stands_left w.code.instrs base code i stands) more holds usable))
       (λ v j both.
       let p : Pushes w (n + 1) m s (base + length code) v j = both.0 in
       let y = there p.cells n (let same = p.keeps.size in omega (arith, same, room)) in
@@ -188,7 +188,7 @@ module _ (rs : Routines) (outer : List Name) (w : World) (serves : Serves w oute
       subst (λ (o : Out Env). Follows o (Moves rs outer w serves frames inner n m s (base + length (a ++ b)) (length env.locals)) (CutShort w names outer n m s)) (sym whole)
       (follows_then (first_of (Single t) start w.calls env left) rest (Started t n k s (base + length a)) (CutShort w names outer n k s)
       (Moves rs outer w serves frames inner n m s (base + length (a ++ b)) (length env.locals)) (CutShort w names outer n m s)
-      (start_moves inner t n sized le starts stack cells env left (stands_left w.code.instrs base a b stands) laid (omega (arith, room, le, ge)) holds)
+      (start_moves inner t n sized le starts stack cells env left (stands_left w.code.instrs base a b stands) laid (omega (arith, room, le, ge)) holds (may w n m (n + 1) k cells cells (omega arith) ge apart room refl))
       (λ v j p.
       let var : Var = variable text (Single t) changes v in
       let r : State = state (base + length a) stack frames p.cells j in

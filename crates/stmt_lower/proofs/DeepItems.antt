@@ -49,7 +49,7 @@ use Rattle.expr_lower.proofs.Singles.{IsSingleValue}
 use Rattle.expr_lower.proofs.Storing.{item_count, set_there, set_written, single_stored, store_item_leaves, store_leaves}
 use Rattle.stmt_lower.specs.Procedures.{Routines}
 use Rattle.expr_lower.specs.Calling.{Serves}
-use Rattle.stmt_lower.proofs.Evaluating.{does_there, singles_there}
+use Rattle.stmt_lower.proofs.Evaluating.{does_there, may, singles_there}
 use Rattle.expr_lower.specs.Callees.{Function}
 use Rattle.stmt_lower.specs.Bodies.{CutShort}
 
@@ -113,7 +113,7 @@ module _ (rs : Routines) (outer : List Name) (w : World) (serves : Serves w oute
       let end : base + length a + 1 + length b ≡ base + length (a ++ i ∷ b) = omega (arith, length-append a (i ∷ b)) in
       let up : c ≤ n = omega (arith, room_c) in
       follows_then (eval place w.calls env left) (λ v j. and_then (eval_all places w.calls env j) (λ vs h. Gives (Cons v vs) h)) (Pushes w n k s (base + length a)) (CutsOff w n k s) (AtKept w c m (suc (number_of places)) s (base + length (a ++ i ∷ b))) (CutsOff w c m s)
-      (does_there rs outer w serves frames inner first stack cells env left (stands_left w.code.instrs base a (i ∷ b) stands) (laid_more rs outer w.tokens w.low w.high c n inner up laid) holds)
+      (does_there rs outer w serves frames inner first stack cells env left (stands_left w.code.instrs base a (i ∷ b) stands) (laid_more rs outer w.tokens w.low w.high c n inner up laid) holds (may w c m n k cells cells up ge free room refl))
       (λ v j p.
       let wide = p.keeps.size in
       let t : State = state (base + length a) (p.number ∷ stack) frames p.cells j in
@@ -402,8 +402,8 @@ module _ (rs : Routines) (outer : List Name) (w : World) (serves : Serves w oute
       let wider : AreLaid rs outer w.tokens w.low w.high k inner = laid_more rs outer w.tokens w.low w.high n k inner le laid in
       follows_then (eval value w.calls env h) (λ v j. assign env text us v j) (λ v j. Pushes w k m r (base + length a + length b) v j × IsSingleValue v) (λ d. CutsOff w k m r d × Unit {0}) (Moves rs outer w serves frames inner n m s (base + length (a ++ (b ++ tail))) (length env.locals)) (CutShort w names outer n m s)
       (follows_both (eval value w.calls env h) (Pushes w k m r (base + length a + length b)) (CutsOff w k m r) (λ v j. IsSingleValue v) (λ d. Unit {0})
-      (does_there rs outer w serves frames inner second stack q.cells env h (stands_left w.code.instrs (base + length a) b tail rest) wider still)
-      (singles_there rs outer w serves frames inner second q.cells env h k wider still))
+      (does_there rs outer w serves frames inner second stack q.cells env h (stands_left w.code.instrs (base + length a) b tail rest) wider still (may w n m k m cells q.cells le (omega arith) apart room q.keeps.size))
+      (singles_there rs outer w serves frames inner second q.cells env h (stands_left w.code.instrs (base + length a) b tail rest) wider still (may w n m k m cells q.cells le (omega arith) apart room q.keeps.size)))
       (λ v j both.
       let o : Pushes w k m r (base + length a + length b) v j = both.0 in
       let p1 : State = state (base + length a + length b) (o.number ∷ stack) frames o.cells j in

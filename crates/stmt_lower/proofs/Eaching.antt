@@ -18,7 +18,7 @@ use Rattle.code_ir.specs.Running.{State, Reaches, here, after}
 use Rattle.code_ir.proofs.Marks.{get-other}
 use Rattle.expr_lower.specs.Flat.{flat}
 use Rattle.expr_lower.specs.Names.{Name, local}
-use Rattle.list_lower.specs.Meant.{single_meant}
+use Rattle.expr_lower.specs.Meant.{single_meant}
 use Rattle.expr_lower.specs.Held.{AreApart, Keeps}
 use Rattle.expr_lower.specs.Coding.{IsCode}
 use Rattle.expr_lower.specs.Placed.{StandsAt, World, state}
@@ -37,7 +37,7 @@ use Rattle.expr_lower.proofs.Written.{Written, written_keeps}
 use Rattle.stmt_lower.proofs.Performing.{Moves, Performs, breaks_after, but_all, but_wider, cut_breaks, keeps_but, move_after, moves_at}
 use Rattle.stmt_lower.specs.Procedures.{Routines}
 use Rattle.expr_lower.specs.Calling.{Serves}
-use Rattle.stmt_lower.proofs.Evaluating.{does_there, singles_there}
+use Rattle.stmt_lower.proofs.Evaluating.{does_there, may, singles_there}
 use Rattle.stmt_lower.specs.Bodies.{CutShort}
 
 -- the numbers of a range behind the first
@@ -145,8 +145,8 @@ module _ (rs : Routines) (outer : List Name) (w : World) (serves : Serves w oute
       (Moves rs outer w serves frames inner n m s (base + length (a ++ (b ++ (each_head n t out ++ tail_code)))) (length env.locals)) (CutShort w names outer n m s)) (sym (meant_is shape t w.calls env left meant))
       (follows_then (eval from w.calls env left) (λ x o. and_then (eval to w.calls env o) (λ y q. range_of x y (λ low high. for_loop (span low high) low (λ z now r. inside now (with_local (variable text (Single t) false (stored (Single t) (Num z))) now) M r) env q))) (λ x o. Pushes w (n + 3) k s (base + length a) x o × IsSingleValue x) (λ d. CutsOff w (n + 3) k s d × Unit {0}) (Moves rs outer w serves frames inner n m s (base + length (a ++ (b ++ (each_head n t out ++ tail_code)))) (length env.locals)) (CutShort w names outer n m s)
       (follows_both (eval from w.calls env left) (Pushes w (n + 3) k s (base + length a)) (CutsOff w (n + 3) k s) (λ x o. IsSingleValue x) (λ d. Unit {0})
-      (does_there rs outer w serves frames inner first stack cells env left (stands_left w.code.instrs base a (b ++ (each_head n t out ++ tail_code)) stands) low_laid holds)
-      (singles_there rs outer w serves frames inner first cells env left (n + 3) low_laid holds))
+      (does_there rs outer w serves frames inner first stack cells env left (stands_left w.code.instrs base a (b ++ (each_head n t out ++ tail_code)) stands) low_laid holds (may w n m (n + 3) k cells cells few (omega (arith, further, le, ge)) apart room refl))
+      (singles_there rs outer w serves frames inner first cells env left (stands_left w.code.instrs base a (b ++ (each_head n t out ++ tail_code)) stands) low_laid holds (may w n m (n + 3) k cells cells few (omega (arith, further, le, ge)) apart room refl)))
       (λ x o pair.
       let p : Pushes w (n + 3) k s (base + length a) x o = pair.0 in
       let r : State = state (base + length a) (p.number ∷ stack) frames p.cells o in
@@ -155,8 +155,8 @@ module _ (rs : Routines) (outer : List Name) (w : World) (serves : Serves w oute
       follows_then (eval to w.calls env o) (λ y q. range_of x y (λ low high. for_loop (span low high) low (λ z now r. inside now (with_local (variable text (Single t) false (stored (Single t) (Num z))) now) M r) env q))
       (λ y q. Pushes w k j r (base + length a + length b) y q × IsSingleValue y) (λ d. CutsOff w k j r d × Unit {0}) (Moves rs outer w serves frames inner n m s (base + length (a ++ (b ++ (each_head n t out ++ tail_code)))) (length env.locals)) (CutShort w names outer n m s)
       (follows_both (eval to w.calls env o) (Pushes w k j r (base + length a + length b)) (CutsOff w k j r) (λ y q. IsSingleValue y) (λ d. Unit {0})
-      (does_there rs outer w serves frames inner second (p.number ∷ stack) p.cells env o (stands_left w.code.instrs (base + length a) b (each_head n t out ++ tail_code) rest) wider still)
-      (singles_there rs outer w serves frames inner second p.cells env o k wider still))
+      (does_there rs outer w serves frames inner second (p.number ∷ stack) p.cells env o (stands_left w.code.instrs (base + length a) b (each_head n t out ++ tail_code) rest) wider still (may w n m k j cells p.cells wide (omega (arith, le, ge)) apart room p.keeps.size))
+      (singles_there rs outer w serves frames inner second p.cells env o (stands_left w.code.instrs (base + length a) b (each_head n t out ++ tail_code) rest) wider still (may w n m k j cells p.cells wide (omega (arith, le, ge)) apart room p.keeps.size)))
       (λ y q both.
       let v : Pushes w k j r (base + length a + length b) y q = both.0 in
       moves_at rs outer w serves frames (range_of x y (λ low high. for_loop (span low high) low (λ z now r. inside now (with_local (variable text (Single t) false (stored (Single t) (Num z))) now) M r) env q)) inner n m out (base + length (a ++ (b ++ (each_head n t out ++ tail_code)))) (length env.locals) s finish

@@ -15,7 +15,7 @@ use Rattle.expr_lower.specs.Listed.{list_named}
 use Rattle.expr_lower.specs.Names.{local, Name, named}
 use Rattle.list_lower.specs.LeftOut.{left_out_fill}
 use Rattle.list_lower.proofs.Erased.{fill_erased}
-use Rattle.list_lower.specs.Meant.{single_meant}
+use Rattle.expr_lower.specs.Meant.{single_meant}
 use Rattle.list_lower.specs.ShapeMeant.{shape_meant}
 use Rattle.stmt_lower.specs.ListStarting.{left_out_list_start, local_of}
 use Rattle.expr_lower.specs.Parted.{Part, number_of, part_named}

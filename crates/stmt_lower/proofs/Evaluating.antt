@@ -7,17 +7,23 @@ use Rattle.code_ir.specs.declared.instr.Instr.{Instr}
 use Rattle.expr_lower.specs.Callees.{Function}
 use Rattle.expr_lower.specs.Calling.{Serves, outside}
 use Rattle.expr_lower.specs.Coding.{AreArgs, IsCode, IsTest}
-use Rattle.expr_lower.specs.Following.{Chooses, CutsOff, Follows, Pushes}
+use Rattle.expr_lower.specs.Following.{Chooses, CutsOff, Follows, MayUse, Pushes}
 use Rattle.expr_lower.specs.Names.{Name}
 use Rattle.expr_lower.specs.Parted.{number_of}
 use Rattle.expr_lower.specs.Placed.{StandsAt, World, state}
 use Rattle.stmt_lower.specs.Changing.{HoldsVars}
 use Rattle.stmt_lower.specs.Procedures.{Routines}
 use Rattle.expr_lower.proofs.Called.{Piles}
-use Rattle.expr_lower.proofs.Coded.{does, does_args, does_in, tests, tests_in}
+use Rattle.expr_lower.proofs.Coded.{does, does_args, does_in, singles, tests, tests_in}
 use Rattle.expr_lower.proofs.GivenKinds.{kinds_in}
-use Rattle.expr_lower.proofs.Singles.{OnlySingles, singles, singles_in}
+use Rattle.expr_lower.proofs.Singles.{OnlySingles, singles_in}
+use Rattle.expr_lower.proofs.Keeping.{apart_first, apart_last}
+use Rattle.expr_lower.specs.Held.{AreApart}
 use Rattle.stmt_lower.proofs.Scoping.{AreLaid, HoldsInside, laid_apart, laid_below, names_held, outer_apart, outer_below}
+
+-- what a part of some code may use of the cells that the whole may use
+pub may : (w : World) (n m k h : ℕ) (cells now : List ℤ) → n ≤ k → h ≤ m → AreApart n m w.low w.high → m ≤ length cells → length now ≡ length cells → MayUse w k h now
+may w n m k h cells now le ge apart room same less = (apart_last n k h w.low w.high le (apart_first n h m w.low w.high ge apart), omega (arith, ge, room, same))
 
 -- what is known of the globals, if something may be called
 pub record GlobalsHeld (outer : List Name) (tokens : ℕ → List ℤ) (high : ℕ) (cells : List ℤ) (env : Env) : Type 0 where
@@ -40,53 +46,55 @@ module _ (rs : Routines) (outer : List Name) (w : World) (serves : Serves w oute
   names = inner ++ outer
 
   pub does_there : {e : Tree} {base n m : ℕ} {code : List Instr} → IsCode rs.functions names e base n code m → (stack cells : List ℤ) (env : Env) (left : ℕ) → StandsAt w.code.instrs base code
-      → AreLaid rs outer w.tokens w.low w.high n inner → HoldsInside rs outer w.tokens w.low w.high inner cells env
+      → AreLaid rs outer w.tokens w.low w.high n inner → HoldsInside rs outer w.tokens w.low w.high inner cells env → MayUse w n m cells
       → Follows (eval e w.calls env left) (Pushes w n m (state base stack frames cells left) (base + length code)) (CutsOff w n m (state base stack frames cells left))
-  does_there {e = e} {base = base} {n = n} {m = m} {code = code} coded stack cells env left stands laid holds =
+  does_there {e = e} {base = base} {n = n} {m = m} {code = code} coded stack cells env left stands laid holds usable =
       by rs.functions serves coded (λ some. globals_held rs outer w.tokens w.low w.high inner cells env holds (omega (arith, some)))
     where
       by : (fs : List Function) → Serves w outer fs → IsCode fs names e base n code m → (0 < length fs → GlobalsHeld outer w.tokens w.high cells env)
           → Follows (eval e w.calls env left) (Pushes w n m (state base stack frames cells left) (base + length code)) (CutsOff w n m (state base stack frames cells left))
       by [] serve coded can =
-          does names w env frames coded stack cells left stands (laid_below rs outer w.tokens w.low w.high n inner laid) (laid_apart rs outer w.tokens w.low w.high n inner laid) (names_held rs outer w.tokens w.low w.high inner cells env holds)
+          does names w env frames coded stack cells left stands (laid_below rs outer w.tokens w.low w.high n inner laid) (laid_apart rs outer w.tokens w.low w.high n inner laid) (names_held rs outer w.tokens w.low w.high inner cells env holds) usable
       by (f ∷ fs) serve coded can =
           let g = can (omega arith) in
-          does_in (f ∷ fs) outer names w serve env frames coded stack cells left stands (laid_below rs outer w.tokens w.low w.high n inner laid, outer_below rs outer w.tokens w.low w.high n inner laid)
-          (laid_apart rs outer w.tokens w.low w.high n inner laid, outer_apart rs outer w.tokens w.low w.high n inner laid) (names_held rs outer w.tokens w.low w.high inner cells env holds, g.vars.0, λ some. g.room)
+          does_in (f ∷ fs) outer names w serve env frames n m coded (omega arith) stack cells left stands (laid_below rs outer w.tokens w.low w.high n inner laid, outer_below rs outer w.tokens w.low w.high n inner laid, omega arith)
+          (laid_apart rs outer w.tokens w.low w.high n inner laid, outer_apart rs outer w.tokens w.low w.high n inner laid, λ less. (usable less).0) (names_held rs outer w.tokens w.low w.high inner cells env holds, g.vars.0, λ some. g.room, λ less. (usable less).1)
 
-  pub singles_there : {e : Tree} {base n m : ℕ} {code : List Instr} → IsCode rs.functions names e base n code m → (cells : List ℤ) (env : Env) (left k : ℕ)
-      → AreLaid rs outer w.tokens w.low w.high k inner → HoldsInside rs outer w.tokens w.low w.high inner cells env → OnlySingles (eval e w.calls env left)
-  singles_there {e = e} {base = base} {n = n} {m = m} {code = code} coded cells env left k laid holds =
+  pub singles_there : {e : Tree} {base n m : ℕ} {code : List Instr} → IsCode rs.functions names e base n code m → (cells : List ℤ) (env : Env) (left : ℕ) → StandsAt w.code.instrs base code
+      → AreLaid rs outer w.tokens w.low w.high n inner → HoldsInside rs outer w.tokens w.low w.high inner cells env → MayUse w n m cells → OnlySingles (eval e w.calls env left)
+  singles_there {e = e} {base = base} {n = n} {m = m} {code = code} coded cells env left stands laid holds usable =
       by rs.functions serves coded (λ some. globals_held rs outer w.tokens w.low w.high inner cells env holds (omega (arith, some)))
     where
       by : (fs : List Function) → Serves w outer fs → IsCode fs names e base n code m → (0 < length fs → GlobalsHeld outer w.tokens w.high cells env) → OnlySingles (eval e w.calls env left)
-      by [] serve coded can = singles names w.tokens cells env w.calls (names_held rs outer w.tokens w.low w.high inner cells env holds) coded left
+      by [] serve coded can =
+          singles names w env coded cells left stands (laid_below rs outer w.tokens w.low w.high n inner laid) (laid_apart rs outer w.tokens w.low w.high n inner laid) (names_held rs outer w.tokens w.low w.high inner cells env holds) usable
       by (f ∷ fs) serve coded can =
           let g = can (omega arith) in
-          singles_in (f ∷ fs) w.calls names w.tokens cells env
-          (kinds_in (f ∷ fs) outer w serve env.globals k cells (outer_below rs outer w.tokens w.low w.high k inner laid) (outer_apart rs outer w.tokens w.low w.high k inner laid) g.vars.0 (λ some. g.room))
-          (names_held rs outer w.tokens w.low w.high inner cells env holds) coded left
+          singles_in (f ∷ fs) outer names w serve env n m cells
+          (kinds_in (f ∷ fs) outer w serve env.globals n cells (outer_below rs outer w.tokens w.low w.high n inner laid) (outer_apart rs outer w.tokens w.low w.high n inner laid) g.vars.0 (λ some. g.room))
+          (laid_apart rs outer w.tokens w.low w.high n inner laid, outer_apart rs outer w.tokens w.low w.high n inner laid, λ less. (usable less).0) (names_held rs outer w.tokens w.low w.high inner cells env holds, g.vars.0, λ some. g.room, λ less. (usable less).1)
+          coded (omega arith) left stands (laid_below rs outer w.tokens w.low w.high n inner laid, outer_below rs outer w.tokens w.low w.high n inner laid, omega arith)
 
   pub tests_there : {e : Tree} {base n far m : ℕ} {code : List Instr} → IsTest rs.functions names e base n far code m → (stack cells : List ℤ) (env : Env) (left : ℕ) → StandsAt w.code.instrs base code
-      → AreLaid rs outer w.tokens w.low w.high n inner → HoldsInside rs outer w.tokens w.low w.high inner cells env
+      → AreLaid rs outer w.tokens w.low w.high n inner → HoldsInside rs outer w.tokens w.low w.high inner cells env → MayUse w n m cells
       → Follows (eval e w.calls env left) (Chooses w n m (state base stack frames cells left) (base + length code) far) (CutsOff w n m (state base stack frames cells left))
-  tests_there {e = e} {base = base} {n = n} {far = far} {m = m} {code = code} coded stack cells env left stands laid holds =
+  tests_there {e = e} {base = base} {n = n} {far = far} {m = m} {code = code} coded stack cells env left stands laid holds usable =
       by rs.functions serves coded (λ some. globals_held rs outer w.tokens w.low w.high inner cells env holds (omega (arith, some)))
     where
       by : (fs : List Function) → Serves w outer fs → IsTest fs names e base n far code m → (0 < length fs → GlobalsHeld outer w.tokens w.high cells env)
           → Follows (eval e w.calls env left) (Chooses w n m (state base stack frames cells left) (base + length code) far) (CutsOff w n m (state base stack frames cells left))
       by [] serve coded can =
-          tests names w env frames coded stack cells left stands (laid_below rs outer w.tokens w.low w.high n inner laid) (laid_apart rs outer w.tokens w.low w.high n inner laid) (names_held rs outer w.tokens w.low w.high inner cells env holds)
+          tests names w env frames coded stack cells left stands (laid_below rs outer w.tokens w.low w.high n inner laid) (laid_apart rs outer w.tokens w.low w.high n inner laid) (names_held rs outer w.tokens w.low w.high inner cells env holds) usable
       by (f ∷ fs) serve coded can =
           let g = can (omega arith) in
-          tests_in (f ∷ fs) outer names w serve env frames coded stack cells left stands (laid_below rs outer w.tokens w.low w.high n inner laid, outer_below rs outer w.tokens w.low w.high n inner laid)
-          (laid_apart rs outer w.tokens w.low w.high n inner laid, outer_apart rs outer w.tokens w.low w.high n inner laid) (names_held rs outer w.tokens w.low w.high inner cells env holds, g.vars.0, λ some. g.room)
+          tests_in (f ∷ fs) outer names w serve env frames n m coded (omega arith) stack cells left stands (laid_below rs outer w.tokens w.low w.high n inner laid, outer_below rs outer w.tokens w.low w.high n inner laid, omega arith)
+          (laid_apart rs outer w.tokens w.low w.high n inner laid, outer_apart rs outer w.tokens w.low w.high n inner laid, λ less. (usable less).0) (names_held rs outer w.tokens w.low w.high inner cells env holds, g.vars.0, λ some. g.room, λ less. (usable less).1)
 
   -- arguments, where something may be called
   pub args_there : {es : Tree} {base n m : ℕ} {code : List Instr} → AreArgs rs.functions names es base n code m → (stack cells : List ℤ) (env : Env) (left : ℕ) → StandsAt w.code.instrs base code
-      → AreLaid rs outer w.tokens w.low w.high n inner → HoldsInside rs outer w.tokens w.low w.high inner cells env → 0 < length rs.functions + length rs.procedures
+      → AreLaid rs outer w.tokens w.low w.high n inner → HoldsInside rs outer w.tokens w.low w.high inner cells env → MayUse w n m cells → 0 < length rs.functions + length rs.procedures
       → Follows (eval_all es w.calls env left) (Piles w n m (number_of es) (state base stack frames cells left) (base + length code)) (CutsOff w n m (state base stack frames cells left))
-  args_there {n = n} coded stack cells env left stands laid holds some =
+  args_there {n = n} {m = m} coded stack cells env left stands laid holds usable some =
       let g = globals_held rs outer w.tokens w.low w.high inner cells env holds some in
-      does_args rs.functions outer names w serves env frames coded stack cells left stands (laid_below rs outer w.tokens w.low w.high n inner laid, outer_below rs outer w.tokens w.low w.high n inner laid)
-      (laid_apart rs outer w.tokens w.low w.high n inner laid, outer_apart rs outer w.tokens w.low w.high n inner laid) (names_held rs outer w.tokens w.low w.high inner cells env holds, g.vars.0, λ more. g.room)
+      does_args rs.functions outer names w serves env frames n m coded (omega arith) stack cells left stands (laid_below rs outer w.tokens w.low w.high n inner laid, outer_below rs outer w.tokens w.low w.high n inner laid, omega arith)
+      (laid_apart rs outer w.tokens w.low w.high n inner laid, outer_apart rs outer w.tokens w.low w.high n inner laid, λ less. (usable less).0) (names_held rs outer w.tokens w.low w.high inner cells env holds, g.vars.0, λ more. g.room, λ less. (usable less).1)

@@ -26,6 +26,7 @@ use Rattle.stmt_lower.proofs.Fewer.{reaches_fewer}
 use Rattle.expr_lower.proofs.Runs.{ends_back, obeys, follows_then, follows_more, stands_left, stands_right}
 use Rattle.stmt_lower.proofs.Scoping.{AreLaid, HoldsInside, laid_more}
 use Rattle.expr_lower.proofs.Coded.{grows, grows_args, grows_test}
+use Rattle.stmt_lower.proofs.Evaluating.{may}
 use Rattle.stmt_lower.proofs.Performing.{Moves, Performs, but_all, but_wider, moves_at, breaks_wider, move_after, jump_moves, stays, perform_none, perform_then, test_moves}
 use Rattle.expr_lower.proofs.Keeping.{apart_first, apart_last}
 use Rattle.expr_lower.specs.Listed.{list_named}
@@ -65,7 +66,7 @@ module _ (rs : Routines) (outer : List Name) (w : World) (serves : Serves w oute
       let s : State = state base stack frames cells left in
       let finish : end ≡ base + length (a ++ b) = omega (arith, length-append a b) in
       moves_at rs outer w serves frames (and_then (eval test w.calls env left) (λ v j. chosen v (λ i. M env i) (λ i. Gives env i) j)) inner n m end (base + length (a ++ b)) (length env.locals) s finish
-      (test_moves rs outer w serves frames inner M (λ now i. Gives now i) test base n n k m end end a stack cells env left (omega arith) ge coded (stands_left w.code.instrs base a b stands) laid holds
+      (test_moves rs outer w serves frames inner M (λ now i. Gives now i) test base n n k m end end a stack cells env left (omega arith) ge coded (stands_left w.code.instrs base a b stands) laid holds (may w n m n k cells cells (omega arith) ge apart room refl)
       (λ now j size few h. moves_at rs outer w serves frames (M env j) inner n m (base + length a + length b) end (length env.locals) (state (base + length a) stack frames now j) (sym end_is)
       (move_after rs outer w serves frames inner n k m m (base + length a) (base + length a) (base + length a + length b) (length env.locals) stack now now j j (M env j) le (omega arith) here (but_all (inner ++ outer) n m w.low w.high now)
       (first stack now env j (stands_right w.code.instrs base a b stands) (laid_more rs outer w.tokens w.low w.high n k inner le laid) (apart_last n k m w.low w.high le apart) (omega (arith, size, room)) h)))
@@ -85,7 +86,7 @@ module _ (rs : Routines) (outer : List Name) (w : World) (serves : Serves w oute
       let wide : k ≤ m = omega arith in
       let far : n ≤ h = omega arith in
       moves_at rs outer w serves frames (and_then (eval test w.calls env left) (λ v j. chosen v (λ i. M env i) (λ i. N env i) j)) inner n m end (base + length (a ++ (b ++ tail))) (length env.locals) s finish
-      (test_moves rs outer w serves frames inner M N test base n n k m else_at end a stack cells env left (omega arith) wide coded (stands_left w.code.instrs base a (b ++ tail) stands) laid holds
+      (test_moves rs outer w serves frames inner M N test base n n k m else_at end a stack cells env left (omega arith) wide coded (stands_left w.code.instrs base a (b ++ tail) stands) laid holds (may w n m n k cells cells (omega arith) wide apart room refl)
       (λ now j size few held.
       let t : State = state (base + length a) stack frames now j in
       follows_more (M env j) (Moves rs outer w serves frames inner n m t (base + length a + length b) (length env.locals)) (CutShort w (inner ++ outer) outer n m t) (Moves rs outer w serves frames inner n m t end (length env.locals)) (CutShort w (inner ++ outer) outer n m t)
@@ -112,7 +113,7 @@ module _ (rs : Routines) (outer : List Name) (w : World) (serves : Serves w oute
         → ((now : List ℤ) (next : Env) (i : ℕ) → m ≤ length now → i < left → Inside inner now next → Follows (rest next i) (Moves rs outer w serves frames inner n m (state head stack frames now i) out (length next.locals)) (CutShort w (inner ++ outer) outer n m (state head stack frames now i)))
         → Follows (and_then (eval test w.calls env left) (λ v j. chosen v (λ i. turn i (λ h. and_then (M env h) rest)) (λ i. Gives env i) j)) (Moves rs outer w serves frames inner n m (state head stack frames cells left) out (length env.locals)) (CutShort w (inner ++ outer) outer n m (state head stack frames cells left))
     from_test rest stack cells env left room holds again =
-        test_moves rs outer w serves frames inner (λ now i. turn i (λ h. and_then (M now h) rest)) (λ now i. Gives now i) test head n k m m out out a stack cells env left le (omega arith) coded at_test (laid_more rs outer w.tokens w.low w.high n k inner le laid) holds
+        test_moves rs outer w serves frames inner (λ now i. turn i (λ h. and_then (M now h) rest)) (λ now i. Gives now i) test head n k m m out out a stack cells env left le (omega arith) coded at_test (laid_more rs outer w.tokens w.low w.high n k inner le laid) holds (may w n m k m cells cells le (omega arith) apart room refl)
         (λ now j size few held. one_turn j few now (omega (arith, size, room)) held)
         (λ now j size few held. stays rs outer w serves frames inner n m out stack now j env held)
       where

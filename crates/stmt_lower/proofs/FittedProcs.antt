@@ -46,7 +46,7 @@ module _ (whole : Code) (callable limit : ℕ) where
           body = a ++ r.body;
           is = ap (λ is. a ++ is) r.is ∙ sym (append_assoc a r.body (op.Return ∷ []));
           fits = plain_then whole callable limit base 0 0 0 a r.body
-              (fits_start whole callable limit rs has names kind n 0 (sizes.0 kind shape) (omega (arith, up, more, le)) (below_more n (n + 1) names (omega arith) below) (omega (arith, more, le)) first) r.fits;
+              (fits_start whole callable limit rs has names kind n 0 (sizes.0 kind shape) (omega (arith, up, more, le)) (below_more n (n + 1) names (omega arith) below) (omega (arith, more, le)) (stands_left whole.instrs base a b stands) first) r.fits;
         }
     body_fits below typed sizes le stands (local_list names x xs base n k m a b one first rest) =
         let up : n + scalars_of_type x.shape ≤ k = grows_list_start first in

@@ -111,12 +111,12 @@ module _ (code : Code) (callable limit : ℕ) where
       (fits_one code callable limit (base + 1 + length puts) h h (op.Call p.routine) (omega arith) (omega (arith, empty)) refl tt small tt tt))
 
   module _ (rs : Routines) (has : HasRunRoutines code callable limit rs) where
-    pub fits_start : (names : List Name) (t : Scalar) (c : ℕ) {start : Tree} {base n m : ℕ} {a : List Instr} (h : ℕ) → IsSize t → c + 1 ≤ limit → AreBelow n names → m ≤ limit → IsStart rs.functions names t c start base n a m → Plain code callable limit base h a h
-    fits_start names t c h sized room below le (at_zero base n) =
+    pub fits_start : (names : List Name) (t : Scalar) (c : ℕ) {start : Tree} {base n m : ℕ} {a : List Instr} (h : ℕ) → IsSize t → c + 1 ≤ limit → AreBelow n names → m ≤ limit → StandsAt code.instrs base a → IsStart rs.functions names t c start base n a m → Plain code callable limit base h a h
+    fits_start names t c h sized room below le stands (at_zero base n) =
         plain_then code callable limit base h (h + 1) h (op.Const (pos 0) ∷ []) (op.Store c None ∷ []) (fits_const code callable limit base h (pos 0))
         (fits_one code callable limit (base + 1) (h + 1) h (op.Store c None) (omega arith) (omega arith) refl room tt tt tt)
-    fits_start names t c h sized room below le (at_value e base n m instrs g) =
-        plain_then code callable limit base h (h + 1) h instrs (op.Store c (Some t) ∷ []) (fits_in code callable limit rs.functions has.functions names h below le g) (fits_store (base + length instrs) h c t room sized)
+    fits_start names t c h sized room below le stands (at_value e base n m instrs g) =
+        plain_then code callable limit base h (h + 1) h instrs (op.Store c (Some t) ∷ []) (fits_in code callable limit rs.functions has.functions names h below le (stands_left code.instrs base instrs (op.Store c (Some t) ∷ []) stands) g) (fits_store (base + length instrs) h c t room sized)
 
     pub fits_list_start : (names : List Name) (t : Shape) (c : ℕ) {start : Tree} {base n m : ℕ} {a : List Instr} (h : ℕ) → IsType t → c + scalars_of_type t ≤ n → AreBelow c names → m ≤ limit → StandsAt code.instrs base a → IsListStart rs.functions names t c start base n a m → Plain code callable limit base h a h
     fits_list_start names t c h typed room below le stands (all_zero base n) =
@@ -128,15 +128,16 @@ module _ (code : Code) (callable limit : ℕ) where
         plain_then code callable limit base h h h instrs (i ∷ []) (fits_fill code callable limit rs.functions has.functions h below room le (stands_left code.instrs base instrs (i ∷ []) stands) g)
         (fits_one code callable limit (base + length instrs) h h i (omega arith) (omega arith) refl (there, there) tt tt (leaf_size t typed))
 
-    fits_kept : (names : List Name) {c : ℕ} {places : Tree} {base n m : ℕ} {instrs : List Instr} (h : ℕ) → c + number_of places ≤ n → AreBelow c names → m ≤ limit → IsKept rs.functions names c places base n instrs m → Plain code callable limit base h instrs h
-    fits_kept names h room below le (no_place c base n) = fits_none code callable limit base h
-    fits_kept names h room below le (place_more spot rest c base n k m a b g q) =
+    fits_kept : (names : List Name) {c : ℕ} {places : Tree} {base n m : ℕ} {instrs : List Instr} (h : ℕ) → c + number_of places ≤ n → AreBelow c names → m ≤ limit → StandsAt code.instrs base instrs → IsKept rs.functions names c places base n instrs m → Plain code callable limit base h instrs h
+    fits_kept names h room below le stands (no_place c base n) = fits_none code callable limit base h
+    fits_kept names h room below le stands (place_more spot rest c base n k m a b g q) =
+        let later = stands_right code.instrs base a (op.Store c None ∷ b) stands in
         let x = grows g in
         let y = grows_kept q in
-        plain_then code callable limit base h (h + 1) h a (op.Store c None ∷ b) (fits_in code callable limit rs.functions has.functions names h (below_more c n names (omega (arith, room)) below) (omega (arith, y, le)) g)
+        plain_then code callable limit base h (h + 1) h a (op.Store c None ∷ b) (fits_in code callable limit rs.functions has.functions names h (below_more c n names (omega (arith, room)) below) (omega (arith, y, le)) (stands_left code.instrs base a (op.Store c None ∷ b) stands) g)
         (plain_then code callable limit (base + length a) (h + 1) h h (op.Store c None ∷ []) b
         (fits_one code callable limit (base + length a) (h + 1) h (op.Store c None) (omega arith) (omega arith) refl (omega (arith, room, x, y, le)) tt tt tt)
-        (fits_kept names h (omega (arith, room, x)) (below_more c (c + 1) names (omega arith) below) le q))
+        (fits_kept names h (omega (arith, room, x)) (below_more c (c + 1) names (omega arith) below) le later.1 q))
 
     fits_step : (base h c n : ℕ) (o : Option ℕ) (rest : List Instr) → c + 1 ≤ limit → ((each : ℕ) → Plain code callable limit (base + 1 + 1) (h + 1) rest (h + 1)) → Plain code callable limit base (h + 1) (step_in c n o rest) (h + 1)
     fits_step base h c n None rest room later = fits_none code callable limit base (h + 1)
@@ -165,7 +166,7 @@ module _ (code : Code) (callable limit : ℕ) where
       fits_stmt h below typed le stands (set names text value place at base n m c instrs x t e seat shape g) =
           let grown = grows g in
           let one = cells_there n c names text x (Single t) below (omega (arith, grown, le)) e seat shape in
-          plain_then code callable limit base h (h + 1) h instrs (op.Store c (Some t) ∷ []) (fits_in code callable limit rs.functions has.functions names h below le g)
+          plain_then code callable limit base h (h + 1) h instrs (op.Store c (Some t) ∷ []) (fits_in code callable limit rs.functions has.functions names h below le (stands_left code.instrs base instrs (op.Store c (Some t) ∷ []) stands) g)
           (fits_store (base + length instrs) h c t one (subst IsType shape (typed text x e)))
       fits_stmt h below typed le stands (set_list names text value place at base n c size x t l e seat shape g many) =
           let to = cells_there n c names text x (Many size (Single t)) below le e seat shape in
@@ -175,7 +176,7 @@ module _ (code : Code) (callable limit : ℕ) where
           let wide = grows_kept g in
           let to = cells_there n c names text x (Many size (Single t)) below (omega (arith, wide, le)) e seat shape in
           let listed : IsType (Many size (Single t)) = subst IsType shape (typed text x e) in
-          plain_then code callable limit base h h h a (copy_code c size t (Cell n)) (fits_kept names h (omega (arith, number)) below le g)
+          plain_then code callable limit base h h h a (copy_code c size t (Cell n)) (fits_kept names h (omega (arith, number)) below le (stands_left code.instrs base a (copy_code c size t (Cell n)) stands) g)
           (fits_copy (base + length a) h c size t (Cell n) (omega (arith, to)) (omega (arith, wide, le)) listed.2)
       fits_stmt h below typed le stands (set_filled names text value place at base n m c a x e seat g) =
           let size : ℕ = scalars_of_type x.shape in
@@ -188,8 +189,8 @@ module _ (code : Code) (callable limit : ℕ) where
           let more = grows d in
           let all = cells_there n c names text x (Many size (Single t)) below (omega (arith, grown, more, le)) e seat shape in
           let listed : IsType (Many size (Single t)) = subst IsType shape (typed text x e) in
-          plain_then code callable limit base h (h + 1) h a (b ++ op.StoreAt c size (Some t) ∷ []) (fits_in code callable limit rs.functions has.functions names h below (omega (arith, more, le)) g)
-          (plain_then code callable limit (base + length a) (h + 1) (h + 1 + 1) h b (op.StoreAt c size (Some t) ∷ []) (fits_in code callable limit rs.functions has.functions names (h + 1) (below_more n k names grown below) le d)
+          plain_then code callable limit base h (h + 1) h a (b ++ op.StoreAt c size (Some t) ∷ []) (fits_in code callable limit rs.functions has.functions names h below (omega (arith, more, le)) (stands_left code.instrs base a (b ++ op.StoreAt c size (Some t) ∷ []) stands) g)
+          (plain_then code callable limit (base + length a) (h + 1) (h + 1 + 1) h b (op.StoreAt c size (Some t) ∷ []) (fits_in code callable limit rs.functions has.functions names (h + 1) (below_more n k names grown below) le (stands_left code.instrs (base + length a) b (op.StoreAt c size (Some t) ∷ []) (stands_right code.instrs base a (b ++ op.StoreAt c size (Some t) ∷ []) stands)) d)
           (fits_store_at (base + length a + length b) h c size t (omega (arith, all)) listed.2))
       fits_stmt h below typed le stands (set_deep names text places value place at base n k m c size a b x t e seat shape leaf g d) =
           let wide = grows_kept g in
@@ -199,21 +200,21 @@ module _ (code : Code) (callable limit : ℕ) where
           let up : n ≤ k = omega (arith, wide) in
           let all = cells_there n c names text x x.shape below (omega (arith, up, more, le)) e seat refl in
           let many = sized_is x.shape size shape in
-          plain_then code callable limit base h h h a (b ++ deep_tail c size v t steps) (fits_kept names h (omega arith) below (omega (arith, more, le)) g)
-          (plain_then code callable limit (base + length a) h (h + 1) h b (deep_tail c size v t steps) (fits_in code callable limit rs.functions has.functions names h (below_more n k names up below) le d)
+          plain_then code callable limit base h h h a (b ++ deep_tail c size v t steps) (fits_kept names h (omega arith) below (omega (arith, more, le)) (stands_left code.instrs base a (b ++ deep_tail c size v t steps) stands) g)
+          (plain_then code callable limit (base + length a) h (h + 1) h b (deep_tail c size v t steps) (fits_in code callable limit rs.functions has.functions names h (below_more n k names up below) le (stands_left code.instrs (base + length a) b (deep_tail c size v t steps) (stands_right code.instrs base a (b ++ deep_tail c size v t steps) stands)) d)
           (fits_tail (base + length a + length b) h c size v t steps (omega (arith, all, many)) (omega (arith, wide, more, le)) (leaf_sized x.shape places (typed text x e) leaf)
           (fits_steps (base + length a + length b + 1 + 1) h n x.shape places (omega (arith, wide, more, le)))))
       fits_stmt h below typed le stands (call names text args place at base n m part p e g) =
           let f = proc_found text (number_of args) rs.procedures p e in
           let r = has.procedures text p f.0 in
-          plain_then code callable limit base h (h + number_of args) h part (run_code p) (fits_args code callable limit rs.functions has.functions names h below le g)
+          plain_then code callable limit base h (h + number_of args) h part (run_code p) (fits_args code callable limit rs.functions has.functions names h below le (stands_left code.instrs base part (run_code p) stands) g)
           (subst (λ k. Plain code callable limit (base + length part) (h + k) (run_code p) h) f.1 (fits_run (base + length part) h p r.0 r.1 r.2))
       fits_stmt h below typed le stands (if_alone names test first at base n k m end a b g d e) =
           let grown = grows_test g in
           let more = grows_all d in
           let size : length (a ++ b) ≡ length a + length b = length-append a b in
           let second = fits_all h (below_more n k names grown below) typed le (stands_right code.instrs base a b stands) d in
-          let done = fits_then code callable limit base h h h end h (base + length a + length b) h a b (fits_test_in code callable limit rs.functions has.functions names h below (omega (arith, more, le)) (omega (arith, e)) g) second
+          let done = fits_then code callable limit base h h h end h (base + length a + length b) h a b (fits_test_in code callable limit rs.functions has.functions names h below (omega (arith, more, le)) (omega (arith, e)) (stands_left code.instrs base a b stands) g) second
           (omega (arith, e)) (ap second.height e ∙ second.last) (inl (omega (arith, e))) (omega arith) in
           let whole : base + length a + length b ≡ base + length (a ++ b) = omega (arith, size) in
           subst (λ o. Fits code callable limit base h (a ++ b) h o h) whole done.0
@@ -225,7 +226,7 @@ module _ (code : Code) (callable limit : ℕ) where
           let there : StandsAt code.instrs else_at c = subst (λ p. StandsAt code.instrs p c) (sym e) last.1 in
           let third : Plain code callable limit (base + length a + length b + 1) h c h = subst (λ p. Plain code callable limit p h c h) e (fits_all h (below_more n j names wide below) typed le there q) in
           let tail = fits_jump code callable limit (base + length a + length b) h h end c third (omega (arith, e, f)) in
-          branch code callable limit h h base else_at a b (op.Jump end ∷ c) (fits_test_in code callable limit rs.functions has.functions names h below (omega (arith, x, y, z, le)) (omega (arith, e)) g)
+          branch code callable limit h h base else_at a b (op.Jump end ∷ c) (fits_test_in code callable limit rs.functions has.functions names h below (omega (arith, x, y, z, le)) (omega (arith, e)) (stands_left code.instrs base a (b ++ op.Jump end ∷ c) stands) g)
           (fits_all h (below_more n k names x below) typed (omega (arith, z, le)) (stands_left code.instrs (base + length a) b (op.Jump end ∷ c) rest) d) tail.0
           (omega (arith, e)) (omega (arith, e)) (tail.1 else_at (omega (arith, e)) ∙ ap third.height e ∙ third.first)
       fits_stmt h below typed le stands (while_code names test body at base n k m head out a b d g e f) =
@@ -236,7 +237,8 @@ module _ (code : Code) (callable limit : ℕ) where
           let inner : Plain code callable limit (base + 1 + 1) h b h = subst (λ p. Plain code callable limit p h b h) (sym place) (fits_all h below typed (omega (arith, y, le)) (stands_left code.instrs (base + 2) b (a ++ back) rest) d) in
           let turned : Plain code callable limit (base + 1) h (op.Turn ∷ b) h = plain_then code callable limit (base + 1) h h h (op.Turn ∷ []) b (fits_one code callable limit (base + 1) h h op.Turn (omega arith) (omega arith) refl tt tt tt tt) inner in
           let head_is : head ≡ base + 1 + length (op.Turn ∷ b) = omega (arith, e) in
-          let tested : Fits code callable limit (base + 1 + length (op.Turn ∷ b)) h a h out h = subst (λ p. Fits code callable limit p h a h out h) head_is (fits_test_in code callable limit rs.functions has.functions names h (below_more n k names x below) le (omega (arith, f)) g) in
+          let at_head_stands : StandsAt code.instrs head a = subst (λ p. StandsAt code.instrs p a) (sym e) (stands_left code.instrs (base + 2 + length b) a back (stands_right code.instrs (base + 2) b (a ++ back) rest)) in
+          let tested : Fits code callable limit (base + 1 + length (op.Turn ∷ b)) h a h out h = subst (λ p. Fits code callable limit p h a h out h) head_is (fits_test_in code callable limit rs.functions has.functions names h (below_more n k names x below) le (omega (arith, f)) at_head_stands g) in
           let loop = fits_then code callable limit (base + 1) h h h (base + 1 + length (op.Turn ∷ b)) h out h (op.Turn ∷ b) a turned tested (omega arith) tested.first (inl (omega arith)) (omega (arith, e, f)) in
           let size : length (b ++ a) ≡ length b + length a = length-append b a in
           let at_head : loop.0.height head ≡ h = loop.1 head (omega (arith, head_is)) ∙ ap tested.height head_is ∙ tested.first in
@@ -255,7 +257,7 @@ module _ (code : Code) (callable limit : ℕ) where
           let there : StandsAt code.instrs start (c ++ each_tail n turn out) = subst (λ p. StandsAt code.instrs p (c ++ each_tail n turn out)) behind (stands_right code.instrs (base + length a + length b) (each_head n t out) (c ++ each_tail n turn out) last) in
           let sized : IsSize t = meant_sized shape t e in
           fits_each code callable limit base h n (base + length a + length b) turn start out a b c t (omega (arith, x, y, z, le)) sized
-          (fits_in code callable limit rs.functions has.functions names h (below_more n (n + 3) names few below) (omega (arith, y, z, le)) g) (fits_in code callable limit rs.functions has.functions names (h + 1) (below_more n k names wide below) (omega (arith, z, le)) d)
+          (fits_in code callable limit rs.functions has.functions names h (below_more n (n + 3) names few below) (omega (arith, y, z, le)) (stands_left code.instrs base a (b ++ (each_head n t out ++ (c ++ each_tail n turn out))) stands) g) (fits_in code callable limit rs.functions has.functions names (h + 1) (below_more n k names wide below) (omega (arith, z, le)) (stands_left code.instrs (base + length a) b (each_head n t out ++ (c ++ each_tail n turn out)) rest) d)
           (fits_all h (local_below n j names text t (omega (arith, x, y)) below) (local_typed (n + 2) names text t sized typed) le (stands_left code.instrs start c (each_tail n turn out) there) q)
           refl f1 f2 f3 (subst (λ p. slice_get code.instrs p ≡ Some op.Turn) at_turn last.1.1.1.1.1.1.0)
       fits_stmt h below typed le stands (block_code names vars body at base n m code g) = fits_block h below typed le stands g
@@ -267,7 +269,7 @@ module _ (code : Code) (callable limit : ℕ) where
           let y = grows_block d in
           let sized : IsSize t = meant_sized shape t e in
           let wide : n ≤ n + 1 = omega arith in
-          plain_then code callable limit base h h h a b (fits_start names t n h sized (omega (arith, x, y, le)) (below_more n (n + 1) names wide below) (omega (arith, y, le)) g)
+          plain_then code callable limit base h h h a b (fits_start names t n h sized (omega (arith, x, y, le)) (below_more n (n + 1) names wide below) (omega (arith, y, le)) (stands_left code.instrs base a b stands) g)
           (fits_block h (cell_below n k names text t x below) (local_typed n names text t sized typed) le (stands_right code.instrs base a b stands) d)
       fits_block h below typed le stands (list_more names shape start vars body text place at base n k m a b t changes e g d) =
           let x = grows_list_start g in

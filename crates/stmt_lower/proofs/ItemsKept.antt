@@ -1,5 +1,5 @@
 -- The code that stores a list of items that are written out does what executing the assignment does.
-use Rattle.std.proofs.Common.{◌≡◌, ℕ, zero, suc, ◌+◌, ◌*◌, ◌≤◌, inr, ℤ, List, ◌++◌, length, refl, sym, ap, ◌∙◌, subst, Some, arith, length-append}
+use Rattle.std.proofs.Common.{◌≡◌, ℕ, zero, suc, ◌+◌, ◌*◌, ◌≤◌, inr, ℤ, List, ◌∷◌, ◌++◌, length, refl, sym, ap, ◌∙◌, subst, None, Some, arith, length-append}
 use Rattle.std.specs.Prelude.{slice_get}
 use Rattle.rvc_base.specs.declared.scalar.Scalar.{Scalar}
 use Rattle.cal_ast.specs.Tree as tree
@@ -10,26 +10,28 @@ use Rattle.cal_model.specs.Env.{Env, assign}
 use Rattle.cal_model.specs.Expression.{eval, eval_all}
 use Rattle.cal_model.specs.Statement.{Runs, exec}
 use Rattle.code_ir.specs.declared.instr.Instr.{Instr}
+use Rattle.code_ir.specs.declared.instr.Instr.TheVariants as op
 use Rattle.code_ir.specs.Running.{State}
 use Rattle.expr_lower.specs.declared.names.Seat.TheVariants.{Cell}
 use Rattle.expr_lower.specs.Flat.{flat, flat_all}
 use Rattle.expr_lower.specs.Following.{Follows, CutsOff}
-use Rattle.expr_lower.specs.Held.{SeatIsBelow, StandAt}
+use Rattle.expr_lower.specs.Held.{AreApart, SeatIsBelow, StandAt}
 use Rattle.expr_lower.specs.Names.{Name, named}
 use Rattle.expr_lower.specs.Parted.{number_of}
-use Rattle.expr_lower.specs.Placed.{World, state}
+use Rattle.expr_lower.specs.Placed.{StandsAt, World, state}
 use Rattle.stmt_lower.specs.Stating.{IsKept, copy_code, no_place, place_more}
 use Rattle.stmt_lower.proofs.Copying.{AllSingle, Stores, copies, puts_list, stores_run}
 use Rattle.stmt_lower.proofs.DeepItems.{AreKept, AtKept, grows_kept, keep}
+use Rattle.expr_lower.proofs.Coded.{grows}
 use Rattle.expr_lower.proofs.Listing.{first_of_two}
 use Rattle.stmt_lower.proofs.Performing.{Moves, Performs, cut_breaks, keeps_but, move_after, moves_at}
 use Rattle.expr_lower.proofs.Runs.{follows_both, follows_then, stands_left, stands_right}
 use Rattle.expr_lower.proofs.Written.{Written}
-use Rattle.stmt_lower.proofs.Scoping.{inside_still, laid_below, laid_typed, AreLaid, HoldsInside}
+use Rattle.stmt_lower.proofs.Scoping.{inside_still, laid_below, laid_more, laid_typed, AreLaid, HoldsInside}
 use Rattle.expr_lower.proofs.Singles.{IsSingleValue}
 use Rattle.stmt_lower.specs.Procedures.{Routines}
 use Rattle.expr_lower.specs.Calling.{Serves}
-use Rattle.stmt_lower.proofs.Evaluating.{singles_there}
+use Rattle.stmt_lower.proofs.Evaluating.{may, singles_there}
 use Rattle.stmt_lower.specs.Bodies.{CutShort}
 
 -- what is kept stands in the cells
@@ -45,14 +47,18 @@ kept_stands c (Cons u us) tokens cells h (suc j) z e =
     subst (λ d. slice_get cells d ≡ Some z) same (kept_stands (c + 1) us tokens cells h.3 j z (sym later ∙ e))
 
 -- each item gives a single value
-kept_singles : (rs : Routines) (outer : List Name) (w : World) (serves : Serves w outer rs.functions) (frames : List ℕ) (inner : List Name) (cells : List ℤ) (env : Env) (k : ℕ) → AreLaid rs outer w.tokens w.low w.high k inner → HoldsInside rs outer w.tokens w.low w.high inner cells env
-    → {c : ℕ} {items : Tree} {base n m : ℕ} {code : List Instr} → IsKept rs.functions (inner ++ outer) c items base n code m → (left : ℕ) → Follows (eval_all items w.calls env left) (λ us h. AllSingle us) (λ d. Unit {0})
-kept_singles rs outer w serves frames inner cells env k laid holds (no_place c base n) left = tt
-kept_singles rs outer w serves frames inner cells env e laid holds (place_more place places c base n k m a b g d) left =
+kept_singles : (rs : Routines) (outer : List Name) (w : World) (serves : Serves w outer rs.functions) (frames : List ℕ) (inner : List Name) (cells : List ℤ) (env : Env) (f h : ℕ) → AreLaid rs outer w.tokens w.low w.high f inner → HoldsInside rs outer w.tokens w.low w.high inner cells env
+    → AreApart f h w.low w.high → h ≤ length cells
+    → {c : ℕ} {items : Tree} {base n m : ℕ} {code : List Instr} → IsKept rs.functions (inner ++ outer) c items base n code m → f ≤ n → m ≤ h → StandsAt w.code.instrs base code → (left : ℕ) → Follows (eval_all items w.calls env left) (λ us h. AllSingle us) (λ d. Unit {0})
+kept_singles rs outer w serves frames inner cells env f h laid holds apart room (no_place c base n) up to stands left = tt
+kept_singles rs outer w serves frames inner cells env f h laid holds apart room (place_more place places c base n k m a b g d) up to stands left =
+    let x = grows g in let y = grows_kept d in
+    let i : Instr = op.Store c None in
+    let rest = stands_right w.code.instrs base a (i ∷ b) stands in
     follows_then (eval place w.calls env left) (λ v j. and_then (eval_all places w.calls env j) (λ vs h. Gives (Cons v vs) h)) (λ v j. IsSingleValue v) (λ c. Unit {0}) (λ us h. AllSingle us) (λ c. Unit {0})
-    (singles_there rs outer w serves frames inner g cells env left e laid holds)
+    (singles_there rs outer w serves frames inner g cells env left (stands_left w.code.instrs base a (i ∷ b) stands) (laid_more rs outer w.tokens w.low w.high f n inner up laid) holds (may w f h n k cells cells up (omega (arith, y, to)) apart room refl))
     (λ v j one. follows_then (eval_all places w.calls env j) (λ vs h. Gives (Cons v vs) h) (λ vs h. AllSingle vs) (λ e. Unit {0}) (λ us h. AllSingle us) (λ e. Unit {0})
-    (kept_singles rs outer w serves frames inner cells env e laid holds d j) (λ vs h rest. (one, rest)) (λ c t. tt))
+    (kept_singles rs outer w serves frames inner cells env f h laid holds apart room d (omega (arith, up, x)) to rest.1 j) (λ vs h rest. (one, rest)) (λ c t. tt))
     (λ e t. tt)
 
 module _ (rs : Routines) (outer : List Name) (w : World) (serves : Serves w outer rs.functions) (frames : List ℕ) (runs : Runs) where
@@ -75,7 +81,7 @@ module _ (rs : Routines) (outer : List Name) (w : World) (serves : Serves w oute
       (λ v h. (us : Values) × (v ≡ Items us) × AtKept w n m (number_of items) s (base + length a) us h × AllSingle us) (CutsOff w n m s)
       (follows_both (eval_all items w.calls env left) (AtKept w n m (number_of items) s (base + length a)) (CutsOff w n m s) (λ us h. AllSingle us) (λ d. Unit {0})
       (keep rs outer w serves frames inner env (omega (arith, number)) coded stack cells left (stands_left w.code.instrs base a last stands) laid apart room holds)
-      (kept_singles rs outer w serves frames inner cells env n laid holds coded left))
+      (kept_singles rs outer w serves frames inner cells env n m laid holds apart room coded (omega arith) (omega arith) (stands_left w.code.instrs base a last stands) left))
       (λ us h q. (us, refl, q.0, q.1)) (λ d q. q.0))
       (λ v h q.
       let us : Values = q.0 in

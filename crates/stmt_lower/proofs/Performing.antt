@@ -15,7 +15,7 @@ use Rattle.expr_lower.specs.Names.{Name, named}
 use Rattle.expr_lower.specs.Held.{Keeps, SeatIsApart, AreApart}
 use Rattle.expr_lower.specs.Coding.{IsTest}
 use Rattle.expr_lower.specs.Placed.{StandsAt, World, state}
-use Rattle.expr_lower.specs.Following.{Follows, Chooses, CutsOff}
+use Rattle.expr_lower.specs.Following.{Follows, MayUse, Chooses, CutsOff}
 use Rattle.expr_lower.proofs.Runs.{reaches_join, ends_join, obeys, follows_then, follows_more, stands_left, stands_right}
 use Rattle.expr_lower.proofs.Keeping.{apart_first, apart_last}
 use Rattle.expr_lower.proofs.Written.{Written}
@@ -167,14 +167,14 @@ module _ (rs : Routines) (outer : List Name) (w : World) (serves : Serves w oute
 
   -- a condition, and what follows it
   pub test_moves : (inner : List Name) (M N : Env → ℕ → Out Env) (test : Tree) (base from n k m there end : ℕ) (a : List Instr) (stack cells : List ℤ) (env : Env) (left : ℕ) → from ≤ n → k ≤ m
-      → IsTest rs.functions (inner ++ outer) test base n there a k → StandsAt w.code.instrs base a → AreLaid rs outer w.tokens w.low w.high n inner → HoldsInside rs outer w.tokens w.low w.high inner cells env
+      → IsTest rs.functions (inner ++ outer) test base n there a k → StandsAt w.code.instrs base a → AreLaid rs outer w.tokens w.low w.high n inner → HoldsInside rs outer w.tokens w.low w.high inner cells env → MayUse w n k cells
       → ((now : List ℤ) (j : ℕ) → length now ≡ length cells → j ≤ left → HoldsInside rs outer w.tokens w.low w.high inner now env → Follows (M env j) (Moves inner from m (state (base + length a) stack frames now j) end (length env.locals)) (CutShort w (inner ++ outer) outer from m (state (base + length a) stack frames now j)))
       → ((now : List ℤ) (j : ℕ) → length now ≡ length cells → j ≤ left → HoldsInside rs outer w.tokens w.low w.high inner now env → Follows (N env j) (Moves inner from m (state there stack frames now j) end (length env.locals)) (CutShort w (inner ++ outer) outer from m (state there stack frames now j)))
       → Follows (and_then (eval test w.calls env left) (λ v j. chosen v (λ i. M env i) (λ i. N env i) j)) (Moves inner from m (state base stack frames cells left) end (length env.locals)) (CutShort w (inner ++ outer) outer from m (state base stack frames cells left))
-  test_moves inner M N test base from n k m there end a stack cells env left le ge coded stands laid holds first other =
+  test_moves inner M N test base from n k m there end a stack cells env left le ge coded stands laid holds usable first other =
       let s : State = state base stack frames cells left in
       follows_then (eval test w.calls env left) (λ v j. chosen v (λ i. M env i) (λ i. N env i) j) (Chooses w n k s (base + length a) there) (CutsOff w n k s) (Moves inner from m s end (length env.locals)) (CutShort w (inner ++ outer) outer from m s)
-      (tests_there rs outer w serves frames inner coded stack cells env left stands laid holds)
+      (tests_there rs outer w serves frames inner coded stack cells env left stands laid holds usable)
       (λ v j c.
       let less : j ≤ left = reaches_fewer c.reaches in
       choose_moves inner M N base from n k m (base + length a) there end stack cells env left v j le ge laid holds c (λ now size h. first now j size less h) (λ now size h. other now j size less h))

@@ -33,7 +33,7 @@ use Rattle.expr_lower.proofs.Called.{ArePut, Piles, put_all}
 use Rattle.expr_lower.proofs.GivenKinds.{routine_keeps}
 use Rattle.expr_lower.proofs.Keeping.{flat_length, keeps_join, scalars_same}
 use Rattle.expr_lower.proofs.Runs.{ends_join, follows_then, obeys, reaches_join, stands_left, stands_right}
-use Rattle.stmt_lower.proofs.Evaluating.{GlobalsHeld, args_there, globals_held}
+use Rattle.stmt_lower.proofs.Evaluating.{GlobalsHeld, args_there, globals_held, may}
 use Rattle.stmt_lower.proofs.Performing.{Moves, Performs, but_join, cut_breaks, keeps_but}
 use Rattle.stmt_lower.proofs.Scoping.{AreLaid, HoldsInside, inside_still, outer_below}
 use Rattle.stmt_lower.specs.Bodies.{CutShort, KeepsOver, SeatLies}
@@ -122,7 +122,7 @@ module _ (rs : Routines) (outer : List Name) (w : World) (serves : Serves w oute
   run_performs inner text args place at base n m code p e coded stack cells env left stands laid apart room holds =
       follows_then (eval_all args w.calls env left) (λ vs j. turn j (λ k. and_then (runs env.globals text vs k) (λ globals i. Gives (record env { globals = globals }) i)))
       (Piles w n m (number_of args) s (base + length code)) (CutsOff w n m s) (Moves rs outer w serves frames inner n m s end (length env.locals)) (CutShort w (inner ++ outer) outer n m s)
-      (args_there rs outer w serves frames inner coded stack cells env left (stands_left w.code.instrs base code (run_code p) stands) laid holds some)
+      (args_there rs outer w serves frames inner coded stack cells env left (stands_left w.code.instrs base code (run_code p) stands) laid holds (may w n m n m cells cells (omega arith) (omega arith) apart room refl) some)
       (λ vs j q. turned vs j q)
       (λ c t. cut_breaks rs outer w serves frames (inner ++ outer) n n m m s c (omega arith) (omega arith) t)
     where

@@ -38,6 +38,7 @@ use Rattle.stmt_lower.specs.Changing.{AreTyped, HoldsVars, IsOfNone, KeepsBut, N
 use Rattle.stmt_lower.specs.Executing.{BreaksOff}
 use Rattle.stmt_lower.specs.Proceeding.{AreProcRoutines, IsProcBody, IsProcRoutine, ProcSized, local_list, local_more, no_local, no_procedure, procedure_more}
 use Rattle.stmt_lower.specs.Procedures.{Procedure, Routines, procedure_named}
+use Rattle.stmt_lower.proofs.Evaluating.{may}
 use Rattle.stmt_lower.proofs.Blocking.{Started, start_moves, then_then}
 use Rattle.stmt_lower.proofs.Executed.{grows_all, grows_start, performs_all}
 use Rattle.stmt_lower.specs.ListStarting.{IsListStart, local_of}
@@ -150,7 +151,7 @@ module _ (rs : Routines) (outer : List Name) (w : World) (serves : Serves w oute
       (subst (λ (o : Out (List Var)). Follows o (Finishes from m s) (BreaksOff w outer from m s)) (sym (then_then (first_value (Single kind) x.start w.calls env left) (λ v j. declared xs w.calls (with_local (variable x.name (Single kind) x.changes v) env) j) (λ now i. and_then (exec_all body w.calls runs now i) (λ last q. Gives last.globals q))))
       (subst (λ (o : Out Value). Follows (and_then o (λ v j. ends_proc body xs (with_local (variable x.name (Single kind) x.changes v) env) j)) (Finishes from m s) (BreaksOff w outer from m s)) (first_same (Single kind) x.start w.calls env left)
       (follows_then (first_of (Single kind) (optional x.start) w.calls env left) (λ v j. ends_proc body xs (with_local (variable x.name (Single kind) x.changes v) env) j) (Started rs outer w serves open_frames runs kind n k s (base + length a)) (CutShort w (inner ++ outer) outer n k s) (Finishes from m s) (BreaksOff w outer from m s)
-      (start_moves rs outer w serves open_frames runs inner kind n (sizes.0 kind shape) up (subst (λ ns. IsStart rs.functions ns kind n (optional x.start) base (n + 1) a k) is first) stack cells env left (stands_left w.code.instrs base a b stands) laid (omega (arith, room, up, more)) holds)
+      (start_moves rs outer w serves open_frames runs inner kind n (sizes.0 kind shape) up (subst (λ ns. IsStart rs.functions ns kind n (optional x.start) base (n + 1) a k) is first) stack cells env left (stands_left w.code.instrs base a b stands) laid (omega (arith, room, up, more)) holds (may w n m (n + 1) k cells cells (omega arith) more apart room refl))
       (λ v j p.
       let var : Var = variable x.name (Single kind) x.changes v in
       let size_same = p.keeps.size in

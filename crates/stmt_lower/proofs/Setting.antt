@@ -34,7 +34,7 @@ use Rattle.expr_lower.proofs.Written.{Written, stand_one}
 use Rattle.stmt_lower.proofs.Scoping.{AreLaid, HoldsInside, NewAt, Assigned, PutsAt, laid_typed, laid_more, names_held, inside_still, assigns}
 use Rattle.code_ir.proofs.Marks.{get-other}
 use Rattle.expr_lower.proofs.Coded.{grows}
-use Rattle.stmt_lower.proofs.Evaluating.{does_there, singles_there}
+use Rattle.stmt_lower.proofs.Evaluating.{does_there, may, singles_there}
 use Rattle.stmt_lower.proofs.Performing.{Moves, Performs, cut_breaks, breaks_after, but_written, but_wider, but_join, keeps_but}
 use Rattle.stmt_lower.specs.Procedures.{Routines}
 use Rattle.expr_lower.specs.Calling.{Serves}
@@ -115,8 +115,8 @@ module _ (rs : Routines) (outer : List Name) (w : World) (serves : Serves w oute
       let size : IsSize t = shape_size x.shape (Single t) shape (laid_typed rs outer w.tokens w.low w.high n inner laid text x e) in
       follows_then (eval value w.calls env left) (λ v k. assign env text Nil v k) (λ v k. Pushes w n m s (base + length code) v k × IsSingleValue v) (λ d. CutsOff w n m s d × Unit {0}) (Moves rs outer w serves frames inner n m s (base + length (code ++ i ∷ [])) (length env.locals)) (CutShort w names outer n m s)
       (follows_both (eval value w.calls env left) (Pushes w n m s (base + length code)) (CutsOff w n m s) (λ v k. IsSingleValue v) (λ d. Unit {0})
-      (does_there rs outer w serves frames inner coded stack cells env left (stands_left w.code.instrs base code (i ∷ []) stands) laid holds)
-      (singles_there rs outer w serves frames inner coded cells env left n laid holds))
+      (does_there rs outer w serves frames inner coded stack cells env left (stands_left w.code.instrs base code (i ∷ []) stands) laid holds (may w n m n m cells cells (omega arith) (omega arith) apart room refl))
+      (singles_there rs outer w serves frames inner coded cells env left (stands_left w.code.instrs base code (i ∷ []) stands) laid holds (may w n m n m cells cells (omega arith) (omega arith) apart room refl)))
       (λ v k q.
       let p : Pushes w n m s (base + length code) v k = q.0 in
       let now : Inside inner p.cells env = inside_still rs outer w.tokens w.low w.high n m inner cells p.cells env laid p.keeps holds in
@@ -298,7 +298,7 @@ module _ (rs : Routines) (outer : List Name) (w : World) (serves : Serves w oute
       follows_then (eval_all (tree.cons spot tree.nil) w.calls env left) (λ is h. and_then (eval value w.calls env h) (λ v j. assign env text is v j))
       (λ is h. (u : Value) × (is ≡ Cons u Nil) × Pushes w n k s (base + length a) u h) (CutsOff w n k s) (Moves rs outer w serves frames inner n m s (base + length (a ++ (b ++ i ∷ []))) (length env.locals)) (CutShort w names outer n m s)
       (follows_then (eval spot w.calls env left) (λ u h. Gives (Cons u Nil) h) (Pushes w n k s (base + length a)) (CutsOff w n k s) (λ is h. (u : Value) × (is ≡ Cons u Nil) × Pushes w n k s (base + length a) u h) (CutsOff w n k s)
-      (does_there rs outer w serves frames inner first stack cells env left (stands_left w.code.instrs base a (b ++ i ∷ []) stands) laid holds)
+      (does_there rs outer w serves frames inner first stack cells env left (stands_left w.code.instrs base a (b ++ i ∷ []) stands) laid holds (may w n m n k cells cells (omega arith) ge apart room refl))
       (λ u h p. (u, refl, p)) (λ d q. q))
       (λ is h q.
       let u : Value = q.0 in
@@ -309,8 +309,8 @@ module _ (rs : Routines) (outer : List Name) (w : World) (serves : Serves w oute
       subst (λ (us : Values). Follows (and_then (eval value w.calls env h) (λ v j. assign env text us v j)) (Moves rs outer w serves frames inner n m s (base + length (a ++ (b ++ i ∷ []))) (length env.locals)) (CutShort w names outer n m s)) (sym q.1)
       (follows_then (eval value w.calls env h) (λ v j. assign env text (Cons u Nil) v j) (λ v j. Pushes w k m r (base + length a + length b) v j × IsSingleValue v) (λ d. CutsOff w k m r d × Unit {0}) (Moves rs outer w serves frames inner n m s (base + length (a ++ (b ++ i ∷ []))) (length env.locals)) (CutShort w names outer n m s)
       (follows_both (eval value w.calls env h) (Pushes w k m r (base + length a + length b)) (CutsOff w k m r) (λ v j. IsSingleValue v) (λ d. Unit {0})
-      (does_there rs outer w serves frames inner second (p.number ∷ stack) p.cells env h (stands_left w.code.instrs (base + length a) b (i ∷ []) rest) wider still)
-      (singles_there rs outer w serves frames inner second p.cells env h k wider still))
+      (does_there rs outer w serves frames inner second (p.number ∷ stack) p.cells env h (stands_left w.code.instrs (base + length a) b (i ∷ []) rest) wider still (may w n m k m cells p.cells le (omega arith) apart room p.keeps.size))
+      (singles_there rs outer w serves frames inner second p.cells env h (stands_left w.code.instrs (base + length a) b (i ∷ []) rest) wider still (may w n m k m cells p.cells le (omega arith) apart room p.keeps.size)))
       (λ v j both.
       let o : Pushes w k m r (base + length a + length b) v j = both.0 in
       item_stores inner n m base (base + length a + length b) (base + length (a ++ (b ++ i ∷ []))) c size text x t stack cells o.cells u v p.number o.number env left j there end (omega arith) laid e seat shape sized

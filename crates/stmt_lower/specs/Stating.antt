@@ -17,7 +17,7 @@ use Rattle.expr_lower.specs.Starting.{IsStart}
 use Rattle.expr_lower.specs.Coding.{AreArgs, IsCode, IsTest, formal_stores}
 use Rattle.expr_lower.specs.Listed.{list_named}
 use Rattle.list_lower.specs.Filling.{IsFill}
-use Rattle.list_lower.specs.Meant.{single_meant}
+use Rattle.expr_lower.specs.Meant.{single_meant}
 use Rattle.list_lower.specs.ShapeMeant.{shape_meant}
 use Rattle.stmt_lower.specs.ListStarting.{IsListStart, local_of}
 use Rattle.stmt_lower.specs.Procedures.{Procedure, Routines, procedure_for}

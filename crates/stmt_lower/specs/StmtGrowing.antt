@@ -12,7 +12,7 @@ use Rattle.stmt_lower.specs.Targets.{cell_named, cells_named}
 use Rattle.expr_lower.specs.Growing.{left_out_args, left_out_in, ◌or_else◌}
 use Rattle.expr_lower.specs.Listed.{list_named}
 use Rattle.expr_lower.specs.Names.{local, Name}
-use Rattle.list_lower.specs.Meant.{single_meant}
+use Rattle.expr_lower.specs.Meant.{single_meant}
 use Rattle.list_lower.specs.LeftOut.{left_out_fill}
 use Rattle.list_lower.specs.ShapeMeant.{shape_meant}
 use Rattle.stmt_lower.specs.ListStarting.{left_out_list_start, local_of}

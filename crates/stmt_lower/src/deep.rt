@@ -17,7 +17,8 @@ use crate::targets::deep_cells;
 use cal_ast::{Expr, Ident};
 use cal_model::Shape;
 use code_ir::Instr;
-use expr_lower::{Draft, LowerFault, lower, put, put_all, scalars, whole_called};
+use expr_lower::{Draft, LowerFault, put, put_all, scalars, whole_called};
+use list_lower::lower;
 
 /// Appends an assignment to an item of a list in lists: its places and the value, each of which is kept, the tests of
 /// the places, and the instruction that stores the value.

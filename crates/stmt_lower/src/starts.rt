@@ -18,8 +18,8 @@ use crate::targets::leaf_of;
 use cal_ast::Expr;
 use cal_model::{BoundLocal, Shape};
 use code_ir::Instr;
-use expr_lower::{Draft, LowerFault, Scope, put, scalars, single, start, take_cell};
-use list_lower::fill;
+use expr_lower::{Draft, LowerFault, Scope, put, scalars, single, take_cell};
+use list_lower::{fill, start};
 use rvc_base::Scalar;
 
 /// The cells of a list: the first of them, and how many there are.

@@ -3,7 +3,7 @@
 ghost use Rattle.std.specs.Prelude.{◌≡◌, ◌∷◌, ℕ, IfErr, None, OnOk, Some, string_bytes};
 ghost use Rattle.cal_ast.specs.View.{stmt_tree, type_tree};
 ghost use Rattle.cal_model.specs.View.{shape_view};
-ghost use Rattle.list_lower.specs.Meant.{single_meant};
+ghost use Rattle.expr_lower.specs.Meant.{single_meant};
 ghost use Rattle.stmt_lower.specs.Bodies.{AddsCalling, AreWholeCalling, IsFaultCalling};
 ghost use Rattle.stmt_lower.specs.Changing.{AreTyped, NamesApart};
 ghost use Rattle.expr_lower.specs.Held.{AreBelow};
@@ -30,10 +30,9 @@ use cal_ast::{Expr, ExprForm, Ident, Stmt, StmtForm, TypeExpr, VarDecl};
 use cal_model::Shape;
 use code_ir::Instr;
 use expr_lower::{
-    Callee, Draft, Frame, LowerFault, Named, close, link, lower, lower_args, lower_test,
-    next_place, put, put_all, start, take_cell,
+    Callee, Draft, Frame, LowerFault, Named, close, link, next_place, put, put_all, take_cell,
 };
-use list_lower::{shape_meant, single_meant};
+use list_lower::{lower, lower_args, lower_test, shape_meant, single_meant, start};
 use rvc_base::Scalar;
 
 /// Appends code that executes a statement.
@@ -462,7 +461,7 @@ fn behind(
 ///
 /// Code is made for assignments to variables of single values, to items of lists of them at any depth, and to whole
 /// lists, `if`, `while`, and `foreach` and blocks whose types are written without names, over the expressions for which
-/// [`lower_expr`](expr_lower::lower_expr) or, of lists, [`lower_list`](list_lower::lower_list) makes code. The variables
+/// [`lower_expr`](list_lower::lower_expr) or, of lists, [`lower_list`](list_lower::lower_list) makes code. The variables
 /// of a block may be lists at any depth. A `foreach` uses three cells more, a variable of a block one for each of its
 /// numbers, an item of lists in lists one for each of its places and one for its value, and a list that isn't copied
 /// from a name one for each of its numbers, beside those of its generators; they are added to the draft.

@@ -1,5 +1,6 @@
-use Rattle.std.proofs.Common.{◌≡◌, ◌∙◌, ap, map, subst, sym}
-use Rattle.std.proofs.lemmas.Result.{IfErr-weaker, IfOk-weaker, on_ok_weaker}
+use Rattle.std.specs.Prelude.{OnOk}
+use Rattle.std.proofs.Common.{◌≡◌, ◌∙◌, None, ap, map, subst, sym}
+use Rattle.std.proofs.lemmas.Result.{IfErr-weaker, IfOk-weaker}
 use Rattle.cal_ast.specs.View.{expr_tree}
 use Rattle.cal_model.specs.View.{action_view, actor_of}
 use Rattle.expr_lower.specs.Callees.{functions_view}
@@ -43,7 +44,7 @@ returns-clause-answers c =
     let guards : map expr_tree c.deref-2.result.now ≡ (action_view c.index-act.result.now).guards = ap (map expr_tree) c.deref-2.ensures.value in
     IfOk-weaker c.put_guards.result
     (λ entries. Adds (AreGuards (functions_view c.args.callees.now) (names_view c.deref.result.now) (map expr_tree c.deref-2.result.now) entries.items) c.args.draft.now c.put_guards.new.draft)
-    (λ entries. AnswerAsGuards (functions_view c.args.callees.now) (actor_of c.args.b.now) c.args.a entries.items c.put_guards.new.draft)
+    (λ entries. AnswerAsGuards (functions_view c.args.callees.now) (actor_of c.args.b.now) c.args.a entries.items c.args.draft.now c.put_guards.new.draft)
     (λ entries added act code more is whole. answer-as-guards c.actions_fire_or_trap.ensures.guards (functions_view c.args.callees.now) (actor_of c.args.b.now) c.args.a act code entries.items more c.args.draft.now c.put_guards.new.draft c.requires.sound is c.requires.cells
     (adds-guards c.args.b.now c.args.a c.from.result c.index-act.result.now c.from.ensures c.requires.action c.index-act.ensures
     (functions_view c.args.callees.now) (names_view c.deref.result.now) (map expr_tree c.deref-2.result.now) names guards entries.items c.args.draft.now c.put_guards.new.draft added act is) whole)
@@ -53,10 +54,9 @@ pub returns-clause-whole : goal.returns-clause-whole
 returns-clause-whole c =
     let names : names_view c.deref.result.now ≡ seen_seats (actor_of c.args.b.now) (action_view c.index-act.result.now) = ap names_view c.deref.ensures.value ∙ c.in_ok-names.ensures in
     let guards : map expr_tree c.deref-2.result.now ≡ (action_view c.index-act.result.now).guards = ap (map expr_tree) c.deref-2.ensures.value in
-    on_ok_weaker c.put_guards.result
-    (λ e. left-out c.args.b.now c.args.a c.from.result c.index-act.result.now c.from.ensures c.requires.action c.index-act.ensures
-    (functions_view c.args.callees.now) (names_view c.deref.result.now) (map expr_tree c.deref-2.result.now) names guards ∙ e)
-    c.put_guards.ensures.whole
+    let e = left-out c.args.b.now c.args.a c.from.result c.index-act.result.now c.from.ensures c.requires.action c.index-act.ensures
+    (functions_view c.args.callees.now) (names_view c.deref.result.now) (map expr_tree c.deref-2.result.now) names guards in
+    subst (λ o. OnOk c.put_guards.result (o ≡ None)) (sym e) c.put_guards.ensures.whole
 
 pub returns-clause-fault : goal.returns-clause-fault
 returns-clause-fault c =

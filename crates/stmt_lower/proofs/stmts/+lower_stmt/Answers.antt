@@ -12,7 +12,7 @@ use Rattle.expr_lower.specs.Growing.{IsFault}
 use Rattle.code_ir.specs.declared.instr.Instr.TheVariants as op
 use Rattle.stmt_lower.specs.declared.counter.Counter.{Counter}
 use Rattle.stmt_lower.specs.Stating.{AreStmts, IsBlock, IsStmt, block_code, each_next, no_more}
-use Rattle.list_lower.specs.Meant.{single_meant}
+use Rattle.expr_lower.specs.Meant.{single_meant}
 use Rattle.list_lower.specs.ShapeMeant.{shape_meant}
 use Rattle.stmt_lower.specs.StmtSeen.{called, seen}
 use Rattle.stmt_lower.specs.SeenStmts.{AddsBlock, AddsStmt, AreWhyNot, IsWhyNot, behind, left_out_block}

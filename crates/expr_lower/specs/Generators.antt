@@ -1,0 +1,63 @@
+-- Generators of comprehensions as they are written.
+-- Trusted: part of what a promise means.
+use Rattle.std.specs.Prelude.{◌≡◌, ℕ, ◌*◌, ◌^◌, ℤ, pos, neg_ℤ, nat_lt, int_lt, if◌then◌else◌, List, Option, None, Some}
+use Rattle.rvc_base.specs.declared.scalar.Scalar.{Scalar}
+use Rattle.rvc_base.specs.Width.{is_num}
+use Rattle.cal_ast.specs.declared.expr.PrefixOp.{PrefixOp}
+use Rattle.cal_ast.specs.declared.expr.PrefixOp.TheVariants.{Neg}
+use Rattle.cal_ast.specs.Tree as tree
+use Rattle.cal_ast.specs.Tree.{Tree}
+use Rattle.cal_model.specs.Expression.{span}
+use Rattle.expr_lower.specs.Meant.{single_meant}
+
+-- the number that is written, if it is a literal, with a minus sign before it or without one
+abbrev pub literal_of : Tree → Option ℤ
+literal_of (tree.number k at) = if is_num (pos k) then Some (pos k) else None
+literal_of other = None
+
+abbrev pub negative_of : PrefixOp → Tree → Option ℤ
+negative_of Neg (tree.number k at) = if is_num (pos k) then Some (neg_ℤ (pos k)) else None
+negative_of o e = None
+
+abbrev pub bound_of : Tree → Option ℤ
+bound_of (tree.prefix o e at) = negative_of o e
+bound_of other = literal_of other
+
+-- a variable, its type, and the numbers that it is: all from the first to the last
+pub record Counted : Type 0 where
+  pub text : List ℕ
+  pub kind : Scalar
+  pub low : ℤ
+  pub high : ℤ
+
+-- .. if there is one number at least
+abbrev pub counted : List ℕ → Option Scalar → Option ℤ → Option ℤ → Option Counted
+counted text (Some t) (Some low) (Some high) = if int_lt high low then None
+    else Some (record { text = text; kind = t; low = low; high = high })
+counted text t low high = None
+
+-- what a generator counts, if its type and its bounds are written out
+abbrev pub counted_by : Tree → Option Counted
+counted_by (tree.gen shape (tree.ident text place) from to at) =
+    counted text (single_meant shape) (bound_of from) (bound_of to)
+counted_by other = None
+
+-- how many numbers there are from the first to the last, if 32 bits hold that
+abbrev pub spanned : ℤ → ℤ → Option ℕ
+spanned low high = if nat_lt (span low high) (2 ^ 32) then Some (span low high) else None
+
+abbrev pub times : Option ℕ → Option ℕ → Option ℕ
+times (Some a) (Some b) = if nat_lt (a * b) (2 ^ 32) then Some (a * b) else None
+times a b = None
+
+-- how many elements generators make, if 32 bits hold this number and that of each generator
+abbrev pub how_many : Tree → Option ℕ
+how_many tree.nil = Some 1
+how_many (tree.cons g gens) = elim (counted_by g)
+    [ None ↦ None | Some x ↦ times (spanned x.low x.high) (how_many gens) ]
+how_many other = None
+
+-- each of these generators counts
+abbrev pub AllCount : Tree → Type 0
+AllCount (tree.cons g gens) = ((x : Counted) × (counted_by g ≡ Some x)) × AllCount gens
+AllCount other = Unit {0}

@@ -1,0 +1,179 @@
+//! Lists that are filled apart, since an index is put on them.
+
+ghost use Rattle.std.specs.Prelude.{◌≡◌, IfErr, IfOk};
+ghost use Rattle.cal_ast.specs.Tree as tree;
+ghost use Rattle.cal_ast.specs.View.{expr_tree};
+ghost use Rattle.cal_model.specs.Value.{Many};
+ghost use Rattle.cal_model.specs.View.{shape_view};
+ghost use Rattle.expr_lower.specs.declared.fault.LowerFault.TheVariants.{Memory};
+ghost use Rattle.expr_lower.specs.Growing.{one, unless_none};
+ghost use Rattle.expr_lower.specs.ItemsSeen.{few, first_seen, items_at, items_seen};
+ghost use Rattle.expr_lower.specs.Parted.{sized};
+ghost use Rattle.expr_lower.specs.PartView.{places_of};
+ghost use Rattle.expr_lower.specs.Seen.{seen};
+ghost use Rattle.list_lower.specs.FillWords.{comp_of, list_of};
+
+use crate::generators::how_many;
+use cal_ast::{Expr, ExprForm, Gen};
+use cal_model::Shape;
+use expr_lower::{LowerFault, Scope, scalars, whole_called};
+use rvc_base::Scalar;
+use std::alloc::{AllocError, Global};
+
+/// The type of so many items of a type.
+///
+/// # Errors
+///
+/// `Memory` if memory runs out.
+pub(crate) fn list_type(alloc: Global, count: u32, items: Shape) -> Result<Shape, LowerFault>
+    ensures made { IfOk result (λ t. shape_view t ≡ Many count (shape_view items)) }
+    ensures memory { IfErr result (λ fault. fault ≡ Memory) }
+{
+    Ok(Shape::List(count, Box::new(alloc, items)?))
+}
+
+/// The type of so many items of a type that is copied.
+///
+/// # Errors
+///
+/// `Memory` if memory runs out.
+pub(crate) fn list_like(alloc: Global, count: u32, items: &Shape) -> Result<Shape, LowerFault>
+    ensures made { IfOk result (λ t. shape_view t ≡ Many count (shape_view items.now)) }
+    ensures memory { IfErr result (λ fault. fault ≡ Memory) }
+{
+    let items = copy_shape(alloc, items)?;
+    list_type(alloc, count, items)
+}
+
+/// A type, copied.
+fn copy_shape(alloc: Global, t: &Shape) -> Result<Shape, AllocError>
+    ensures { IfOk result (λ copy. shape_view copy ≡ shape_view t.now) }
+{
+    match t {
+        Shape::Scalar(kind) => Ok(Shape::Scalar(*kind)),
+        Shape::List(size, items) => {
+            let items = copy_shape(alloc, items)?;
+            Ok(Shape::List(*size, Box::new(alloc, items)?))
+        }
+    }
+}
+
+/// How many numbers a type has, if there are some and 32 bits hold this number and that of each part of it.
+pub(crate) fn some_scalars(t: &Shape) -> Option<u32>
+    ensures { result ≡ unless_none (sized (shape_view t.now)) }
+{
+    let size = scalars(t)?;
+    if size == 0 { None } else { Some(size) }
+}
+
+/// A type of single values. Which one it is doesn't matter where cells are filled.
+pub(crate) fn one_type() -> Shape
+    ensures { shape_view result ≡ one }
+{
+    Shape::Scalar(Scalar::Bool)
+}
+
+/// How many items the list has that an expression gives, once so many indexes are put on it, if that is seen.
+#[cycle(items_seen)]
+pub(crate) fn items_seen(scope: &Scope, e: &Expr, depth: u32) -> Option<u32>
+    ensures { result ≡ items_seen (seen scope.now) (expr_tree e.now) depth }
+{
+    match &e.form {
+        ExprForm::Number(_) => None,
+        ExprForm::Bool(_) => None,
+        ExprForm::Name(text) => items_named(scope, text.as_str(), depth),
+        ExprForm::Paren(inner) => items_seen(scope, inner, depth),
+        ExprForm::If {
+            test: _,
+            yes,
+            no: _,
+        } => items_seen(scope, yes, depth),
+        ExprForm::Prefix { op: _, of: _ } => None,
+        ExprForm::Binary {
+            op: _,
+            left: _,
+            right: _,
+        } => None,
+        ExprForm::Call { name: _, args: _ } => None,
+        ExprForm::List(items) => items_listed(scope, items, depth),
+        ExprForm::Comp { item, gens } => items_made(scope, item, gens, depth),
+        ExprForm::Index { base, place: _ } => items_inside(scope, base, depth),
+    }
+}
+
+/// How many items a list has that is named.
+fn items_named(scope: &Scope, text: &str, depth: u32) -> Option<u32>
+    ensures { result ≡ items_seen (seen scope.now) (tree.variable text.now 0) depth }
+{
+    let part = whole_called(scope, text)?;
+    items_at(part.shape, depth)
+}
+
+/// How many items a type has, once so many indexes are put on it.
+fn items_at(shape: &Shape, depth: u32) -> Option<u32>
+    ensures { result ≡ items_at depth (shape_view shape.now) }
+{
+    match shape {
+        Shape::Scalar(_) => None,
+        Shape::List(count, items) => {
+            if depth == 0 {
+                Some(*count)
+            } else {
+                items_at(items, depth - 1)
+            }
+        }
+    }
+}
+
+/// How many items a list has that is written out, or its first item.
+#[cycle(items_seen)]
+fn items_listed(scope: &Scope, items: &[Expr], depth: u32) -> Option<u32>
+    ensures { result ≡ items_seen (seen scope.now) (list_of items.now 0) depth }
+{
+    if depth == 0 {
+        few(items.len())
+    } else {
+        first_seen(scope, items, depth - 1)
+    }
+}
+
+/// A count, if 32 bits hold it.
+fn few(count: usize) -> Option<u32>
+    ensures { result ≡ few count }
+{
+    match u32::try_from(count) {
+        Ok(number) => Some(number),
+        Err(_) => None,
+    }
+}
+
+/// How many items the first of some lists has.
+#[cycle(items_seen)]
+fn first_seen(scope: &Scope, items: &[Expr], depth: u32) -> Option<u32>
+    ensures { result ≡ first_seen (seen scope.now) (places_of items.now) depth }
+{
+    let (first, _) = items.split_first()?;
+    items_seen(scope, first, depth)
+}
+
+/// How many items a list has that generators make, or its elements.
+#[cycle(items_seen)]
+fn items_made(scope: &Scope, item: &Expr, gens: &[Gen], depth: u32) -> Option<u32>
+    ensures { result ≡ items_seen (seen scope.now) (comp_of item.now gens.now 0) depth }
+{
+    if depth == 0 {
+        how_many(gens)
+    } else {
+        items_seen(scope, item, depth - 1)
+    }
+}
+
+/// How many items an item of a list has.
+#[cycle(items_seen)]
+fn items_inside(scope: &Scope, base: &Expr, depth: u32) -> Option<u32>
+    ensures { result ≡ items_seen (seen scope.now)
+        (tree.index (expr_tree base.now) tree.nil 0) depth }
+{
+    let more = depth.checked_add(1)?;
+    items_seen(scope, base, more)
+}
