@@ -35,4 +35,3 @@ mutual
   pub grows_test : {fs : List Function} {names : List Name} {e : Tree} {base n far m : ℕ} {code : List Instr} → IsTest fs names e base n far code m → n ≤ m
   grows_test (tested e base n m far code h) = grows h
   grows_test (both_tested l r at base n k m far a b t h g) = let x = grows_test h in let y = grows_test g in omega (arith, x, y)
-
