@@ -23,7 +23,7 @@ use Rattle.run_job.specs.Ends as run
 use Rattle.run_job.proofs.Deciding.{still_refused}
 use Rattle.generated_network.specs.Objects.{library_of}
 use Rattle.generated_network.specs.Texts.{files_of, top_name}
-use Rattle.gen_job.specs.Ends.{Comes, ComesFor, IsGenerated, IsRefused, IsStillRefused, Runs, by_run, by_words, by_workers, of_run, of_workers}
+use Rattle.gen_job.specs.Ends.{Comes, ComesFor, IsGenerated, IsRefused, IsStillRefused, Runs, by_run, by_words, of_run}
 use Rattle.gen_job.specs.Jobs.{GeneratedConform, instances_of, with_input}
 
 -- a library in memory tells of each name
@@ -57,7 +57,6 @@ module _ (cmd : Command) (one : OneConforms) (one_net : LibraryNetworksAreOne) (
       (record { reads = files.reads; are_loaded = files.are_read.are_loaded; means = files.means }) (conforms_too gen is).means
 
   refused_still : (r : Refusal) (about : About) → IsRefused cmd r about → IsStillRefused cmd net r
-  refused_still r about (by_workers asks) = of_workers asks
   refused_still r about (by_words gen names other is has) = absurd (none_wrong (output_names net) (words_of cmd) r conform.matched
       (subst (λ n. IsWrongWord (output_names n) (words_of cmd) r) (has_net gen is other has.files) has.wrong))
   refused_still r about (by_run gen other is refused) =

@@ -1,7 +1,6 @@
 -- How a job is answered, by what came of the generated files.
 use Rattle.std.proofs.Common.{◌≡◌, ℕ, List, [], Some, false, None, map, refl, sym, ap, subst}
 use Rattle.std.specs.Prelude.{string_bytes}
-use Rattle.rvc_base.specs.declared.refusal.Refusal.{Refusal}
 use Rattle.rvc_io.specs.Channels.{Channels, WritesOnlyAt}
 use Rattle.rvc_io.specs.Feeds.{Inputs}
 use Rattle.rvc_io.specs.Files.{File, under}
@@ -23,7 +22,7 @@ use Rattle.run_report.specs.declared.status.Status.{Status}
 use Rattle.run_report.specs.declared.status.Status.TheVariants as status
 use Rattle.source_network.specs.Library.{LibraryNetworksAreOne}
 use Rattle.network_commands.specs.Answers.{IsAnswered}
-use Rattle.network_commands.specs.Commands.{Command, OpenedNothing, about_files}
+use Rattle.network_commands.specs.Commands.{Command, OpenedNothing}
 use Rattle.network_commands.specs.Steps.{about_words, status_of_build}
 use Rattle.network_commands.proofs.Putting.{last_alone, line_answered}
 use Rattle.network_job.specs.Network.{out_names}
@@ -31,8 +30,7 @@ use Rattle.run_job.specs.Ends as run
 use Rattle.run_job.proofs.Leaving.{same_names}
 use Rattle.generated_network.specs.Feed.{bytes_of}
 use Rattle.generated_network.specs.Objects.{file_told}
-use Rattle.run_job.specs.Ends.{AsksForWorkers}
-use Rattle.gen_job.specs.Ends.{Comes, IsGenerated, IsRefused, by_run, by_words, by_workers}
+use Rattle.gen_job.specs.Ends.{Comes, IsGenerated, by_run, by_words}
 use Rattle.gen_job.specs.Making.{IsMadeFor}
 use Rattle.gen_job.specs.Steps.{CameOf, IsLine, command_over, of_memory, of_run, of_word}
 use Rattle.gen_job.proofs.Answering.{answered_too, no_rise}
@@ -120,12 +118,6 @@ module _ (job : Job) (library : Library) (misses faults : Counts) (feeds : Input
 
   nothing_opened : WritesOnlyAt 0 old new → OpenedNothing asked
   nothing_opened only = record { same_feeds = refl; only_report = only }
-
-  pub workers_answered : (r : Refusal) (names : Names) (answer : Status) → AsksForWorkers job r → file_names names ≡ []
-      → IsLine (status.Refused r) names job old new answer → IsAnswered Comes asked answer
-  workers_answered r names answer asks none put =
-      line_answered Comes asked (status.Refused r) answer [] (about_words names job) refl
-      (λ only. (subst (λ ns. IsRefused asked r (about_files asked ns)) (sym none) (by_workers asks), nothing_opened only)) put
 
   pub memory_answered : (names : Names) (answer : Status) → IsLine status.OutOfMemory names job old new answer → IsAnswered Comes asked answer
   memory_answered names answer put =

@@ -1,6 +1,6 @@
 -- To what a command of the verb `gen` comes, and what it leaves: a case for each status.
 -- Trusted: part of what a promise means.
-use Rattle.std.specs.Prelude.{◌≡◌, ℕ, List, [], ◌∷◌, Some, string_bytes}
+use Rattle.std.specs.Prelude.{◌≡◌, ℕ, List, ◌∷◌, Some, string_bytes}
 use Rattle.rvc_base.specs.declared.refusal.Refusal.{Refusal}
 use Rattle.rvc_words.specs.Words.{job_text}
 use Rattle.cal_model.specs.Selection.{State}
@@ -12,7 +12,6 @@ use Rattle.run_report.specs.declared.status.Status.{Status}
 use Rattle.run_report.specs.declared.status.Status.TheVariants as status
 use Rattle.network_commands.specs.Commands.{Command, HasFiles, OpenedNothing, about_files, words_of}
 use Rattle.run_job.specs.Ends as run
-use Rattle.run_job.specs.Ends.{AsksForWorkers}
 use Rattle.generated_network.specs.Feed.{bytes_of}
 use Rattle.generated_network.specs.Objects.{library_of}
 use Rattle.gen_job.specs.Jobs.{generated_job, instances_of}
@@ -48,7 +47,6 @@ pub record HasNoOutput (cmd gen : Command) (names : List (List ℕ)) (net : Netw
 -- Why the job is refused. Nothing but the word for an output and the growth of links refuses it, if the generated files
 -- conform.
 pub data IsRefused (cmd : Command) (r : Refusal) : About → Type 0 where
-  by_workers : AsksForWorkers cmd.job r → IsRefused cmd r (about_files cmd [])
   by_words : (gen : Command) (names : List (List ℕ)) (net : Network State) → IsGenerated cmd gen
       → HasNoOutput cmd gen names net r → IsRefused cmd r (about_files gen names)
   by_run : (gen : Command) (about : About) → IsGenerated cmd gen → run.IsRefused gen r about
@@ -81,7 +79,6 @@ Comes cmd (status.Uncertified inst state first second reason) lines about = ⊥
 
 -- Why a job is refused if the generated files conform to this network together with its words.
 pub data IsStillRefused (cmd : Command) (net : Network State) (r : Refusal) : Type 0 where
-  of_workers : AsksForWorkers cmd.job r → IsStillRefused cmd net r
   of_run : (gen : Command) → IsGenerated cmd gen → run.IsStillRefused gen net r
       → IsStillRefused cmd net r
 

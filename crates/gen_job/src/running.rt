@@ -17,7 +17,7 @@ use crate::making::{Generated, generate};
 use actor_files::Names;
 use conforming_jobs::one_network_conforms;
 use network_commands::{conforming_jobs_are_not_refused, report_unbuilt, status_of_build};
-use run_job::{built_images_can_be_run, refused_workers};
+use run_job::built_images_can_be_run;
 use run_report::Status;
 use rvc_base::Memory;
 use rvc_engine::build;
@@ -45,9 +45,9 @@ use std::thread::Threads;
 ///
 /// Each has its case in `answered`, with what it leaves. It never ends by a read fault.
 ///
-/// - `Refused`: Y1 at the command line for more workers than one; the first port word that names no output, or one that a
-///   word before it names; or Z12 at the command line, for links that may grow too far. `OutOfMemory`: an allocation was
-///   refused. With these nothing is opened, and no channel is written but that of the report.
+/// - `Refused`: the first port word that names no output, or one that a word before it names; or Z12 at the command line, for
+///   links that may grow too far. `OutOfMemory`: an allocation was refused. With these nothing is opened, and no channel is
+///   written but that of the report.
 /// - `WriteFault`, as of [`run_job`](run_job::run_job).
 pub fn gen_job<R: Threads + Sync, D: Drains, G: Gate>(
     rt: &R,
@@ -91,13 +91,9 @@ fn run_for<R: Threads + Sync, D: Drains, G: Gate>(
         → IsAnswered Comes (command_over job.now library misses faults feeds feeds
         (D.channels drains.old) (D.channels drains.new)) result }
 {
-    let names = Names::new(alloc);
-    if let Some(refusal) = refused_workers(job) {
-        return report_unbuilt(Status::Refused(refusal), &names, job, drains);
-    }
     match generate(alloc, job) {
         Ok(made) => run_made(rt, alloc, job, made, drains, gate),
-        Err(Memory) => report_unbuilt(Status::OutOfMemory, &names, job, drains),
+        Err(Memory) => report_unbuilt(Status::OutOfMemory, &Names::new(alloc), job, drains),
     }
 }
 

@@ -1,7 +1,6 @@
 -- How a command is answered, by whether its report was put.
-use Rattle.std.proofs.Common.{◌≡◌, ⊎_elim, ℕ, ◌≤◌, List, [], ◌++◌, refl, sym, ap, subst, ◌∙◌}
+use Rattle.std.proofs.Common.{◌≡◌, ⊎_elim, ℕ, List, [], ◌++◌, refl, sym, ap, subst, ◌∙◌}
 use Rattle.std.specs.Prelude.{string_bytes}
-use Rattle.rvc_base.specs.declared.refusal.Refusal.{Refusal}
 use Rattle.rvc_io.specs.Channels.{Channels, WritesOnlyAt}
 use Rattle.rvc_io.specs.Feeds.{Inputs}
 use Rattle.rvc_words.specs.declared.job.Job.{Job}
@@ -18,12 +17,11 @@ use Rattle.rvc_engine.specs.declared.fault.BuildFault.TheVariants as build
 use Rattle.rvc_engine.specs.declared.image.Image.{Image}
 use Rattle.run_report.specs.Report.{last_line, report}
 use Rattle.run_report.specs.declared.status.Status.{Status}
-use Rattle.run_report.specs.declared.status.Status.TheVariants as status
 use Rattle.network_commands.specs.Answers.{IsAnswered, is_reported, is_unreported}
-use Rattle.network_commands.specs.Commands.{Command, OpenedNothing, about_files}
+use Rattle.network_commands.specs.Commands.{Command, OpenedNothing}
 use Rattle.network_commands.specs.Steps.{IsPut, about_words, status_of_build}
 use Rattle.network_commands.proofs.Putting.{last_alone, line_answered}
-use Rattle.run_job.specs.Ends.{AsksForWorkers, Comes, IsRefused, by_files, by_workers}
+use Rattle.run_job.specs.Ends.{Comes, by_files}
 use Rattle.run_job.specs.Steps.{ImageRan, about_image, lines_at, status_of}
 use Rattle.run_job.proofs.Answering.{comes}
 use Rattle.run_job.proofs.Reported.{risen_from}
@@ -75,9 +73,3 @@ module _ (job : Job) (library : loading.Library) (misses faults : loading.Counts
   unbuilt_answered why names answer none same put =
       line_answered Comes cmd (status_of_build why) answer [] (about_words names job) (last_alone [] (about_words names job) why)
       (λ only. comes_unbuilt why names none (opened_nothing same only)) put
-
-  pub workers_answered : (r : Refusal) (names : Names) (answer : Status) → AsksForWorkers job r → file_names names ≡ [] → feeds_new ≡ feeds
-      → IsPut (status.Refused r) (last_line (about_words names job) (status.Refused r)) old new answer → IsAnswered Comes cmd answer
-  workers_answered r names answer asks none same put =
-      line_answered Comes cmd (status.Refused r) answer [] (about_words names job) refl
-      (λ only. (subst (λ ns. IsRefused cmd r (about_files cmd ns)) (sym none) (by_workers asks), opened_nothing same only)) put

@@ -13,7 +13,7 @@ use Rattle.run_report.specs.declared.status.Status.{Status}
 use Rattle.run_report.specs.declared.status.Status.TheVariants as status
 use Rattle.network_commands.specs.Answers.{IsAnswered, is_reported, is_unreported}
 use Rattle.network_commands.specs.Commands.{Command, ConformingAreNotRefused, HasFiles, IsToRun, RefusesJob, in_files, in_words, top_of, words_of}
-use Rattle.run_job.specs.Ends.{Comes, ComesFor, IsNoEnd, IsRefused, IsStillRefused, RanOut, RanSome, WasUnread, WasUnwritten, WouldGrowTooFar, by_files, by_growth, by_words, by_workers, of_actor, of_growth, of_workers}
+use Rattle.run_job.specs.Ends.{Comes, ComesFor, IsNoEnd, IsRefused, IsStillRefused, RanOut, RanSome, WasUnread, WasUnwritten, WouldGrowTooFar, by_files, by_growth, by_words, of_actor, of_growth}
 
 -- ---- what conforms is run
 
@@ -26,7 +26,6 @@ module _ (cmd : Command) (one : OneConforms) (one_net : LibraryNetworksAreOne) (
   has_net other files = one_net cmd.library (top_of cmd) other net tells (record { reads = files.reads; are_loaded = files.are_read.are_loaded; means = files.means }) conforms.means
 
   pub still_refused : (r : Refusal) (about : About) → IsRefused cmd r about → IsStillRefused cmd net r
-  still_refused r about (by_workers asks) = of_workers asks
   still_refused r about (by_files names breaks) = ⊎_elim
       (λ refuses. absurd (law names_of_ports cmd.library (top_of cmd) (words_of cmd) net cmd.misses names r tells conforms (in_files refuses)))
       (λ lacks. of_actor names lacks)

@@ -1,11 +1,9 @@
 -- To what a command comes that runs the network of a library, and what it leaves: a case for each status.
 -- Trusted: part of what a promise means.
-use Rattle.std.specs.Prelude.{◌≡◌, ◌⊎◌, ℕ, ◌≤◌, List, [], Some}
-use Rattle.rvc_base.specs.Rules.{not_built}
+use Rattle.std.specs.Prelude.{◌≡◌, ◌⊎◌, ℕ, ◌≤◌, List, Some}
 use Rattle.rvc_base.specs.declared.refusal.Refusal.{Refusal}
 use Rattle.rvc_io.specs.Channels.{WritesOnlyAt}
 use Rattle.rvc_io.specs.Count.{HasRisen}
-use Rattle.rvc_words.specs.declared.job.Job.{Job}
 use Rattle.trace_text.specs.declared.line.Line.{Line}
 use Rattle.trace_text.specs.declared.line.Line.TheVariants.{Quiet as QuietLine, Trap as TrapLine, Stall as StallLine, Budget as BudgetLine}
 use Rattle.cal_model.specs.Selection.{State}
@@ -100,13 +98,6 @@ pub record WasUnwritten (cmd : Command) (net : Network State) (channel : ℕ) : 
 
 -- ---- no run
 
--- a job of more workers than one isn't built yet: the refusal is of this rule, at the command line
-pub record AsksForWorkers (job : Job) (r : Refusal) : Type 0 where
-  pub many : 2 ≤ job.workers
-  pub rule : r.rule ≡ not_built
-  pub file : r.place.file ≡ 0
-  pub offset : r.place.offset ≡ 0
-
 -- The files that the top needs break a rule, or mean a network of which an actor has a form without code. The file of the
 -- refusal is one of these names.
 pub record BreaksOrLacks (cmd : Command) (names : List (List ℕ)) (r : Refusal) : Type 0 where
@@ -123,7 +114,6 @@ pub record GrowsTooMuch (cmd : Command) (names : List (List ℕ)) (net : Network
 
 -- Why the job is refused.
 pub data IsRefused (cmd : Command) (r : Refusal) : About → Type 0 where
-  by_workers : AsksForWorkers cmd.job r → IsRefused cmd r (about_files cmd [])
   by_files : (names : List (List ℕ)) → BreaksOrLacks cmd names r
       → IsRefused cmd r (about_files cmd names)
   by_words : (names : List (List ℕ)) (net : Network State)
@@ -158,10 +148,9 @@ Comes cmd (status.Uncertified inst state first second reason) lines about = ⊥
 
 -- ---- completeness
 
--- Why a job is refused whose files and words conform to this network: it asks for what isn't built yet, for more workers than
--- one or for an actor of a form for which there is no code; or the links would grow too far.
+-- Why a job is refused whose files and words conform to this network: it asks for an actor of a form for which there is no
+-- code yet, or the links would grow too far.
 pub data IsStillRefused (cmd : Command) (net : Network State) (r : Refusal) : Type 0 where
-  of_workers : AsksForWorkers cmd.job r → IsStillRefused cmd net r
   of_actor : (names : List (List ℕ)) → LacksForm cmd.library (top_of cmd) names r
       → IsStillRefused cmd net r
   of_growth : WouldGrowTooFar cmd net → IsGrownTooMuch r → IsStillRefused cmd net r

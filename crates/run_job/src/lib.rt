@@ -12,9 +12,7 @@ mod laws;
 mod reporting;
 mod running;
 mod status;
-mod workers;
 
 pub use image::run_image;
 pub use laws::built_images_can_be_run;
 pub use running::run_job;
-pub use workers::refused_workers;

@@ -16,7 +16,6 @@ ghost use Rattle.run_job.specs.Ends.{Comes, ComesFor, IsNoEnd};
 
 use crate::image::run_image;
 use crate::laws::built_images_can_be_run;
-use crate::workers::refused_workers;
 use actor_files::Names;
 use conforming_jobs::one_network_conforms;
 use network_commands::{conforming_jobs_are_not_refused, report_unbuilt, status_of_build};
@@ -34,7 +33,7 @@ use std::thread::Threads;
 /// it is tested how far the links may grow. All memory is taken before anything is opened. Then the feeds of inputs that have
 /// a file are opened, in the order of links, and the channels: 1 for the trace, and 2 + k for output k if a word names a file
 /// for it. The rounds go to an end, and the report is written last. `rt` is for the threads of more workers than one, and
-/// `gate` is told when a worker starts; a job of more workers than one isn't built yet.
+/// `gate` is told when a worker starts.
 ///
 /// - `answered`: what the status says. If it is `Quiet`, `Trapped`, `Stalled` or `Budget`, there is a network that the files
 ///   mean and whose ports the words name (`IsToRun`). Whatever bytes its inputs have, by what feeds tell: channel 1 holds
@@ -51,10 +50,9 @@ use std::thread::Threads;
 ///
 /// Each has its case in `answered`, with what it leaves.
 ///
-/// - `Refused`: Y1 at the command line for more workers than one, before anything is read; what [`build`] is refused for;
-///   the first port word that names no port, or one that a word before it names; or Z12 at the command line, for links that
-///   may grow too far. `ReadFault` of a file: that reading failed, and was counted. `OutOfMemory`: an allocation was refused.
-///   With these nothing is opened, and no channel is written but that of the report.
+/// - `Refused`: what [`build`] is refused for; the first port word that names no port, or one that a word before it names; or
+///   Z12 at the command line, for links that may grow too far. `ReadFault` of a file: that reading failed, and was counted.
+///   `OutOfMemory`: an allocation was refused. With these nothing is opened, and no channel is written but that of the report.
 /// - `ReadFault` of a feed, which was counted: it couldn't be opened, and no channel was; or it couldn't be read, and the
 ///   trace and the outputs have what begun lines give, without an end.
 /// - `WriteFault`, which was counted: of channel 1 or an output's, and then each channel that was opened has a prefix of what
@@ -122,9 +120,6 @@ fn run_files<R: Threads + Sync, L: Library, F: Feeds, D: Drains, G: Gate>(
     ensures misses_stay { L.misses library.old ≤ L.misses library.new }
 {
     let mut names = Names::new(alloc);
-    if let Some(refusal) = refused_workers(job) {
-        return report_unbuilt(Status::Refused(refusal), &names, job, drains);
-    }
     match build(alloc, library, job.top.as_str(), &mut names) {
         Ok(image) => {
             built_images_can_be_run();

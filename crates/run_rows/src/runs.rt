@@ -77,6 +77,11 @@ const RUNS: &[(&str, &[u8], Left)] = &[
         BYTES,
         WHOLE,
     ),
+    (
+        "rvc run Inc.cal In=in Out=out --trace t --workers 2",
+        BYTES,
+        WHOLE,
+    ),
     ("rvc run Inc.cal In=in --trace t", BYTES, UNNAMED),
     (
         "rvc run Inc.cal In=in Out=out --trace t --round turn",
@@ -209,11 +214,6 @@ const REFUSALS: &[(&str, &str, &str)] = &[
         "rvc run Inc.xdf In=in Out=out --trace t",
         INC,
         "refused N1 words 0\n",
-    ),
-    (
-        "rvc run Inc.cal In=in Out=out --trace t --workers 2",
-        INC,
-        "refused Y1 words 0\n",
     ),
     (
         "rvc run Inc.cal Inn=in --trace t",

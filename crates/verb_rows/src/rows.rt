@@ -48,6 +48,12 @@ const REPORT: &str =
 
 const TRACE: &str = "rvc-trace 1 1 2\ni 0 Inc Inc\nr\nf 0 0\nf 0 0\nf 0 0\nr\nq\n";
 
+const TWICE_REPORT: &str =
+    "instances 2\nlinks 3\ncertified 2\nfirings 6\nrounds 3\nin In 0 tokens 3 rest 0\nout Out tokens 3\nquiet\n";
+
+const TWICE_TRACE: &str =
+    "rvc-trace 1 2 3\ni 0 a Inc\ni 1 b Inc\nr\nf 0 0\nf 0 0\nf 0 0\nr\nf 1 0\nf 1 0\nf 1 0\nr\nq\n";
+
 const ROWS: &[Row] = &[
     (RUN, BYTES, NEVER, (0, REPORT, TRACE, &[1, 2, 0])),
     (
@@ -71,12 +77,7 @@ const ROWS: &[Row] = &[
         "rvc run Twice.xdf In=in Out=out --trace t",
         BYTES,
         NEVER,
-        (
-            0,
-            "instances 2\nlinks 3\ncertified 2\nfirings 6\nrounds 3\nin In 0 tokens 3 rest 0\nout Out tokens 3\nquiet\n",
-            "rvc-trace 1 2 3\ni 0 a Inc\ni 1 b Inc\nr\nf 0 0\nf 0 0\nf 0 0\nr\nf 1 0\nf 1 0\nf 1 0\nr\nq\n",
-            &[2, 3, 1],
-        ),
+        (0, TWICE_REPORT, TWICE_TRACE, &[2, 3, 1]),
     ),
     (
         "rvc run Div.cal In=in Out=out --trace t",
@@ -105,7 +106,13 @@ const ROWS: &[Row] = &[
         "rvc run Inc.cal In=in Out=out --trace t --workers 2",
         BYTES,
         NEVER,
-        (4, "refused Y1 words 0\n", "", NO_BYTES),
+        (0, REPORT, TRACE, &[1, 2, 0]),
+    ),
+    (
+        "rvc run Twice.xdf In=in Out=out --trace t --workers 3",
+        BYTES,
+        NEVER,
+        (0, TWICE_REPORT, TWICE_TRACE, &[2, 3, 1]),
     ),
     (
         RUN,

@@ -5,13 +5,8 @@ use Rattle.rvc_engine.specs.NotBuilt.{IsNoImage}
 use Rattle.rvc_engine.specs.Top.{top_asked}
 use Rattle.run_report.specs.Report.{last_line}
 use Rattle.network_commands.specs.Steps.{IsPut, about_words, status_of_build}
-use Rattle.run_job.proofs.Answered.{unbuilt_answered, workers_answered}
+use Rattle.run_job.proofs.Answered.{unbuilt_answered}
 use Rattle.run_job.proofs.running.run_files.Goals as goal
-
-pub returns-in-Some-clause-answered : goal.returns-in-Some-clause-answered
-returns-in-Some-clause-answered g c =
-    workers_answered c.args.job.now (g.L.Library.file c.args.library.now) _ _ (g.F.Feeds.feeds c.args.feeds.now) (g.F.Feeds.feeds c.args.feeds.now)
-    (g.D.Drains.channels c.args.drains.now) (g.D.Drains.channels c.report_unbuilt.new.drains) c.in-Some.refusal c.new-names.result c.report_unbuilt.result c.in-Some.ensures c.new-names.ensures refl c.report_unbuilt.ensures
 
 pub run_image-requires-clause-source : goal.run_image-requires-clause-source
 run_image-requires-clause-source g c κs within = c.built_images_can_be_run.ensures _ _ _ _ c.in-Ok.ensures.built
@@ -31,10 +26,10 @@ returns-clause-answered g c =
     (record { old = g.L.Library.misses c.args.library.now; new = g.L.Library.misses c.build.new.library }) (record { old = g.L.Library.faults c.args.library.now; new = g.L.Library.faults c.build.new.library })
     (file_names c.build.new.names) c.in-Err.fault) c.as_str.ensures.value c.in-Err.ensures.fault in
     let put : IsPut (status_of_build c.in-Err.fault) (last_line (about_words c.build.new.names c.args.job.now) (status_of_build c.in-Err.fault))
-    (g.D.Drains.channels c.args.drains.now) (g.D.Drains.channels c.report_unbuilt-in-Err.new.drains) c.report_unbuilt-in-Err.result =
-    subst (λ said. IsPut said (last_line (about_words c.build.new.names c.args.job.now) said) (g.D.Drains.channels c.args.drains.now) (g.D.Drains.channels c.report_unbuilt-in-Err.new.drains) c.report_unbuilt-in-Err.result)
-    c.status_of_build.ensures c.report_unbuilt-in-Err.ensures in
+    (g.D.Drains.channels c.args.drains.now) (g.D.Drains.channels c.report_unbuilt.new.drains) c.report_unbuilt.result =
+    subst (λ said. IsPut said (last_line (about_words c.build.new.names c.args.job.now) said) (g.D.Drains.channels c.args.drains.now) (g.D.Drains.channels c.report_unbuilt.new.drains) c.report_unbuilt.result)
+    c.status_of_build.ensures c.report_unbuilt.ensures in
     unbuilt_answered c.args.job.now (g.L.Library.file c.args.library.now)
     (record { old = g.L.Library.misses c.args.library.now; new = g.L.Library.misses c.build.new.library }) (record { old = g.L.Library.faults c.args.library.now; new = g.L.Library.faults c.build.new.library })
     (g.F.Feeds.feeds c.args.feeds.now) (g.F.Feeds.feeds c.args.feeds.now)
-    (g.D.Drains.channels c.args.drains.now) (g.D.Drains.channels c.report_unbuilt-in-Err.new.drains) c.in-Err.fault c.build.new.names c.report_unbuilt-in-Err.result why refl put
+    (g.D.Drains.channels c.args.drains.now) (g.D.Drains.channels c.report_unbuilt.new.drains) c.in-Err.fault c.build.new.names c.report_unbuilt.result why refl put
