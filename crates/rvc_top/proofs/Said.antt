@@ -1,5 +1,6 @@
 -- What the answers of verbs say of the outside.
-use Rattle.std.proofs.Common.{◌≡◌, inl, inr, ◌⊎◌, ℕ, List, ◌++◌, true}
+use Rattle.std.proofs.Common.{◌≡◌, inl, inr, ◌⊎◌, ℕ, List, ◌++◌, true, subst}
+use Rattle.rvc_io.specs.Channels.{Channels}
 use Rattle.rvc_io.specs.Count.{HasRisen}
 use Rattle.rvc_words.specs.declared.fault.UsageCause.{UsageCause}
 use Rattle.cal_model.specs.Selection.{State}
@@ -9,6 +10,8 @@ use Rattle.network_commands.specs.Commands.{Command}
 use Rattle.certify_job.specs.Ends as certify
 use Rattle.check_job.specs.Ends as check
 use Rattle.determinate_jobs.specs.QuietRuns.{ComesDeterminate, RunsTellQuietRuns}
+use Rattle.gen_job.specs.Ends as gen
+use Rattle.replay_job.specs.Ends as replay
 use Rattle.run_job.specs.Ends as run
 use Rattle.run_report.specs.About.{About}
 use Rattle.run_report.specs.Report.{report}
@@ -126,3 +129,56 @@ module _ (cmd : Command) where
 
   pub certify_no_usage : (answer : Status) → IsAnswered certify.Comes cmd answer → IsNoUsage answer
   certify_no_usage = no_usage_of certify.Comes cmd (λ cause lines about comes. comes)
+
+  -- ---- `replay`
+
+  replay-counted : (net : Network State) (feed : ℕ) → (replay.FeedUnopened cmd net feed ⊎ replay.FeedBroke cmd net feed) → HasRisen cmd.feeds.faults cmd.feeds_after.faults
+  replay-counted net feed (inl un) = un.counted
+  replay-counted net feed (inr broke) = broke.counted
+
+  replay_came : (said : Status) (lines : List ℕ) (about : About) → replay.Comes cmd said lines about → Put cmd (report lines about said) → CommandSaid cmd said
+  replay_came Quiet lines about comes put = absurd comes
+  replay_came Done lines about comes put = record { caused = tt; alone = λ b. comes.replayed.only_report; plain = λ t. tt }
+  replay_came (Usage cause) lines about comes put = absurd comes
+  replay_came (ReadFault (File file)) lines about comes put = record { caused = comes.0.counted; alone = λ b. comes.1.only_report; plain = λ t. tt }
+  replay_came (ReadFault (Feed feed)) lines about comes put = record { caused = replay-counted comes.net feed comes.how; alone = λ b. absurd b; plain = λ t. tt }
+  replay_came (WriteFault channel) lines about comes put = absurd comes
+  replay_came (Refused r) lines about comes put = record { caused = tt; alone = λ b. comes.1.only_report; plain = λ t. tt }
+  replay_came (Trapped inst action trap) lines about comes put = absurd comes
+  replay_came (Stalled inst action link) lines about comes put = absurd comes
+  replay_came (Budget firings) lines about comes put = absurd comes
+  replay_came OutOfMemory lines about comes put = record { caused = tt; alone = λ b. comes; plain = put }
+  replay_came (NotRun number why) lines about comes put = record { caused = tt; alone = λ b. comes.only_report; plain = λ t. tt }
+  replay_came (Uncertified inst state first second reason) lines about comes put = absurd comes
+
+  pub replay_said : (answer : Status) → IsAnswered replay.Comes cmd answer → CommandSaid cmd answer
+  replay_said = said_of replay.Comes cmd replay_came
+
+  pub replay_no_usage : (answer : Status) → IsAnswered replay.Comes cmd answer → IsNoUsage answer
+  replay_no_usage = no_usage_of replay.Comes cmd (λ cause lines about comes. comes)
+
+  -- ---- `gen`
+
+  gen-counted : (made : Command) → gen.IsGenerated cmd made → HasRisen made.channels.faults made.channels_after.faults → HasRisen cmd.channels.faults cmd.channels_after.faults
+  gen-counted made is risen = subst (λ (after : Channels). HasRisen cmd.channels.faults after.faults) is.channels_after
+      (subst (λ (before : Channels). HasRisen before.faults made.channels_after.faults) is.channels risen)
+
+  gen_came : (said : Status) (lines : List ℕ) (about : About) → gen.Comes cmd said lines about → Put cmd (report lines about said) → CommandSaid cmd said
+  gen_came Quiet lines about comes put = record { caused = tt; alone = λ b. absurd b; plain = λ t. tt }
+  gen_came Done lines about comes put = absurd comes
+  gen_came (Usage cause) lines about comes put = absurd comes
+  gen_came (ReadFault at) lines about comes put = absurd comes
+  gen_came (WriteFault channel) lines about comes put = record { caused = gen-counted comes.1.gen comes.1.is_generated comes.1.comes.counted; alone = λ b. absurd b; plain = λ t. tt }
+  gen_came (Refused r) lines about comes put = record { caused = tt; alone = λ b. comes.1.only_report; plain = λ t. tt }
+  gen_came (Trapped inst action trap) lines about comes put = record { caused = tt; alone = λ b. absurd b; plain = λ t. tt }
+  gen_came (Stalled inst action link) lines about comes put = record { caused = tt; alone = λ b. absurd b; plain = λ t. tt }
+  gen_came (Budget firings) lines about comes put = record { caused = tt; alone = λ b. absurd b; plain = λ t. tt }
+  gen_came OutOfMemory lines about comes put = record { caused = tt; alone = λ b. comes.only_report; plain = put }
+  gen_came (NotRun number why) lines about comes put = absurd comes
+  gen_came (Uncertified inst state first second reason) lines about comes put = absurd comes
+
+  pub gen_said : (answer : Status) → IsAnswered gen.Comes cmd answer → CommandSaid cmd answer
+  gen_said = said_of gen.Comes cmd gen_came
+
+  pub gen_no_usage : (answer : Status) → IsAnswered gen.Comes cmd answer → IsNoUsage answer
+  gen_no_usage = no_usage_of gen.Comes cmd (λ cause lines about comes. comes)

@@ -1,12 +1,8 @@
--- What is done for the job that words are, and what is reported of words for which no verb does anything.
+-- What is done for the job that words are, and what is reported of words that aren't a job.
 -- Trusted: part of what a promise means.
-use Rattle.std.specs.Prelude.{◌≡◌, ◌⊎◌, ℕ, List, Bool, true, false, []}
-use Rattle.rvc_base.specs.Rules.{not_built}
-use Rattle.rvc_base.specs.declared.refusal.Refusal.{Refusal}
+use Rattle.std.specs.Prelude.{◌≡◌, ◌⊎◌, ℕ, List, []}
 use Rattle.rvc_words.specs.Words.{JobText, job_text}
 use Rattle.rvc_words.specs.declared.job.Job.{Job}
-use Rattle.rvc_words.specs.declared.job.Verb.{Verb}
-use Rattle.rvc_words.specs.declared.job.Verb.TheVariants.{Certify, Check, Fmt, Gen, Replay, Run}
 use Rattle.format_job.specs.Reports.{Reports}
 use Rattle.network_commands.specs.Answers.{IsAnswered}
 use Rattle.network_commands.specs.Commands.{Command, Met, command}
@@ -15,7 +11,7 @@ use Rattle.run_report.specs.Report.{last_line}
 use Rattle.run_report.specs.declared.status.Status.{Status}
 use Rattle.run_report.specs.declared.status.Status.TheVariants as status
 
--- ---- words for which no verb does anything
+-- ---- words that aren't a job
 
 -- their report speaks of the command line alone
 abbrev pub about_words : About
@@ -28,10 +24,6 @@ about_words = record {
   ins = [];
   outs = [];
 }
-
--- the refusal of what isn't built, at the command line
-abbrev pub not_built_here : Refusal
-not_built_here = record { rule = not_built; place = record { file = 0; offset = 0 } }
 
 -- The status was reported, or the report couldn't be put; nothing else was done.
 pub record IsToldAlone (met : Met) (said answer : Status) : Type 0 where
@@ -59,11 +51,6 @@ abbrev pub IsDoneBy : (Comes : Command → Status → List ℕ → About → Typ
 IsDoneBy Comes j met answer =
     OfJob j (λ read. IsAnswered Comes (command met read) answer) ⊎ LacksMemory met answer
 
--- whether a verb is built
-abbrev pub is_built : Verb → Bool
-is_built Run = true
-is_built Check = true
-is_built Certify = true
-is_built Fmt = true
-is_built Replay = false
-is_built Gen = false
+-- this holds of the command that the job is, and of its answer, if there was memory to read the words
+abbrev pub IsSettled : (P : Command → Status → Type 0) → JobText → Met → Status → Type 0
+IsSettled P j met answer = OfJob j (λ read. P (command met read) answer) ⊎ LacksMemory met answer

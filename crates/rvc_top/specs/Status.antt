@@ -9,21 +9,21 @@ use Rattle.run_report.specs.declared.status.Status.{Status}
 use Rattle.run_report.specs.declared.status.Status.TheVariants as status
 use Rattle.rvc_top.specs.Jobs.{about_words}
 
--- nothing was opened, and nothing was written but the report
-abbrev pub IsBeforeAll : Status → Type 0
-IsBeforeAll status.Quiet = ⊥
-IsBeforeAll status.Done = Unit {0}
-IsBeforeAll (status.Usage cause) = Unit {0}
-IsBeforeAll (status.ReadFault (File file)) = Unit {0}
-IsBeforeAll (status.ReadFault (Feed feed)) = ⊥
-IsBeforeAll (status.WriteFault channel) = ⊥
-IsBeforeAll (status.Refused refusal) = Unit {0}
-IsBeforeAll (status.Trapped inst action trap) = ⊥
-IsBeforeAll (status.Stalled inst action link) = ⊥
-IsBeforeAll (status.Budget firings) = ⊥
-IsBeforeAll status.OutOfMemory = Unit {0}
-IsBeforeAll (status.NotRun number why) = Unit {0}
-IsBeforeAll (status.Uncertified inst state first second reason) = Unit {0}
+-- no channel was opened, and none was written but that of the report
+abbrev pub IsReportAlone : Status → Type 0
+IsReportAlone status.Quiet = ⊥
+IsReportAlone status.Done = Unit {0}
+IsReportAlone (status.Usage cause) = Unit {0}
+IsReportAlone (status.ReadFault (File file)) = Unit {0}
+IsReportAlone (status.ReadFault (Feed feed)) = ⊥
+IsReportAlone (status.WriteFault channel) = ⊥
+IsReportAlone (status.Refused refusal) = Unit {0}
+IsReportAlone (status.Trapped inst action trap) = ⊥
+IsReportAlone (status.Stalled inst action link) = ⊥
+IsReportAlone (status.Budget firings) = ⊥
+IsReportAlone status.OutOfMemory = Unit {0}
+IsReportAlone (status.NotRun number why) = Unit {0}
+IsReportAlone (status.Uncertified inst state first second reason) = Unit {0}
 
 -- what comes only of words that are a job; the report of others can fail too
 abbrev pub IsOfJob : Status → Type 0

@@ -5,11 +5,11 @@ use Rattle.rvc_io.specs.Channels.{Channels, WritesOnlyAt}
 use Rattle.rvc_words.specs.declared.fault.UsageCause.{UsageCause}
 use Rattle.run_report.specs.declared.status.Status.{Status}
 use Rattle.run_report.specs.declared.status.Status.TheVariants as status
-use Rattle.rvc_top.specs.Status.{IsBeforeAll, IsCaused, PlainReportIs}
+use Rattle.rvc_top.specs.Status.{IsReportAlone, IsCaused, PlainReportIs}
 
 pub record IsSaid (lo ln ffo ff : ℕ) (old new : Channels) (answer : Status) : Type 0 where
   pub caused : IsCaused lo ln ffo ff old.faults new.faults answer
-  pub alone : IsBeforeAll answer → WritesOnlyAt 0 old new
+  pub alone : IsReportAlone answer → WritesOnlyAt 0 old new
   pub plain : PlainReportIs answer old new
 
 -- the answer of a job isn't how the program is used

@@ -1,4 +1,4 @@
-//! Reports of words that no verb does anything for.
+//! Reports of words that aren't a job.
 
 ghost use Rattle.std.specs.Prelude.{◌≡◌, true};
 ghost use Rattle.run_report.specs.Report.{last_line};

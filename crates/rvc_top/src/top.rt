@@ -1,6 +1,6 @@
 //! The top call.
 
-ghost use Rattle.std.specs.Prelude.{◌≡◌, ◌≢◌, ℕ, true, false, List, Ok, Err, IsOk};
+ghost use Rattle.std.specs.Prelude.{◌≡◌, ◌≢◌, ℕ, true, false, List, Some, Ok, Err, IsOk};
 ghost use Rattle.rvc_base.specs.declared.refusal.Refusal.{Refusal as Denial};
 ghost use Rattle.rvc_io.specs.Channels.{WriteFails, WritesOnly};
 ghost use Rattle.rvc_io.specs.Count.{HasRisen};
@@ -21,20 +21,25 @@ ghost use Rattle.check_job.specs.Ends.{Comes as CheckComes, IsDoneOrOutside};
 ghost use Rattle.determinate_jobs.specs.QuietRuns.{ComesDeterminate};
 ghost use Rattle.format_job.specs.Formatting.{HasFile, IsDoneOrMemory, IsPrinting, IsUnprinted, PrintsFile};
 ghost use Rattle.format_job.specs.Reports.{ReportIs, about_file};
+ghost use Rattle.gen_job.specs.Ends.{Comes as GenComes, ComesFor as GenComesFor};
+ghost use Rattle.gen_job.specs.Jobs.{GeneratedConform, instances_of};
+ghost use Rattle.replay_job.specs.Ends.{Comes as ReplayComes, IsJudgedOrOutside, IsNoVerdict};
+ghost use Rattle.replay_job.specs.Replays.{ConformsToReplay, RefusesReplay};
 ghost use Rattle.run_job.specs.Ends.{Comes as RunComes, ComesFor, IsNoEnd};
-ghost use Rattle.rvc_top.specs.Jobs.{IsAnsweredAlone, IsDoneBy, is_built, not_built_here};
-ghost use Rattle.rvc_top.specs.Status.{IsBeforeAll, IsCaused, IsOfJob, PlainReportIs};
+ghost use Rattle.rvc_top.specs.Jobs.{IsAnsweredAlone, IsDoneBy, IsSettled};
+ghost use Rattle.rvc_top.specs.Status.{IsReportAlone, IsCaused, IsOfJob, PlainReportIs};
 
 use crate::reporting::report;
 use crate::verbs::do_job;
+use gen_job::jobs_to_generate_have_numbers;
 use run_report::Status;
 use rvc_io::{Drains, Feeds, Gate, Library};
 use rvc_words::{WordFault, read_words};
 use std::alloc::Global;
 use std::thread::Threads;
 
-/// Does what the words ask for, the program's name first: `run`, `check`, `certify` and `fmt` are built. `rt` is for the
-/// threads of more workers than one, and `gate` is told when a worker starts.
+/// Does what the words ask for, the program's name first. `rt` is for the threads of more workers than one, and `gate` is
+/// told when a worker starts.
 ///
 /// **If the answer of `run` is `Quiet`, `Trapped`, `Stalled` or `Budget`, there is a network that the files of the library
 /// mean. The trace is the text of a run of it over the bytes of the feeds, the channels of its outputs have the bytes of
@@ -53,25 +58,32 @@ use std::thread::Threads;
 ///   conform, there is no port word, and each actor is certified, and `Uncertified` at the lowest one that isn't. Nothing is
 ///   opened. What conforms is decided so, unless memory runs out or reading or writing fails (`certify_complete`); what is
 ///   refused never is (`certify_incomplete`).
+/// - `replay`: the trace was judged as [`replay_job`](replay_job::replay_job) says: `Done` if it is the text of a run of the
+///   network that the files mean, over the bytes of the feeds, and `NotRun` at the first line that isn't. No channel is
+///   opened. What conforms is judged so, unless an actor has a form without code, memory runs out, or reading or writing
+///   fails (`replay_complete`); what is refused never is (`replay_incomplete`).
+/// - `gen`: a network was generated and run as [`gen_job`](gen_job::gen_job) says, over an input that was generated too. No
+///   file is read and no feed is opened (`gen_reads_no_file`, `gen_opens_no_feed`). If the generated files conform with the
+///   port words, their network is run, unless memory runs out, writing fails or the job is refused for what `IsStillRefused`
+///   of that crate names (`gen_complete`).
 /// - `formatted`: `fmt` is `Done` only if the file's text spells a tree and no words name ports, and channel 0 got the
 ///   canonical text of that tree alone. A file that is told to hold such a text is `Done`, unless memory runs out, a read
 ///   failed or the text couldn't be written (`complete`). The other answers of `fmt` are its report; nothing is opened, and
 ///   nothing but channel 0 is written (`format_refused`, `format_faults`, `format_report`, `format_alone`,
 ///   `format_opens_no_feed`).
 /// - `planned`: no other answer than `Usage`, `OutOfMemory` and `WriteFault` comes of words that aren't a job.
-/// - `nothing_else` and `nothing_opened`: after `Done`, `Usage`, `Refused`, `OutOfMemory` and a file that can't be read,
-///   nothing was opened, and nothing but channel 0 was written.
+/// - `nothing_else` and `nothing_opened`: after `Done`, `NotRun`, `Uncertified`, `Usage`, `Refused`, `OutOfMemory` and a file
+///   that can't be read, no channel was opened, and nothing but channel 0 was written.
 /// - `plain_report`: after `Usage` and `OutOfMemory` channel 0 got exactly the report.
 ///
 /// # Errors
 ///
 /// - `Usage` if the words are no job, with the first cause (`usage`). Words that are no job are answered so, unless memory
 ///   runs out or the report couldn't be put (`no_job`).
-/// - `Refused` if a rule is broken, at its place, by what `run`, `check`, `certify` and `format_refused` say. `replay` and
-///   `gen` aren't built, and answered so, unless memory runs out or the report couldn't be put (`not_built`).
+/// - `Refused` if a rule is broken, at its place, by what `run`, `check`, `certify`, `replay`, `gen` and `format_refused` say.
 /// - `ReadFault` if a file or a feed couldn't be read, and `WriteFault` if a channel couldn't be written: the count of faults
 ///   of what it names rose in this call (`faults`).
-/// - `OutOfMemory` if memory runs out before a run begins.
+/// - `OutOfMemory` if memory runs out before a run begins, or before a trace is judged.
 pub fn rvc<R: Threads + Sync, L: Library, F: Feeds, D: Drains, G: Gate>(
     rt: &R,
     alloc: Global,
@@ -159,10 +171,37 @@ pub fn rvc<R: Threads + Sync, L: Library, F: Feeds, D: Drains, G: Gate>(
     ensures format_opens_no_feed { (j : JobText) → job (texts words.now) ≡ Ok j
         → j.verb ≡ verb.Fmt → feeds.new ≡ feeds.old }
 
+    // `replay`.
+    ensures replay { (j : JobText) → job (texts words.now) ≡ Ok j → j.verb ≡ verb.Replay
+        → IsDoneBy ReplayComes j (met_by L.file L.misses L.faults F.feeds D.channels
+        library.old library.new feeds.old feeds.new drains.old drains.new) result }
+    ensures replay_complete { (j : JobText) (net : Network State) → job (texts words.now) ≡ Ok j
+        → j.verb ≡ verb.Replay → TellsAll (L.file library.old)
+        → ConformsToReplay (L.file library.old) (top_asked j.top) j.ports j.grow net
+        → IsSettled (λ cmd answer. IsJudgedOrOutside cmd net answer) j
+        (met_by L.file L.misses L.faults F.feeds D.channels
+        library.old library.new feeds.old feeds.new drains.old drains.new) result }
+    ensures replay_incomplete { (j : JobText) (misses : Counts) (names : List (List ℕ))
+        (refusal : Denial) → job (texts words.now) ≡ Ok j → j.verb ≡ verb.Replay
+        → TellsAll (L.file library.old)
+        → RefusesReplay (L.file library.old) (top_asked j.top) j.ports j.grow misses names refusal
+        → IsNoVerdict result }
+
+    // `gen`.
+    ensures gen { (j : JobText) → job (texts words.now) ≡ Ok j → j.verb ≡ verb.Gen
+        → IsDoneBy GenComes j (met_by L.file L.misses L.faults F.feeds D.channels
+        library.old library.new feeds.old feeds.new drains.old drains.new) result }
+    ensures gen_complete { (j : JobText) (instances : ℕ) (net : Network State)
+        → job (texts words.now) ≡ Ok j → j.verb ≡ verb.Gen → instances_of j.top ≡ Some instances
+        → GeneratedConform instances j.ports net
+        → IsDoneBy (GenComesFor net) j (met_by L.file L.misses L.faults F.feeds D.channels
+        library.old library.new feeds.old feeds.new drains.old drains.new) result }
+    ensures gen_reads_no_file { (j : JobText) → job (texts words.now) ≡ Ok j → j.verb ≡ verb.Gen
+        → library.new ≡ library.old }
+    ensures gen_opens_no_feed { (j : JobText) → job (texts words.now) ≡ Ok j → j.verb ≡ verb.Gen
+        → feeds.new ≡ feeds.old }
+
     // Other words.
-    ensures not_built { (j : JobText) → job (texts words.now) ≡ Ok j → is_built j.verb ≡ false
-        → IsAnsweredAlone (met_by L.file L.misses L.faults F.feeds D.channels
-        library.old library.new feeds.old feeds.new drains.old drains.new) (Status.Refused not_built_here) result }
     ensures usage { (cause : UsageCause) → result ≡ Status.Usage cause
         → job (texts words.now) ≡ Err cause }
     ensures no_job { (cause : UsageCause) → job (texts words.now) ≡ Err cause
@@ -175,14 +214,17 @@ pub fn rvc<R: Threads + Sync, L: Library, F: Feeds, D: Drains, G: Gate>(
         (F.feeds feeds.old).faults (F.feeds feeds.new).faults (D.channels drains.old).faults
         (D.channels drains.new).faults result }
     ensures plain_report { PlainReportIs result (D.channels drains.old) (D.channels drains.new) }
-    ensures nothing_else { IsBeforeAll result → (D.channels drains.old).tells ≡ true
+    ensures nothing_else { IsReportAlone result → (D.channels drains.old).tells ≡ true
         → SameElsewhere (D.channels drains.old).held (D.channels drains.new).held 0 }
-    ensures nothing_opened { IsBeforeAll result → (other : ℕ)
+    ensures nothing_opened { IsReportAlone result → (other : ℕ)
         → (D.channels drains.new).is_open other ≡ (D.channels drains.old).is_open other }
 {
     match read_words(alloc, words) {
         Err(WordFault::Memory) => report(Status::OutOfMemory, drains),
         Err(WordFault::Usage(cause)) => report(Status::Usage(cause), drains),
-        Ok(job) => do_job(rt, alloc, &job, library, feeds, drains, gate),
+        Ok(job) => {
+            jobs_to_generate_have_numbers();
+            do_job(rt, alloc, &job, library, feeds, drains, gate)
+        }
     }
 }

@@ -1,6 +1,6 @@
 //! A job is handed to its verb.
 
-ghost use Rattle.std.specs.Prelude.{◌≡◌, ◌≢◌, ℕ, Bool, false, true, List, map, string_bytes};
+ghost use Rattle.std.specs.Prelude.{◌≡◌, ◌≢◌, ℕ, false, true, IsSome, List, Some, map, string_bytes};
 ghost use Rattle.rvc_base.specs.declared.refusal.Refusal.{Refusal as Denial};
 ghost use Rattle.rvc_io.specs.Channels.{WriteFails, WritesOnly};
 ghost use Rattle.rvc_io.specs.Count.{HasRisen};
@@ -19,28 +19,25 @@ ghost use Rattle.check_job.specs.Ends.{Comes as CheckComes, IsDoneOrOutside};
 ghost use Rattle.determinate_jobs.specs.QuietRuns.{ComesDeterminate};
 ghost use Rattle.format_job.specs.Formatting.{HasFile, IsDoneOrMemory, IsPrinting, IsUnprinted, PrintsFile};
 ghost use Rattle.format_job.specs.Reports.{ReportIs, about_file};
+ghost use Rattle.gen_job.specs.Ends.{Comes as GenComes, ComesFor as GenComesFor};
+ghost use Rattle.gen_job.specs.Jobs.{GeneratedConform, instances_of};
+ghost use Rattle.replay_job.specs.Ends.{Comes as ReplayComes, IsJudgedOrOutside, IsNoVerdict};
+ghost use Rattle.replay_job.specs.Replays.{ConformsToReplay, RefusesReplay};
 ghost use Rattle.run_job.specs.Ends.{Comes as RunComes, ComesFor, IsNoEnd};
-ghost use Rattle.rvc_top.specs.Jobs.{IsToldAlone, is_built, not_built_here};
 ghost use Rattle.rvc_top.specs.Steps.{IsNoUsage, IsSaid};
 
-use crate::reporting::report;
 use certify_job::certify_job;
 use check_job::check_job;
 use determinate_jobs::runs_tell_quiet_runs;
 use format_job::format_job;
+use gen_job::gen_job;
+use replay_job::replay_job;
 use run_job::run_job;
 use run_report::Status;
-use rvc_base::{Place, Refusal, Rule};
 use rvc_io::{Drains, Feeds, Gate, Library};
 use rvc_words::{Job, Verb};
 use std::alloc::Global;
 use std::thread::Threads;
-
-/// The refusal of a verb that isn't built: at the command line.
-const NOT_BUILT: Refusal = Refusal {
-    rule: Rule::NOT_BUILT,
-    place: Place { file: 0, offset: 0 },
-};
 
 /// Does a job, as its verb does it.
 pub(crate) fn do_job<R: Threads + Sync, L: Library, F: Feeds, D: Drains, G: Gate>(
@@ -53,6 +50,7 @@ pub(crate) fn do_job<R: Threads + Sync, L: Library, F: Feeds, D: Drains, G: Gate
     gate: &G,
 ) -> Status
     requires within { IsWithin (job_text job.now) }
+    requires number { job.now.verb ≡ Verb.Gen → IsSome (instances_of (string_bytes job.now.top)) }
     requires feeds_closed { (n : ℕ) → (F.feeds feeds.old).is_open n ≡ false }
     requires channels_closed { (n : ℕ) → n ≢ 0 → (D.channels drains.old).is_open n ≡ false }
     requires report_open { (D.channels drains.old).is_open 0 ≡ true }
@@ -136,9 +134,37 @@ pub(crate) fn do_job<R: Threads + Sync, L: Library, F: Feeds, D: Drains, G: Gate
     ensures format_alone { job.now.verb ≡ Verb.Fmt → WritesOnly D.channels drains.old drains.new 0 }
     ensures format_opens_no_feed { job.now.verb ≡ Verb.Fmt → feeds.new ≡ feeds.old }
 
-    ensures not_built { is_built job.now.verb ≡ false → IsToldAlone
+    ensures replay { job.now.verb ≡ Verb.Replay → IsAnswered ReplayComes (command
         (met_by L.file L.misses L.faults F.feeds D.channels library.old library.new
-        feeds.old feeds.new drains.old drains.new) (Status.Refused not_built_here) result }
+        feeds.old feeds.new drains.old drains.new) job.now)
+        result }
+    ensures replay_complete { (net : Network State) → job.now.verb ≡ Verb.Replay
+        → TellsAll (L.file library.old)
+        → ConformsToReplay (L.file library.old) (top_asked (string_bytes job.now.top))
+        (map port_text job.now.ports.items) job.now.grow net
+        → IsJudgedOrOutside (command
+        (met_by L.file L.misses L.faults F.feeds D.channels library.old library.new
+        feeds.old feeds.new drains.old drains.new) job.now)
+        net result }
+    ensures replay_incomplete { (misses : Counts) (names : List (List ℕ)) (refusal : Denial)
+        → job.now.verb ≡ Verb.Replay → TellsAll (L.file library.old)
+        → RefusesReplay (L.file library.old) (top_asked (string_bytes job.now.top))
+        (map port_text job.now.ports.items) job.now.grow misses names refusal
+        → IsNoVerdict result }
+
+    ensures gen { job.now.verb ≡ Verb.Gen → IsAnswered GenComes (command
+        (met_by L.file L.misses L.faults F.feeds D.channels library.old library.new
+        feeds.old feeds.new drains.old drains.new) job.now)
+        result }
+    ensures gen_complete { (instances : ℕ) (net : Network State) → job.now.verb ≡ Verb.Gen
+        → instances_of (string_bytes job.now.top) ≡ Some instances
+        → GeneratedConform instances (map port_text job.now.ports.items) net
+        → IsAnswered (GenComesFor net) (command
+        (met_by L.file L.misses L.faults F.feeds D.channels library.old library.new
+        feeds.old feeds.new drains.old drains.new) job.now)
+        result }
+    ensures gen_reads_no_file { job.now.verb ≡ Verb.Gen → library.new ≡ library.old }
+    ensures gen_opens_no_feed { job.now.verb ≡ Verb.Gen → feeds.new ≡ feeds.old }
 
     ensures said { IsSaid (L.faults library.old) (L.faults library.new) (F.feeds feeds.old).faults
         (F.feeds feeds.new).faults (D.channels drains.old) (D.channels drains.new) result }
@@ -152,6 +178,7 @@ pub(crate) fn do_job<R: Threads + Sync, L: Library, F: Feeds, D: Drains, G: Gate
         Verb::Check => check_job(alloc, job, library, drains),
         Verb::Certify => certify_job(alloc, job, library, drains),
         Verb::Fmt => format_job(alloc, job, library, drains),
-        Verb::Replay | Verb::Gen => report(Status::Refused(NOT_BUILT), drains),
+        Verb::Replay => replay_job(alloc, job, library, feeds, drains),
+        Verb::Gen => gen_job(rt, alloc, job, drains, gate),
     }
 }

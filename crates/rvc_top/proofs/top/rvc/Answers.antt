@@ -1,8 +1,10 @@
-use Rattle.std.proofs.Common.{◌≡◌, inl, sym, ap, subst, ◌∙◌}
+use Rattle.std.proofs.Common.{◌≡◌, Some, inl, sym, ap, subst, ◌∙◌}
 use Rattle.conforming_jobs.specs.Conforming.{Conforms, ConformsWith, names_of_ports, no_ports}
 use Rattle.grown_links.specs.Growth.{GrowTooFar}
 use Rattle.certify_job.specs.Ends.{IsDecided}
 use Rattle.format_job.specs.Formatting.{HasFile}
+use Rattle.gen_job.specs.Jobs.{GeneratedConform, instances_of}
+use Rattle.replay_job.specs.Replays.{ConformsToReplay, RefusesReplay}
 use Rattle.network_commands.specs.Commands.{RefusesJob}
 use Rattle.rvc_engine.specs.Top.{top_asked}
 use Rattle.rvc_words.specs.Words.{job, job_text, texts}
@@ -78,3 +80,37 @@ pub returns-in-Ok-clause-complete : goal.returns-in-Ok-clause-complete
 returns-in-Ok-clause-complete g c = λ j tree is verb has quiet kept.
     let says : job_text c.in-Ok.job ≡ j = same_job (job_text c.in-Ok.job) j (job (texts c.args.words.now)) c.in-Ok.ensures.read is in
     c.do_job.ensures.format_complete tree (ap (λ x. x.verb) says ∙ verb) (subst (λ x. HasFile (g.L.Library.file c.args.library.now x.top) x.ports tree) (sym says) has) quiet kept
+
+pub returns-in-Ok-clause-replay : goal.returns-in-Ok-clause-replay
+returns-in-Ok-clause-replay g c = λ j is verb.
+    let says : job_text c.in-Ok.job ≡ j = same_job (job_text c.in-Ok.job) j (job (texts c.args.words.now)) c.in-Ok.ensures.read is in
+    inl (record { read = c.in-Ok.job; says = says; holds = c.do_job.ensures.replay (ap (λ x. x.verb) says ∙ verb) })
+
+pub returns-in-Ok-clause-replay_complete : goal.returns-in-Ok-clause-replay_complete
+returns-in-Ok-clause-replay_complete g c = λ j net is verb tells conforms.
+    let says : job_text c.in-Ok.job ≡ j = same_job (job_text c.in-Ok.job) j (job (texts c.args.words.now)) c.in-Ok.ensures.read is in
+    inl (record {
+      read = c.in-Ok.job;
+      says = says;
+      holds = c.do_job.ensures.replay_complete net (ap (λ x. x.verb) says ∙ verb) tells (subst (λ x. ConformsToReplay (g.L.Library.file c.args.library.now) (top_asked x.top) x.ports x.grow net) (sym says) conforms);
+    })
+
+pub returns-in-Ok-clause-replay_incomplete : goal.returns-in-Ok-clause-replay_incomplete
+returns-in-Ok-clause-replay_incomplete g c = λ j misses names refusal is verb tells refuses.
+    let says : job_text c.in-Ok.job ≡ j = same_job (job_text c.in-Ok.job) j (job (texts c.args.words.now)) c.in-Ok.ensures.read is in
+    c.do_job.ensures.replay_incomplete misses names refusal (ap (λ x. x.verb) says ∙ verb) tells
+    (subst (λ x. RefusesReplay (g.L.Library.file c.args.library.now) (top_asked x.top) x.ports x.grow misses names refusal) (sym says) refuses)
+
+pub returns-in-Ok-clause-gen : goal.returns-in-Ok-clause-gen
+returns-in-Ok-clause-gen g c = λ j is verb.
+    let says : job_text c.in-Ok.job ≡ j = same_job (job_text c.in-Ok.job) j (job (texts c.args.words.now)) c.in-Ok.ensures.read is in
+    inl (record { read = c.in-Ok.job; says = says; holds = c.do_job.ensures.gen (ap (λ x. x.verb) says ∙ verb) })
+
+pub returns-in-Ok-clause-gen_complete : goal.returns-in-Ok-clause-gen_complete
+returns-in-Ok-clause-gen_complete g c = λ j instances net is verb number conform.
+    let says : job_text c.in-Ok.job ≡ j = same_job (job_text c.in-Ok.job) j (job (texts c.args.words.now)) c.in-Ok.ensures.read is in
+    inl (record {
+      read = c.in-Ok.job;
+      says = says;
+      holds = c.do_job.ensures.gen_complete instances net (ap (λ x. x.verb) says ∙ verb) (ap (λ x. instances_of x.top) says ∙ number) (subst (λ x. GeneratedConform instances x.ports net) (sym says) conform);
+    })

@@ -1,4 +1,4 @@
-use Rattle.rvc_top.proofs.Said.{certify_no_usage, certify_said, check_no_usage, check_said, run_no_usage, run_said, run_tells}
+use Rattle.rvc_top.proofs.Said.{certify_no_usage, certify_said, check_no_usage, check_said, gen_no_usage, gen_said, replay_no_usage, replay_said, run_no_usage, run_said, run_tells}
 use Rattle.rvc_top.proofs.verbs.do_job.Goals as goal
 
 pub returns-in-Run-clause-determinate : goal.returns-in-Run-clause-determinate
@@ -39,3 +39,46 @@ returns-in-Certify-clause-no_usage g c = certify_no_usage _ c.certify_job.result
 
 pub returns-in-Fmt-clause-format_complete : goal.returns-in-Fmt-clause-format_complete
 returns-in-Fmt-clause-format_complete g c = λ tree is has quiet kept. c.format_job.ensures.complete tree has quiet kept
+
+pub returns-in-Replay-clause-replay : goal.returns-in-Replay-clause-replay
+returns-in-Replay-clause-replay g c = λ is. c.replay_job.ensures.answered
+
+pub returns-in-Replay-clause-replay_complete : goal.returns-in-Replay-clause-replay_complete
+returns-in-Replay-clause-replay_complete g c = λ net is tells conforms. c.replay_job.ensures.complete net tells conforms
+
+pub returns-in-Replay-clause-replay_incomplete : goal.returns-in-Replay-clause-replay_incomplete
+returns-in-Replay-clause-replay_incomplete g c = λ misses names refusal is tells refuses. c.replay_job.ensures.incomplete misses names refusal tells refuses
+
+pub returns-in-Replay-clause-said : goal.returns-in-Replay-clause-said
+returns-in-Replay-clause-said g c = replay_said _ c.replay_job.result c.replay_job.ensures.answered
+
+pub returns-in-Replay-clause-no_usage : goal.returns-in-Replay-clause-no_usage
+returns-in-Replay-clause-no_usage g c = replay_no_usage _ c.replay_job.result c.replay_job.ensures.answered
+
+pub returns-in-Gen-clause-gen : goal.returns-in-Gen-clause-gen
+returns-in-Gen-clause-gen g c = λ is. c.gen_job.ensures.answered
+    (g.L.Library.file c.args.library.now)
+    (record { old = g.L.Library.misses c.args.library.now; new = g.L.Library.misses c.args.library.now })
+    (record { old = g.L.Library.faults c.args.library.now; new = g.L.Library.faults c.args.library.now })
+    (g.F.Feeds.feeds c.args.feeds.now)
+
+pub returns-in-Gen-clause-gen_complete : goal.returns-in-Gen-clause-gen_complete
+returns-in-Gen-clause-gen_complete g c = λ instances net is number conform. c.gen_job.ensures.complete
+    (g.L.Library.file c.args.library.now)
+    (record { old = g.L.Library.misses c.args.library.now; new = g.L.Library.misses c.args.library.now })
+    (record { old = g.L.Library.faults c.args.library.now; new = g.L.Library.faults c.args.library.now })
+    (g.F.Feeds.feeds c.args.feeds.now) instances net number conform
+
+pub returns-in-Gen-clause-said : goal.returns-in-Gen-clause-said
+returns-in-Gen-clause-said g c = gen_said _ c.gen_job.result (c.gen_job.ensures.answered
+    (g.L.Library.file c.args.library.now)
+    (record { old = g.L.Library.misses c.args.library.now; new = g.L.Library.misses c.args.library.now })
+    (record { old = g.L.Library.faults c.args.library.now; new = g.L.Library.faults c.args.library.now })
+    (g.F.Feeds.feeds c.args.feeds.now))
+
+pub returns-in-Gen-clause-no_usage : goal.returns-in-Gen-clause-no_usage
+returns-in-Gen-clause-no_usage g c = gen_no_usage _ c.gen_job.result (c.gen_job.ensures.answered
+    (g.L.Library.file c.args.library.now)
+    (record { old = g.L.Library.misses c.args.library.now; new = g.L.Library.misses c.args.library.now })
+    (record { old = g.L.Library.faults c.args.library.now; new = g.L.Library.faults c.args.library.now })
+    (g.F.Feeds.feeds c.args.feeds.now))
