@@ -188,7 +188,7 @@ pub fn rvc<R: Threads + Sync, L: Library, F: Feeds, D: Drains, G: Gate>(
         → IsNoVerdict result }
 
     // `gen`.
-    ensures gen { (j : JobText) → job (texts words.now) ≡ Ok j → j.verb ≡ verb.Gen
+    ensures generated { (j : JobText) → job (texts words.now) ≡ Ok j → j.verb ≡ verb.Gen
         → IsDoneBy GenComes j (met_by L.file L.misses L.faults F.feeds D.channels
         library.old library.new feeds.old feeds.new drains.old drains.new) result }
     ensures gen_complete { (j : JobText) (instances : ℕ) (net : Network State)
