@@ -114,3 +114,7 @@ returns-in-Ok-clause-gen_complete g c = λ j instances net is verb number confor
       says = says;
       holds = c.do_job.ensures.gen_complete instances net (ap (λ x. x.verb) says ∙ verb) (ap (λ x. instances_of x.top) says ∙ number) (subst (λ x. GeneratedConform instances x.ports net) (sym says) conform);
     })
+
+pub do_job-requires-clause-number : goal.do_job-requires-clause-number
+do_job-requires-clause-number g c = λ is.
+    c.jobs_to_generate_have_numbers.ensures (texts c.args.words.now) (job_text c.in-Ok.job) c.in-Ok.ensures.read is
