@@ -116,5 +116,5 @@ returns-in-Ok-clause-gen_complete g c = λ j instances net is verb number confor
     })
 
 pub do_job-requires-clause-number : goal.do_job-requires-clause-number
-do_job-requires-clause-number g c = λ lifetimes is.
+do_job-requires-clause-number g c = λ lifetimes alive is.
     c.jobs_to_generate_have_numbers.ensures (texts c.args.words.now) (job_text c.in-Ok.job) c.in-Ok.ensures.read is
