@@ -64,8 +64,8 @@ returns-in-Replay-clause-said g c = replay_said _ c.replay_job.result c.replay_j
 pub returns-in-Replay-clause-no_usage : goal.returns-in-Replay-clause-no_usage
 returns-in-Replay-clause-no_usage g c = replay_no_usage _ c.replay_job.result c.replay_job.ensures.answered
 
-pub returns-in-Gen-clause-gen : goal.returns-in-Gen-clause-gen
-returns-in-Gen-clause-gen g c = λ is. c.gen_job.ensures.answered
+pub returns-in-Gen-clause-generated : goal.returns-in-Gen-clause-generated
+returns-in-Gen-clause-generated g c = λ is. c.gen_job.ensures.answered
     (g.L.Library.file c.args.library.now)
     (record { old = g.L.Library.misses c.args.library.now; new = g.L.Library.misses c.args.library.now })
     (record { old = g.L.Library.faults c.args.library.now; new = g.L.Library.faults c.args.library.now })
