@@ -206,8 +206,12 @@ const REFUSALS: &[(&str, &str, &str)] = &[
         "refused G1 Inc.cal 30\n",
     ),
     (RUN, " unit U : end", "refused S5 Inc.cal 0\n"),
-    ("rvc gen 1 --trace t", INC, "refused Y1 words 0\n"),
-    ("rvc replay Inc.cal --trace t", INC, "refused Y1 words 0\n"),
+    ("rvc gen 1 In=in --trace t", INC, "refused P1 words 0\n"),
+    (
+        "rvc replay Inc.cal In=in Out=out --trace t",
+        INC,
+        "refused P1 words 1\n",
+    ),
     ("rvc check Inc.cal In=in", INC, "refused P1 words 0\n"),
     ("rvc certify Inc.cal Out=out", INC, "refused P1 words 0\n"),
     (

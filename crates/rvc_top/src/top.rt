@@ -62,7 +62,7 @@ use std::thread::Threads;
 ///   network that the files mean, over the bytes of the feeds, and `NotRun` at the first line that isn't. No channel is
 ///   opened. What conforms is judged so, unless an actor has a form without code, memory runs out, or reading or writing
 ///   fails (`replay_complete`); what is refused never is (`replay_incomplete`).
-/// - `gen`: a network was generated and run as [`gen_job`](gen_job::gen_job) says, over an input that was generated too. No
+/// - `generated`: `gen` made a network and ran it as [`gen_job`](gen_job::gen_job) says, over an input that was generated too. No
 ///   file is read and no feed is opened (`gen_reads_no_file`, `gen_opens_no_feed`). If the generated files conform with the
 ///   port words, their network is run, unless memory runs out, writing fails or the job is refused for what `IsStillRefused`
 ///   of that crate names (`gen_complete`).
@@ -188,7 +188,7 @@ pub fn rvc<R: Threads + Sync, L: Library, F: Feeds, D: Drains, G: Gate>(
         → IsNoVerdict result }
 
     // `gen`.
-    ensures gen { (j : JobText) → job (texts words.now) ≡ Ok j → j.verb ≡ verb.Gen
+    ensures generated { (j : JobText) → job (texts words.now) ≡ Ok j → j.verb ≡ verb.Gen
         → IsDoneBy GenComes j (met_by L.file L.misses L.faults F.feeds D.channels
         library.old library.new feeds.old feeds.new drains.old drains.new) result }
     ensures gen_complete { (j : JobText) (instances : ℕ) (net : Network State)

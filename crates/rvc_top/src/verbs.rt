@@ -152,7 +152,7 @@ pub(crate) fn do_job<R: Threads + Sync, L: Library, F: Feeds, D: Drains, G: Gate
         (map port_text job.now.ports.items) job.now.grow misses names refusal
         → IsNoVerdict result }
 
-    ensures gen { job.now.verb ≡ Verb.Gen → IsAnswered GenComes (command
+    ensures generated { job.now.verb ≡ Verb.Gen → IsAnswered GenComes (command
         (met_by L.file L.misses L.faults F.feeds D.channels library.old library.new
         feeds.old feeds.new drains.old drains.new) job.now)
         result }

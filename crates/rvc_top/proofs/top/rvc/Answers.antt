@@ -101,10 +101,10 @@ returns-in-Ok-clause-replay_incomplete g c = λ j misses names refusal is verb t
     c.do_job.ensures.replay_incomplete misses names refusal (ap (λ x. x.verb) says ∙ verb) tells
     (subst (λ x. RefusesReplay (g.L.Library.file c.args.library.now) (top_asked x.top) x.ports x.grow misses names refusal) (sym says) refuses)
 
-pub returns-in-Ok-clause-gen : goal.returns-in-Ok-clause-gen
-returns-in-Ok-clause-gen g c = λ j is verb.
+pub returns-in-Ok-clause-generated : goal.returns-in-Ok-clause-generated
+returns-in-Ok-clause-generated g c = λ j is verb.
     let says : job_text c.in-Ok.job ≡ j = same_job (job_text c.in-Ok.job) j (job (texts c.args.words.now)) c.in-Ok.ensures.read is in
-    inl (record { read = c.in-Ok.job; says = says; holds = c.do_job.ensures.gen (ap (λ x. x.verb) says ∙ verb) })
+    inl (record { read = c.in-Ok.job; says = says; holds = c.do_job.ensures.generated (ap (λ x. x.verb) says ∙ verb) })
 
 pub returns-in-Ok-clause-gen_complete : goal.returns-in-Ok-clause-gen_complete
 returns-in-Ok-clause-gen_complete g c = λ j instances net is verb number conform.
@@ -114,3 +114,7 @@ returns-in-Ok-clause-gen_complete g c = λ j instances net is verb number confor
       says = says;
       holds = c.do_job.ensures.gen_complete instances net (ap (λ x. x.verb) says ∙ verb) (ap (λ x. instances_of x.top) says ∙ number) (subst (λ x. GeneratedConform instances x.ports net) (sym says) conform);
     })
+
+pub do_job-requires-clause-number : goal.do_job-requires-clause-number
+do_job-requires-clause-number g c = λ lifetimes alive is.
+    c.jobs_to_generate_have_numbers.ensures (texts c.args.words.now) (job_text c.in-Ok.job) c.in-Ok.ensures.read is

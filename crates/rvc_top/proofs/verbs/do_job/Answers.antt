@@ -7,6 +7,9 @@ returns-in-Run-clause-determinate g c = λ is. run_tells _ c.runs_tell_quiet_run
 pub returns-in-Run-clause-run_complete : goal.returns-in-Run-clause-run_complete
 returns-in-Run-clause-run_complete g c = λ net is tells conforms. c.run_job.ensures.complete net tells conforms
 
+pub returns-in-Run-clause-run_incomplete : goal.returns-in-Run-clause-run_incomplete
+returns-in-Run-clause-run_incomplete g c = λ misses names refusal is tells refuses. c.run_job.ensures.incomplete misses names refusal tells refuses
+
 pub returns-in-Run-clause-run_too_far : goal.returns-in-Run-clause-run_too_far
 returns-in-Run-clause-run_too_far g c = λ net is tells conforms far. c.run_job.ensures.too_far net tells conforms far
 
@@ -19,6 +22,9 @@ returns-in-Run-clause-no_usage g c = run_no_usage _ c.run_job.result c.run_job.e
 pub returns-in-Check-clause-check : goal.returns-in-Check-clause-check
 returns-in-Check-clause-check g c = λ is. c.check_job.ensures.answered (g.F.Feeds.feeds c.args.feeds.now)
 
+pub returns-in-Check-clause-check_incomplete : goal.returns-in-Check-clause-check_incomplete
+returns-in-Check-clause-check_incomplete g c = λ misses names refusal is tells refuses. c.check_job.ensures.incomplete misses names refusal tells refuses
+
 pub returns-in-Check-clause-said : goal.returns-in-Check-clause-said
 returns-in-Check-clause-said g c = check_said _ c.check_job.result (c.check_job.ensures.answered (g.F.Feeds.feeds c.args.feeds.now))
 
@@ -30,6 +36,9 @@ returns-in-Certify-clause-certify g c = λ is. c.certify_job.ensures.answered (g
 
 pub returns-in-Certify-clause-certify_complete : goal.returns-in-Certify-clause-certify_complete
 returns-in-Certify-clause-certify_complete g c = λ net is tells conforms. c.certify_job.ensures.complete net tells conforms
+
+pub returns-in-Certify-clause-certify_incomplete : goal.returns-in-Certify-clause-certify_incomplete
+returns-in-Certify-clause-certify_incomplete g c = λ misses names refusal is tells refuses. c.certify_job.ensures.incomplete misses names refusal tells refuses
 
 pub returns-in-Certify-clause-said : goal.returns-in-Certify-clause-said
 returns-in-Certify-clause-said g c = certify_said _ c.certify_job.result (c.certify_job.ensures.answered (g.F.Feeds.feeds c.args.feeds.now))
@@ -55,8 +64,8 @@ returns-in-Replay-clause-said g c = replay_said _ c.replay_job.result c.replay_j
 pub returns-in-Replay-clause-no_usage : goal.returns-in-Replay-clause-no_usage
 returns-in-Replay-clause-no_usage g c = replay_no_usage _ c.replay_job.result c.replay_job.ensures.answered
 
-pub returns-in-Gen-clause-gen : goal.returns-in-Gen-clause-gen
-returns-in-Gen-clause-gen g c = λ is. c.gen_job.ensures.answered
+pub returns-in-Gen-clause-generated : goal.returns-in-Gen-clause-generated
+returns-in-Gen-clause-generated g c = λ is. c.gen_job.ensures.answered
     (g.L.Library.file c.args.library.now)
     (record { old = g.L.Library.misses c.args.library.now; new = g.L.Library.misses c.args.library.now })
     (record { old = g.L.Library.faults c.args.library.now; new = g.L.Library.faults c.args.library.now })
