@@ -364,6 +364,7 @@ fn links_that_may_grow_too_far_are_refused(rt: HostRuntime) -> Result<(), Fail> 
     let line = "rvc replay Net.xdf --trace t --grow 1048576";
     let files = wide_files(alloc, 17)?;
     let answered = replay_line(&rt, alloc, files, line, BYTES, TRACE, NEVER)?;
-    assert!(rt; answered.drains.held(0) == b"refused Z12 words 0\n");
+    assert!(rt; answered.status.code() == 4, "{:?}", answered.status);
+    assert!(rt; answered.drains.held(0) == "refused Z12 words 0\n".as_bytes());
     Ok(())
 }
