@@ -112,11 +112,7 @@ const ROWS: &[Row] = &[
 ];
 
 /// Does what the words of a line ask for, on channels of its own.
-fn run_line<R: Threads + Sync>(
-    rt: &R,
-    alloc: Global,
-    line: &str,
-) -> Result<(u8, MemDrains), Fail> {
+fn run_line<R: Threads + Sync>(rt: &R, alloc: Global, line: &str) -> Result<(u8, MemDrains), Fail> {
     let mut drains = MemDrains::new(alloc, Vec::new(alloc), 4096, 4, 32_768)?;
     let words = words(alloc, line)?;
     let Ok(job) = read_words(alloc, words.as_slice()) else {
