@@ -2,7 +2,7 @@
 
 use certify_job::certify_job;
 use check_job::check_job;
-use run_report::{REPORT_CHANNEL, Status};
+use run_report::REPORT_CHANNEL;
 use rvc_io::{MemDrains, MemLibrary, names_are_distinct};
 use rvc_words::{Job, Verb, read_words};
 use std::alloc::{AllocError, Global};
@@ -131,20 +131,6 @@ fn files(alloc: Global) -> Result<Vec<(String, Vec<u8>)>, AllocError> {
     Ok(all)
 }
 
-/// Does a job, if it is one of these verbs.
-fn do_job(
-    alloc: Global,
-    job: &Job,
-    library: &mut MemLibrary,
-    drains: &mut MemDrains,
-) -> Result<Status, Fail> {
-    match job.verb {
-        Verb::Check => Ok(check_job(alloc, job, library, drains)),
-        Verb::Certify => Ok(certify_job(alloc, job, library, drains)),
-        _ => Err(Fail::new("another verb")),
-    }
-}
-
 /// The command of a row ends and reports as it says.
 fn holds<R: Abort>(rt: &R, alloc: Global, row: &Row) -> Result<(), Fail> {
     let &(words, read, put, code, report) = row;
@@ -153,7 +139,11 @@ fn holds<R: Abort>(rt: &R, alloc: Global, row: &Row) -> Result<(), Fail> {
     assert!(rt; names_are_distinct(&files));
     let mut library = MemLibrary::new(files, vec![in alloc; read]?);
     let mut drains = MemDrains::new(alloc, vec![in alloc; put]?, 1000, 1, 4096)?;
-    let status = do_job(alloc, &job, &mut library, &mut drains)?;
+    let status = match job.verb {
+        Verb::Check => check_job(alloc, &job, &mut library, &mut drains),
+        Verb::Certify => certify_job(alloc, &job, &mut library, &mut drains),
+        _ => return Err(Fail::new("another verb")),
+    };
     assert!(rt; status.code() == code, "{words}");
     assert!(rt; drains.held(REPORT_CHANNEL) == report.as_bytes(), "{words}");
     Ok(())
