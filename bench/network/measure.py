@@ -13,14 +13,13 @@ FIRINGS = 2_000_000
 
 
 def timed(words, folder):
-    """The seconds that a command takes and the kilobytes that it holds at most."""
+    """The seconds that a command takes."""
     start = time.perf_counter()
-    child = subprocess.Popen(words, cwd=folder, stdout=subprocess.DEVNULL)
-    _, status, usage = os.wait4(child.pid, 0)
+    status = subprocess.run(words, cwd=folder, stdout=subprocess.DEVNULL).returncode
     seconds = time.perf_counter() - start
     if status != 0:
-        sys.exit('%s: status %d' % (' '.join(words), os.waitstatus_to_exitcode(status)))
-    return seconds, usage.ru_maxrss
+        sys.exit('%s: status %d' % (' '.join(words), status))
+    return seconds
 
 
 def least(rounds, measure):
@@ -52,8 +51,8 @@ def slope(short, long, tokens):
     return (long - short) / (2 * tokens)
 
 
-def show(name, each, firings_each, kilobytes, others):
-    text = '%s: %.1f ns a firing, %.0f tokens a second, %d kB' % (name, each * 1e9 / firings_each, 1 / each, kilobytes)
+def show(name, each, firings_each, others):
+    text = '%s: %.1f ns a firing, %.0f tokens a second' % (name, each * 1e9 / firings_each, 1 / each)
     for other, seconds in others:
         text += '; %s %.1f ns: ratio %.2f' % (other, seconds * 1e9 / firings_each, each / seconds)
     print(text, flush=True)
@@ -63,30 +62,30 @@ def rows(program, plain, gnuradio, folder, rounds):
     for count in (1, 10, 100, 1000):
         tokens = FIRINGS // count
         write(folder, 'Row.xdf', row(count).encode())
-        short, _ = rvc_time(program, 'Row.xdf', tokens, folder, rounds)
-        long, kilobytes = rvc_time(program, 'Row.xdf', 3 * tokens, folder, rounds)
+        short = rvc_time(program, 'Row.xdf', tokens, folder, rounds)
+        long = rvc_time(program, 'Row.xdf', 3 * tokens, folder, rounds)
         others = []
         for name, words in (('plain', [plain]), ('GNU Radio', ['/usr/bin/python3', gnuradio])):
-            # GNU Radio moves whole buffers, so its runs are longer.
-            many = tokens if name == 'plain' else 20 * tokens
+            # GNU Radio moves whole buffers and begins a thread for each block, so its runs are longer.
+            many = tokens if name == 'plain' else 5_000_000
             times = [[printed(words + [str(count), str(n)]) for n in (many, 3 * many)] for _ in range(rounds)]
             if all(t is not None for pair in times for t in pair):
                 others.append((name, max(slope(min(t[0] for t in times), min(t[1] for t in times), many), 1e-12)))
-        show('row of %d' % count, slope(short, long, tokens), count, kilobytes, others)
+        show('row of %d' % count, slope(short, long, tokens), count, others)
 
 
 def one(program, name, text, tokens, firings_each, folder, rounds):
     write(folder, name + '.xdf', text.encode())
-    short, _ = rvc_time(program, name + '.xdf', tokens, folder, rounds)
-    long, kilobytes = rvc_time(program, name + '.xdf', 3 * tokens, folder, rounds)
-    show(name.lower(), slope(short, long, tokens), firings_each, kilobytes, [])
+    short = rvc_time(program, name + '.xdf', tokens, folder, rounds)
+    long = rvc_time(program, name + '.xdf', 3 * tokens, folder, rounds)
+    show(name.lower(), slope(short, long, tokens), firings_each, [])
 
 
 def loading(program, folder, rounds):
     for count in (250, 500, 1000):
         write(folder, 'Mesh.xdf', mesh(count).encode())
-        seconds, kilobytes = least(rounds, lambda: timed([program, 'check', 'Mesh.xdf'], folder))
-        print('check of %d instances and %d links: %.3f s, %d kB' % (count, 4 * (count + 1), seconds, kilobytes), flush=True)
+        seconds = least(rounds, lambda: timed([program, 'check', 'Mesh.xdf'], folder))
+        print('check of %d instances and %d links: %.3f s' % (count, 4 * (count + 1), seconds), flush=True)
 
 
 def main():
