@@ -10,6 +10,7 @@ use Rattle.round_runner.specs.declared.outcome.RunEnd.TheVariants as end
 use Rattle.round_runner.specs.Bursting.{at_work}
 use Rattle.round_runner.specs.Choosing.{marked}
 use Rattle.round_runner.specs.Running.{Running}
+use Rattle.network_runner.specs.declared.firing.Turn.{Turn}
 
 -- a round that is to be made: its number, whether the one before fired nothing, and how many firings are left
 pub record Stage : Type 0 where
@@ -29,6 +30,10 @@ abbrev pub WorkersArrive : (arrived : ℕ → ℕ → Type 0) → RoundKind → 
 WorkersArrive arrived kind workers instances at = 0 < at.left → 0 < instances
     → HaveArrived arrived (at_work (record { round = at.round; first = 0; count = workers }) at.left
     (count_picked (marked kind instances at.round at.idle)))
+
+-- the round of a turn
+abbrev pub stage_by : Turn → Stage
+stage_by turn = record { round = turn.round; idle = turn.idle; left = turn.left }
 
 -- A runner.
 

@@ -16,7 +16,7 @@ use Rattle.rvc_base.specs.declared.scalar.Scalar.{Scalar}
 use Rattle.net_model.specs.Wired.{IsWired}
 use Rattle.net_state.specs.declared.filling.Filled.{Filled}
 use Rattle.net_state.specs.Held.{Held, seen}
-use Rattle.net_state.specs.Standing.{StandsSince}
+use Rattle.net_state.specs.Standing.{StandsIn, StandsSince}
 use Rattle.net_state.specs.Working.{AreFed, IsAtRest}
 use Rattle.round_runner.specs.Pulling.{PullIsDue}
 use Rattle.round_runner.specs.Running.{AreFedBy, ComesNow, feed_of}
@@ -114,6 +114,17 @@ pub record Stops {X : Type 0} (links : List Link) (before : List (Option Reading
   pub states : (net : Network X) (inputs : List (List ℕ)) (s : State X) → Stand net s → IsWired net
       → AreFedBy net inputs s before feeds_old
       → IsDueOn net inputs s l link kind (feeds_new.left feed)
+
+-- .. of a network that was just opened, and of one whose delivery is to be made
+abbrev pub StopsOpened : {X : Type 0} → List Link → List (Option Reading) → (feed : ℕ)
+    → Held (Cell X) → Inputs → Inputs → Type 0
+StopsOpened links before feed old feeds_old feeds_new =
+    Stops links before feed (λ net s. StandsSince net old s s) feeds_old feeds_new
+
+abbrev pub StopsDelivery : {X : Type 0} → List Link → List (Option Reading) → (feed : ℕ)
+    → Held (Cell X) → Inputs → Inputs → Type 0
+StopsDelivery links before feed old feeds_old feeds_new =
+    Stops links before feed (λ net s. StandsIn net old s) feeds_old feeds_new
 
 -- All input links.
 

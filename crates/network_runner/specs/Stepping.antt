@@ -113,6 +113,11 @@ pub record DeliversRun {X : Type 0} (run new : Running (Cell X)) (feeds_old feed
       → StandsWith net inputs run feeds_old s
       → IsDelivered net inputs s new.held new.readings feeds_new came
 
+-- It couldn't be, since of this feed, from which it has to pull, nothing could be read.
+abbrev pub StopsRun : {X : Type 0} → Running (Cell X) → (feed : ℕ) → Inputs → Inputs → Type 0
+StopsRun {X} run feed feeds_old feeds_new = (net : Network X) (inputs : List (List ℕ)) (s : State X)
+    → StandsWith net inputs run feeds_old s → NeedsPull net inputs s feed feeds_new
+
 -- by what the next round is made
 abbrev pub turn_of : {C : Type 0} → Running C → ℕ → Turn
 turn_of run left = record {
