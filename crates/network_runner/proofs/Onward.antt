@@ -49,6 +49,7 @@ run_none run = record {
   same_kind = refl;
   same_burst = refl;
   same_grow = refl;
+  same_workers = refl;
 }
 
 pub onward_starts : {C S T X : Type 0} (cell : C → Cell X) (feeds : S → Inputs) (channels : T → Channels) (run : Running C) (feeds_now : S) (drains_now : T) (budget : ℕ)

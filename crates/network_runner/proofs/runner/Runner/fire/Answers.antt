@@ -51,7 +51,7 @@ invariant_of-self g c =
     let budget : c.self.inside.counts.firings + c.args.left ≤ 1000000000000 = subst (λ r. r.counts.firings + c.args.left ≤ 1000000000000) (sym c.self.view_is) c.requires.budget in (
       parts_kept view new c.self.inside.links.items c.self.inside.outlets.items (length c.self.inside.came.items) (length c.self.inside.came.items) (length c.self.inside.writers.items) (length c.self.inside.writers.items) c.self.inside.cells
           (c.make_firings-made.ensures.links ∙ c.self.invariant.0.links_are) (as_many_cells g.A.Firing.cell c.make_firings-made.new.net.cells c.self.inside.net.cells c.make_firings-made.ensures.same_actors.count)
-          refl refl refl refl refl refl refl refl
+          refl refl refl refl refl refl refl refl refl refl
           (ap (λ ns. length ns) sent_is ∙ sent_long (map g.A.Firing.cell c.make_firings-made.new.net.cells) c.deref.result.now c.self.inside.counts.sent.items) c.self.invariant.0,
       λ still.
           let on : end_of c.make_firings-made.result.answer ≡ None = sym c.end_of-self-inside.ensures ∙ still in
