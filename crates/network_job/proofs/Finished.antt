@@ -98,11 +98,11 @@ module _ {C X : Type 0} (cell : C → Cell X) (cells : List (Cell X)) (flat : Fl
       → ((n : ℕ) → n ≢ 0 → (channels old).is_open n ≡ false) → FeedsAreOpened (feeds_of flat.links.items ins words) (feeds feeds_old) (feeds feeds_mid) → WritesHead trace outs words head (channels old) (channels mid)
       → WritesWithin run (channels mid) (channels now) → EndLeaves cell feeds channels run new feeds_mid feeds_new mid now job.budget how → TakesOver new.counts places counts
       → RunsArePaced X → BegunWithinBudget X → PacedWithinBudget X
-      → AreInputs inputs flat.links.items ins words (feeds feeds_old) → LeavesRun setting (ending_of how) counts (channels now)
+      → AreInputs inputs flat.links.items ins words (feeds feeds_old) → LeavesRun setting (ending_of how) counts (feeds feeds_new) (channels now)
   leaves_run feeds channels trace feeds_old feeds_mid feeds_new old mid now new how counts closed opened wrote within leaves taken runs_are_paced begun_law paced_law told =
       let begun : IsAtStart net inputs (seen_run cell run) (feeds feeds_mid) start = at_start (feeds feeds_old) (feeds feeds_mid) opened told in
-      let runs : RunsFromStart net inputs job.budget start how (seen_run cell run) (seen_run cell new) (channels mid) (channels now) =
-      runs_are_paced net inputs job.budget start how (seen_run cell run) (seen_run cell new) (channels mid) (channels now)
+      let runs : RunsFromStart net inputs job.budget start how (seen_run cell run) (seen_run cell new) (feeds feeds_new) (channels mid) (channels now) =
+      runs_are_paced net inputs job.budget start how (seen_run cell run) (seen_run cell new) (feeds feeds_new) (channels mid) (channels now)
       (record {
         wired = begun.stands.is_run_of.wired;
         lawful = begun.stands.is_run_of.lawful;
@@ -115,7 +115,7 @@ module _ {C X : Type 0} (cell : C → Cell X) (cells : List (Cell X)) (flat : Fl
       leaves_so net cells inputs is_ready.wired job flat.outs.items is_of.outs (seen_run cell run) head (channels mid) (channels now)
       (at_head trace outs words head (channels old) closed (channels mid) wrote) head_of_net prepared.begins.no_lines prepared.begins.no_output
       (writes_are cell cells flat words (plan_of job) kind run head places prepared) within.same_telling within.same_open
-      job.budget (seen_run cell new) pace_is counts places places_are taken begun_law paced_law how runs
+      job.budget (seen_run cell new) pace_is counts places places_are taken begun_law paced_law how (feeds feeds_new) runs
 
   -- it couldn't be started
 
@@ -125,7 +125,7 @@ module _ {C X : Type 0} (cell : C → Cell X) (cells : List (Cell X)) (flat : Fl
       broken_before net cells inputs is_ready.wired job flat.outs.items is_of.outs old closed trace (at_start feeds_old feeds_mid opened told).may_begin head channel now head_of_net fails
 
   pub leaves_unstarted : {S T : Type 0} (feeds : S → Inputs) (channels : T → Channels) (trace : List ℕ) (feeds_old feeds_new : S) (old now : T) (fault : JobFault) → ((n : ℕ) → n ≢ 0 → (channels old).is_open n ≡ false)
-      → Starts feeds channels flat words trace feeds_old feeds_new old now head (Err fault) → AreInputs inputs flat.links.items ins words (feeds feeds_old) → LeavesJob setting (Err fault) (channels now)
+      → Starts feeds channels flat words trace feeds_old feeds_new old now head (Err fault) → AreInputs inputs flat.links.items ins words (feeds feeds_old) → LeavesJob setting (Err fault) (feeds feeds_new) (channels now)
   leaves_unstarted feeds channels trace feeds_old feeds_new old now (Refused refusal) closed starts told = tt
   leaves_unstarted feeds channels trace feeds_old feeds_new old now Memory closed starts told = tt
   leaves_unstarted feeds channels trace feeds_old feeds_new old now (ReadFault feed) closed starts told = tt

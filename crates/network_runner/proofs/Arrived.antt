@@ -2,6 +2,7 @@
 use Rattle.std.proofs.Common.{◌≡◌, ◌⊎◌, ⊎_elim, inl, inr, ℕ, suc, ◌+◌, ◌-◌, ◌<◌, ◌≤◌, Bool, length, refl, sym, ap, subst, ◌∙◌, arith}
 use Rattle.std.specs.Prelude.{None, ◌==◌}
 use Rattle.rvc_base.specs.declared.round_kind.RoundKind.{RoundKind}
+use Rattle.rvc_io.specs.Channels.{Channels}
 use Rattle.net_model.specs.Cell.{Cell}
 use Rattle.round_runner.specs.declared.outcome.RoundEnd.{RoundEnd}
 use Rattle.round_runner.specs.declared.outcome.RoundEnd.TheVariants as round
@@ -11,6 +12,7 @@ use Rattle.round_runner.specs.Running.{Running}
 use Rattle.network_runner.specs.Arriving.{Arrivals, ArriveBy, MakesNone, MakesOne, RoundArrives, RunArrives, Stage, WorkersArrive, more, none, stage_after, stage_of}
 use Rattle.network_runner.specs.Asking.{IsSameRun, end_of, seen_run}
 use Rattle.network_runner.specs.Rounding.{IsNoFault}
+use Rattle.network_runner.specs.Stepping.{PutsBy, SameButEnd}
 use Rattle.network_runner.proofs.Fitting.{as_many_cells}
 
 -- One round.
@@ -82,6 +84,28 @@ arrive_too arrived (round.End end.Budget) left run new last rounds idle firings 
 arrive_too arrived (round.End (end.ReadFault feed)) left run new last rounds idle firings by = none_too run new last rounds idle firings by
 arrive_too arrived (round.End (end.WriteFault channel)) left run new last rounds idle firings by =
     ⊎_elim (λ makes. inl (none_too run new last rounds idle firings makes)) (λ makes. inr (one_too arrived left run new last rounds idle firings makes)) by
+
+-- what is put behind a round changes its answer only to that of a write that failed
+puts_answer : {C : Type 0} (answer result : RoundEnd) (run : Running C) (old now : Channels) → PutsBy answer result run old now
+    → (result ≡ answer) ⊎ ((channel : ℕ) × (result ≡ round.End (end.WriteFault channel)))
+puts_answer (round.Fired n) result run old now puts = inl puts.0
+puts_answer round.Idle result run old now puts = inl puts.0
+puts_answer (round.Grew link capacity) result run old now puts = inl puts.0
+puts_answer (round.End end.Quiet) result run old now puts = ⊎_elim (λ all. inl all.0) (λ front. inr (front.0, front.1)) puts
+puts_answer (round.End (end.Trapped inst action trap)) result run old now puts = ⊎_elim (λ all. inl all.0) (λ front. inr (front.0, front.1)) puts
+puts_answer (round.End (end.Stalled inst action link)) result run old now puts = ⊎_elim (λ all. inl all.0) (λ front. inr (front.0, front.1)) puts
+puts_answer (round.End end.Budget) result run old now puts = ⊎_elim (λ all. inl all.0) (λ front. inr (front.0, front.1)) puts
+puts_answer (round.End (end.ReadFault feed)) result run old now puts = ⊎_elim (λ all. inl all.0) (λ front. inr (front.0, front.1)) puts
+puts_answer (round.End (end.WriteFault channel)) result run old now puts = inl puts.0
+
+pub arrive_put : {C : Type 0} (arrived : ℕ → ℕ → Type 0) (answer result : RoundEnd) (left : ℕ) (run mid new : Running C) (old now : Channels) → PutsBy answer result mid old now → SameButEnd mid new
+    → ArriveBy arrived answer left run mid → ArriveBy arrived result left run new
+arrive_put arrived answer result left run mid new old now puts same by =
+    let too : ArriveBy arrived answer left run new = arrive_too arrived answer left run mid new (ap (λ r. r.rounds) same) (ap (λ r. r.idle) same) (ap (λ r. r.counts.firings) same) by in
+    ⊎_elim
+    (λ is. subst (λ a. ArriveBy arrived a left run new) (sym is) too)
+    (λ broken. subst (λ a. ArriveBy arrived a left run new) (sym broken.1) (arrive_broken arrived answer broken.0 left run new too))
+    (puts_answer answer result mid old now puts)
 
 -- A run.
 

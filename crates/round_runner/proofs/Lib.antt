@@ -2,3 +2,4 @@ mod Written
 mod UpTo
 mod Marks
 mod Sharing
+mod Arrived
