@@ -19,17 +19,17 @@ use Rattle.network_runner.proofs.Fitting.{as_many_cells}
 
 -- it is told of the same kind of round
 pub arrive_as : {C : Type 0} (arrived : ℕ → ℕ → Type 0) (left : ℕ) (run now : Running C) → now.kind ≡ run.kind → now.workers ≡ run.workers → length now.held.cells ≡ length run.held.cells
-    → now.rounds ≡ run.rounds → now.idle ≡ run.idle → RoundArrives arrived now left → RoundArrives arrived run left
+    → now.counts.rounds ≡ run.counts.rounds → now.idle ≡ run.idle → RoundArrives arrived now left → RoundArrives arrived run left
 arrive_as arrived left run now kind workers cells rounds idle arrive =
     subst (λ k. WorkersArrive arrived k run.workers (length run.held.cells) (stage_of run left)) kind
     (subst (λ n. WorkersArrive arrived now.kind n (length run.held.cells) (stage_of run left)) workers
     (subst (λ n. WorkersArrive arrived now.kind now.workers n (stage_of run left)) cells
     (subst (λ n. WorkersArrive arrived now.kind now.workers (length now.held.cells) (record { round = suc n; idle = run.idle; left = left })) rounds
-    (subst (λ b. WorkersArrive arrived now.kind now.workers (length now.held.cells) (record { round = suc now.rounds; idle = b; left = left })) idle arrive))))
+    (subst (λ b. WorkersArrive arrived now.kind now.workers (length now.held.cells) (record { round = suc now.counts.rounds; idle = b; left = left })) idle arrive))))
 
 -- .. of a run that stays the same
 pub arrive_in : {C X : Type 0} (cell : C → Cell X) (arrived : ℕ → ℕ → Type 0) (left : ℕ) (run now : Running C) → IsSameRun (seen_run cell run) (seen_run cell now)
-    → now.rounds ≡ run.rounds → now.idle ≡ run.idle → RoundArrives arrived now left → RoundArrives arrived run left
+    → now.counts.rounds ≡ run.counts.rounds → now.idle ≡ run.idle → RoundArrives arrived now left → RoundArrives arrived run left
 arrive_in cell arrived left run now same rounds idle arrive =
     arrive_as arrived left run now same.same_kind same.same_workers (as_many_cells cell now.held.cells run.held.cells same.same_actors.count) rounds idle arrive
 
@@ -45,10 +45,10 @@ arrive_by arrived (round.End end.Budget) left run new sound one = one
 arrive_by arrived (round.End (end.ReadFault feed)) left run new sound one = absurd sound
 arrive_by arrived (round.End (end.WriteFault channel)) left run new sound one = absurd sound
 
-none_too : {C : Type 0} (run new last : Running C) → last.rounds ≡ new.rounds → last.idle ≡ new.idle → last.counts.firings ≡ new.counts.firings → MakesNone run new → MakesNone run last
+none_too : {C : Type 0} (run new last : Running C) → last.counts.rounds ≡ new.counts.rounds → last.idle ≡ new.idle → last.counts.firings ≡ new.counts.firings → MakesNone run new → MakesNone run last
 none_too run new last rounds idle firings makes = record { rounds = rounds ∙ makes.rounds; idle = idle ∙ makes.idle; firings = firings ∙ makes.firings }
 
-one_too : {C : Type 0} (arrived : ℕ → ℕ → Type 0) (left : ℕ) (run new last : Running C) → last.rounds ≡ new.rounds → last.idle ≡ new.idle → last.counts.firings ≡ new.counts.firings → MakesOne arrived left run new
+one_too : {C : Type 0} (arrived : ℕ → ℕ → Type 0) (left : ℕ) (run new last : Running C) → last.counts.rounds ≡ new.counts.rounds → last.idle ≡ new.idle → last.counts.firings ≡ new.counts.firings → MakesOne arrived left run new
     → MakesOne arrived left run last
 one_too arrived left run new last rounds idle firings makes = record {
   fired = makes.fired;
@@ -72,7 +72,7 @@ arrive_broken arrived (round.End end.Budget) channel left run new by = inr by
 arrive_broken arrived (round.End (end.ReadFault feed)) channel left run new by = inl by
 arrive_broken arrived (round.End (end.WriteFault other)) channel left run new by = by
 
-pub arrive_too : {C : Type 0} (arrived : ℕ → ℕ → Type 0) (answer : RoundEnd) (left : ℕ) (run new last : Running C) → last.rounds ≡ new.rounds → last.idle ≡ new.idle → last.counts.firings ≡ new.counts.firings
+pub arrive_too : {C : Type 0} (arrived : ℕ → ℕ → Type 0) (answer : RoundEnd) (left : ℕ) (run new last : Running C) → last.counts.rounds ≡ new.counts.rounds → last.idle ≡ new.idle → last.counts.firings ≡ new.counts.firings
     → ArriveBy arrived answer left run new → ArriveBy arrived answer left run last
 arrive_too arrived (round.Fired n) left run new last rounds idle firings by = one_too arrived left run new last rounds idle firings by
 arrive_too arrived round.Idle left run new last rounds idle firings by = one_too arrived left run new last rounds idle firings by
@@ -101,7 +101,7 @@ puts_answer (round.End (end.WriteFault channel)) result run old now puts = inl p
 pub arrive_put : {C : Type 0} (arrived : ℕ → ℕ → Type 0) (answer result : RoundEnd) (left : ℕ) (run mid new : Running C) (old now : Channels) → PutsBy answer result mid old now → SameButEnd mid new
     → ArriveBy arrived answer left run mid → ArriveBy arrived result left run new
 arrive_put arrived answer result left run mid new old now puts same by =
-    let too : ArriveBy arrived answer left run new = arrive_too arrived answer left run mid new (ap (λ r. r.rounds) same) (ap (λ r. r.idle) same) (ap (λ r. r.counts.firings) same) by in
+    let too : ArriveBy arrived answer left run new = arrive_too arrived answer left run mid new (ap (λ r. r.counts.rounds) same) (ap (λ r. r.idle) same) (ap (λ r. r.counts.firings) same) by in
     ⊎_elim
     (λ is. subst (λ a. ArriveBy arrived a left run new) (sym is) too)
     (λ broken. subst (λ a. ArriveBy arrived a left run new) (sym broken.1) (arrive_broken arrived answer broken.0 left run new too))
@@ -109,7 +109,7 @@ arrive_put arrived answer result left run mid new old now puts same by =
 
 -- A run.
 
-stage_is : (rounds now : ℕ) (idle still : Bool) (left remaining : ℕ) → rounds ≡ now → idle ≡ still → left ≡ remaining
+pub stage_is : (rounds now : ℕ) (idle still : Bool) (left remaining : ℕ) → rounds ≡ now → idle ≡ still → left ≡ remaining
     → ◌≡◌ {A = Stage} (record { round = rounds; idle = idle; left = left }) (record { round = now; idle = still; left = remaining })
 stage_is rounds now idle still left remaining r i l = rw (r, i, l) refl
 
@@ -128,13 +128,13 @@ module _ {C X : Type 0} (cell : C → Cell X) (arrived : ℕ → ℕ → Type 0)
       (subst (λ n. WorkersArrive arrived now.kind n (length run.held.cells) (stage_of now left)) same.same_workers
       (subst (λ n. WorkersArrive arrived now.kind now.workers n (stage_of now left)) (as_many_cells cell now.held.cells run.held.cells same.same_actors.count) makes.arrive)) in
       subst (λ at. Arrivals arrived run.kind run.workers (length run.held.cells) (stage_of run budget) at)
-      (sym (stage_is (suc new.rounds) (suc (suc now.rounds)) new.idle (makes.fired == 0) left_new (left - makes.fired) (ap suc makes.rounds) makes.idle left_is))
+      (sym (stage_is (suc new.counts.rounds) (suc (suc now.counts.rounds)) new.idle (makes.fired == 0) left_new (left - makes.fired) (ap suc makes.rounds) makes.idle left_is))
       (more (stage_of run budget) (stage_of now left) makes.fired so_far here makes.within)
 
   no_more : (new : Running C) (left_new : ℕ) → MakesNone now new → left_new ≡ left → ArriveSoFar arrived run new budget left_new
   no_more new left_new makes left_is =
       subst (λ at. Arrivals arrived run.kind run.workers (length run.held.cells) (stage_of run budget) at)
-      (sym (stage_is (suc new.rounds) (suc now.rounds) new.idle now.idle left_new left (ap suc makes.rounds) makes.idle left_is)) so_far
+      (sym (stage_is (suc new.counts.rounds) (suc now.counts.rounds) new.idle now.idle left_new left (ap suc makes.rounds) makes.idle left_is)) so_far
 
   -- the run goes on
   pub arrive_more : (new : Running C) (answer : RoundEnd) (left_new : ℕ) → end_of answer ≡ None → ArriveBy arrived answer left now new → new.counts.firings + left_new ≡ now.counts.firings + left

@@ -411,12 +411,14 @@ module _ {C X : Type 0} (cell : C → Cell X) (cells : List C) (wiring : Wiring)
       kind_is = refl;
       burst = refl;
       grow = refl;
+      workers = refl;
       rounds = counts_are.rounds;
       idle = refl;
       unread = unread;
       no_lines = no_trace;
       no_output = no_output;
       no_firings = counts_are.firings;
+      no_rounds = counts_are.rounds;
       going = refl;
       states = at_start starts lawful;
     }

@@ -39,7 +39,8 @@ stage_by turn = record { round = turn.round; idle = turn.idle; left = turn.left 
 
 -- its next round, with so many firings left
 abbrev pub stage_of : {C : Type 0} → Running C → ℕ → Stage
-stage_of run left = record { round = suc run.rounds; idle = run.idle; left = left }
+stage_of run left =
+    record { round = suc run.counts.rounds; idle = run.idle; left = left }
 
 abbrev pub RoundArrives : {C : Type 0} → (arrived : ℕ → ℕ → Type 0) → Running C → ℕ → Type 0
 RoundArrives arrived run left =
@@ -47,7 +48,7 @@ RoundArrives arrived run left =
 
 -- no round was made
 pub record MakesNone {C : Type 0} (run new : Running C) : Type 0 where
-  pub rounds : new.rounds ≡ run.rounds
+  pub rounds : new.counts.rounds ≡ run.counts.rounds
   pub idle : new.idle ≡ run.idle
   pub firings : new.counts.firings ≡ run.counts.firings
 
@@ -55,7 +56,7 @@ pub record MakesNone {C : Type 0} (run new : Running C) : Type 0 where
 pub record MakesOne {C : Type 0} (arrived : ℕ → ℕ → Type 0) (left : ℕ) (run new : Running C) : Type 0 where
   pub fired : ℕ
   pub within : fired ≤ left
-  pub rounds : new.rounds ≡ suc run.rounds
+  pub rounds : new.counts.rounds ≡ suc run.counts.rounds
   pub idle : new.idle ≡ (fired == 0)
   pub firings : new.counts.firings ≡ run.counts.firings + fired
   pub arrive : RoundArrives arrived run left

@@ -116,6 +116,7 @@ pub record Begins {X : Type 0} (cells : List (Cell X)) (wiring : Wiring) (plan :
   pub no_lines : run.trace ≡ []
   pub no_output : (p : ℕ) → buffer run p ≡ []
   pub no_firings : run.counts.firings ≡ 0
+  pub no_rounds : run.counts.rounds ≡ 0
   pub going : run.ended ≡ None
   pub states : (net : Network X) (inputs : List (List ℕ)) (feeds : Inputs)
       → IsNetworkOf net cells wiring → IsReady net plan.grow plan.burst cells

@@ -1,4 +1,5 @@
 use Rattle.std.proofs.Common.{suc, sym, ap, subst, inr, ◌+◌, ◌∙◌}
+use Rattle.net_model.specs.declared.wiring.Counts.{Counts}
 use Rattle.net_state.specs.Held.{seen}
 use Rattle.network_runner.specs.Arriving.{MakesOne}
 use Rattle.network_runner.specs.Asking.{IsSameRun, seen_run}
@@ -49,7 +50,7 @@ returns-clause-same_run g c =
 
 pub returns-in-Err-clause-arrive : goal.returns-in-Err-clause-arrive
 returns-in-Err-clause-arrive g c = record {
-  rounds = c.deliver.ensures.same_others.rounds;
+  rounds = ap (λ (n : Counts). n.rounds) c.in-Err.ensures.not_counted;
   idle = c.deliver.ensures.same_others.idle;
   firings = c.deliver.ensures.same_firings;
 }
@@ -62,10 +63,10 @@ returns-in-Err-write-clause-arrive g c =
     let one : MakesOne arrived c.args.left c.args.self.now new = record {
       fired = c.fire-answer.ensures.fires.fired;
       within = c.fire-answer.ensures.fires.within;
-      rounds = ap (λ r. r.rounds) c.write.ensures.same ∙ (c.fire-answer.ensures.fires.rounds ∙ ap suc c.deliver.ensures.same_others.rounds);
+      rounds = ap (λ r. r.counts.rounds) c.write.ensures.same ∙ (c.fire-answer.ensures.fires.count ∙ ap suc c.in_default.ensures.delivers.rounds);
       idle = ap (λ r. r.idle) c.write.ensures.same ∙ c.fire-answer.ensures.fires.idle;
       firings = ap (λ r. r.counts.firings) c.write.ensures.same ∙ (c.fire-answer.ensures.fires.firings ∙ ap (λ n. n + c.fire-answer.ensures.fires.fired) c.deliver.ensures.same_firings);
-      arrive = arrive_in g.A.Firing.cell arrived c.args.left c.args.self.now c.deliver.new.self c.deliver.ensures.same_run c.deliver.ensures.same_others.rounds c.deliver.ensures.same_others.idle c.fire-answer.ensures.arrive;
+      arrive = arrive_in g.A.Firing.cell arrived c.args.left c.args.self.now c.deliver.new.self c.deliver.ensures.same_run c.in_default.ensures.delivers.rounds c.deliver.ensures.same_others.idle c.fire-answer.ensures.arrive;
     } in
     inr one
 
@@ -77,9 +78,9 @@ returns-clause-arrive g c =
     let one : MakesOne arrived c.args.left c.args.self.now new = record {
       fired = c.fire-answer.ensures.fires.fired;
       within = c.fire-answer.ensures.fires.within;
-      rounds = ap (λ r. r.rounds) c.write.ensures.same ∙ (c.fire-answer.ensures.fires.rounds ∙ ap suc c.deliver.ensures.same_others.rounds);
+      rounds = ap (λ r. r.counts.rounds) c.write.ensures.same ∙ (c.fire-answer.ensures.fires.count ∙ ap suc c.in_default.ensures.delivers.rounds);
       idle = ap (λ r. r.idle) c.write.ensures.same ∙ c.fire-answer.ensures.fires.idle;
       firings = ap (λ r. r.counts.firings) c.write.ensures.same ∙ (c.fire-answer.ensures.fires.firings ∙ ap (λ n. n + c.fire-answer.ensures.fires.fired) c.deliver.ensures.same_firings);
-      arrive = arrive_in g.A.Firing.cell arrived c.args.left c.args.self.now c.deliver.new.self c.deliver.ensures.same_run c.deliver.ensures.same_others.rounds c.deliver.ensures.same_others.idle c.fire-answer.ensures.arrive;
+      arrive = arrive_in g.A.Firing.cell arrived c.args.left c.args.self.now c.deliver.new.self c.deliver.ensures.same_run c.in_default.ensures.delivers.rounds c.deliver.ensures.same_others.idle c.fire-answer.ensures.arrive;
     } in
     arrive_by arrived c.fire-answer.result c.args.left c.args.self.now new c.fire-answer.ensures.no_fault one
