@@ -1,6 +1,6 @@
 //! A place that each worker passes.
 
-ghost use Rattle.std.specs.Prelude.{ℕ, Unit};
+ghost use Rattle.std.specs.Prelude.{ℕ};
 
 /// Is told when a worker starts in a round. What a run leaves doesn't rest on it.
 pub trait Gate: Sync {
