@@ -1,7 +1,6 @@
-use Rattle.std.proofs.Common.{rules, ◌≡◌, suc, sym, ap, subst, inr, ◌+◌, ◌∙◌}
+use Rattle.std.proofs.Common.{suc, sym, ap, subst, inr, ◌+◌, ◌∙◌}
 use Rattle.net_model.specs.declared.wiring.Counts.{Counts}
 use Rattle.net_state.specs.Held.{seen}
-use Rattle.round_runner.specs.Pulling.{NeedsPull}
 use Rattle.network_runner.specs.Arriving.{MakesOne}
 use Rattle.network_runner.specs.Asking.{IsSameRun, seen_run}
 use Rattle.network_runner.proofs.Arrived.{arrive_by, arrive_in}
@@ -12,9 +11,8 @@ use Rattle.network_runner.proofs.runner.Runner.make_round.Goals as goal
 
 pub returns-in-Err-clause-leaves : goal.returns-in-Err-clause-leaves
 returns-in-Err-clause-leaves g c = λ net inputs budget s stands.
-    let same : c.in-Err.field-0.feed ≡ c.in-Err.feed = search rules in
-    cut_now net inputs s c.in-Err.feed (seen_run g.A.Firing.cell c.args.self.now) (seen_run g.A.Firing.cell c.deliver.new.self) (g.F.Feeds.feeds c.deliver.new.feeds) (g.D.Drains.channels c.args.drains.now)
-    (subst (λ feed. NeedsPull net inputs s feed (g.F.Feeds.feeds c.deliver.new.feeds)) same (c.in-Err.ensures.stops net inputs s stands))
+    cut_now net inputs s c.in-Err.field-0.feed (seen_run g.A.Firing.cell c.args.self.now) (seen_run g.A.Firing.cell c.deliver.new.self) (g.F.Feeds.feeds c.deliver.new.feeds) (g.D.Drains.channels c.args.drains.now)
+    (c.in-Err.ensures.stops net inputs s stands)
     c.deliver.ensures.same_others.trace c.deliver.ensures.same_others.buffers c.in-Err.ensures.not_counted
 
 pub returns-in-Err-write-clause-leaves : goal.returns-in-Err-write-clause-leaves
