@@ -5,6 +5,8 @@ use Rattle.std.specs.Str.{bytes_eq}
 use Rattle.rvc_base.specs.declared.scalar.Scalar.{Scalar}
 use Rattle.cal_ast.specs.Tree as tree
 use Rattle.cal_ast.specs.Tree.{Tree}
+use Rattle.cal_ast.specs.View.{optional}
+use Rattle.cal_model.specs.Actor.{Local}
 use Rattle.cal_model.specs.Value.{Shape, Single, Many}
 use Rattle.expr_lower.specs.declared.names.ItemList.{ItemList}
 use Rattle.expr_lower.specs.declared.names.Seat.{Seat}
@@ -12,10 +14,11 @@ use Rattle.expr_lower.specs.declared.names.Seat.TheVariants.{Cell, Tokens}
 use Rattle.expr_lower.specs.Generators.{Counted, counted_by, how_many}
 use Rattle.expr_lower.specs.Growing.{first_cell, is_short, left_out_apart, left_out_args, left_out_element, left_out_fill, left_out_fills, left_out_gens, left_out_in, left_out_many, left_out_name, left_out_named, left_out_places, one, unless_none, where_one, ◌or_else◌}
 use Rattle.expr_lower.specs.ItemsSeen.{few, first_seen, items_at, items_listed, items_made, items_seen}
-use Rattle.expr_lower.specs.Listed.{items_in, items_of, list_named}
+use Rattle.expr_lower.specs.Listed.{items_in, items_of, list_named, single_of}
 use Rattle.expr_lower.specs.Names.{local, Name, named}
 use Rattle.expr_lower.specs.Parted.{Part, alike, deep_named, item_in, item_of, part_at, number_of, part_named, singles_in, sized, whole_in, whole_of}
-use Rattle.expr_lower.specs.Starting.{left_out_start}
+use Rattle.expr_lower.specs.Starting.{left_out_list_start, left_out_local, left_out_start}
+use Rattle.expr_lower.specs.Types.{type_size}
 use Rattle.expr_lower.specs.Callees.{Function, function_for}
 use Rattle.expr_lower.specs.Truths.{is_truth, is_truth_list, is_truth_shape}
 
@@ -311,6 +314,24 @@ pub start_erased : (fs : List Function) (names : List Name) (e : Tree) → left_
 start_erased fs names tree.absent = refl
 start_erased fs names (tree.present e) = out_erased fs names e
 start_erased fs names other = refl
+
+pub list_start_erased : (fs : List Function) (names : List Name) (t : Shape) (start : Tree) → left_out_list_start fs (map erase names) t start ≡ left_out_list_start fs names t start
+list_start_erased fs names t tree.absent = refl
+list_start_erased fs names t (tree.present e) = fill_erased fs names t e
+list_start_erased fs names t other = refl
+
+-- what is left out of a local: of a single value, or of a list of a type whose sizes are allowed
+abbrev pub in_either : Option Scalar → Option ℕ → (Scalar → Option ℕ) → Option ℕ → Option ℕ
+in_either o p f g = elim o [ None ↦ elim p [ None ↦ Some 0 | Some size ↦ g ] | Some t ↦ f t ]
+
+pub local_erased : (fs : List Function) (names : List Name) (x : Local) → left_out_local fs (map erase names) x ≡ left_out_local fs names x
+local_erased fs names x = go (single_of x.shape) (type_size x.shape)
+  where
+    go : (o : Option Scalar) (p : Option ℕ) → in_either o p (λ t. left_out_start fs (map erase names) (optional x.start)) (left_out_list_start fs (map erase names) x.shape (optional x.start))
+        ≡ in_either o p (λ t. left_out_start fs names (optional x.start)) (left_out_list_start fs names x.shape (optional x.start))
+    go None None = refl
+    go None (Some size) = list_start_erased fs names x.shape (optional x.start)
+    go (Some t) p = start_erased fs names (optional x.start)
 
 -- in any cell the local leaves out the same of an expression
 pub any_cell_in : (fs : List Function) (names : List Name) (text : List ℕ) (t : Scalar) (c : ℕ) (e : Tree) → left_out_in fs (local text t c ∷ names) e ≡ left_out_in fs (local text t 0 ∷ names) e

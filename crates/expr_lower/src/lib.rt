@@ -14,6 +14,7 @@ mod names;
 mod operators;
 mod parts;
 mod scope;
+mod sizes;
 mod truths;
 
 pub use callees::{Callee, Formal, function_for, put_call, put_formals};
@@ -26,4 +27,5 @@ pub use names::{
 pub use operators::{binary_instr, item_instr, negative, prefix_instr};
 pub use parts::{Part, Rows, deep_item_named, part_named, rows_named, scalars, whole_called};
 pub use scope::{Frame, Scope};
+pub use sizes::type_size;
 pub use truths::is_truth;

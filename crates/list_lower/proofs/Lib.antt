@@ -18,6 +18,9 @@ pub mod Filled
 pub mod FittedJumps
 pub mod FittedParts
 pub mod Fitted
+pub mod Leaves
+pub mod TypeSizes
+pub mod ListStarts
 pub mod Weights
 pub mod Erased
 pub mod Putting
@@ -25,3 +28,5 @@ pub mod Adding
 pub mod Unaimed
 pub mod ApartItems
 pub mod Whole
+pub mod StartingLists
+pub mod AddingFunctions

@@ -7,3 +7,5 @@ pub mod Reserving
 pub mod GoingOn
 pub mod LeftOut
 pub mod FillWords
+pub mod ListStarting
+pub mod StartWords
