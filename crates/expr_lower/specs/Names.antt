@@ -33,6 +33,10 @@ abbrev pub named : List ℕ → List Name → Option Name
 named text [] = None
 named text (x ∷ xs) = if bytes_eq x.text text then Some x else named text xs
 
+-- the type of the name that a text means, if it means one
+abbrev pub shape_named : List Name → List ℕ → Option Shape
+shape_named names text = elim (named text names) [ None ↦ None | Some x ↦ Some x.shape ]
+
 -- a type of single values
 abbrev pub IsSingle : Shape → Type 0
 IsSingle (Single t) = Unit {0}

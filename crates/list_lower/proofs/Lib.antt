@@ -8,7 +8,6 @@ pub mod Forms
 pub mod PartForms
 pub mod ApartForms
 pub mod ApartLists
-pub mod Generated
 pub mod Counters
 pub mod Nexts
 pub mod Going

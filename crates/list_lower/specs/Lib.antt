@@ -8,4 +8,5 @@ pub mod GoingOn
 pub mod LeftOut
 pub mod FillWords
 pub mod ListStarting
+pub mod Telling
 pub mod StartWords

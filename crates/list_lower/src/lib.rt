@@ -15,6 +15,7 @@ mod routines;
 mod sizes;
 mod starts;
 mod taking;
+mod truths;
 mod types;
 
 pub use exprs::{lower, lower_args, lower_calling, lower_expr, lower_test, offset};

@@ -1,6 +1,7 @@
 -- Generators that are written out count as they are seen to.
-use Rattle.std.proofs.Common.{◌≡◌, ℕ, suc, ◌*◌, ℤ, pos, ◌+ℤ◌, Bool, true, false, refl, sym, ap, ◌∙◌, subst, Option, None, Some, arith}
+use Rattle.std.proofs.Common.{◌≡◌, ℕ, zero, suc, ◌*◌, ℤ, pos, ◌+ℤ◌, Bool, true, false, refl, sym, ap, ◌∙◌, subst, Option, None, Some, arith}
 use Rattle.std.specs.Prelude.{◌^◌, if◌then◌else◌, int_lt, nat_lt, ◌-ℤ◌, neg_ℤ, unsigned_abs}
+use Rattle.std.proofs.lemmas.Bool.Decides.{nat_tests}
 use Rattle.std.proofs.lemmas.Int.{ints}
 use Rattle.rvc_base.specs.declared.scalar.Scalar.{Scalar}
 use Rattle.rvc_base.specs.declared.trap.Trap.TheVariants.{Overflow}
@@ -16,12 +17,15 @@ use Rattle.cal_model.specs.Outcome.{Out, Gives, alone, and_then}
 use Rattle.cal_model.specs.Env.{Env, variable, with_local}
 use Rattle.cal_model.specs.Expression.{Calls, computed, each_from, elements, eval, prefixed, range_of, span}
 use Rattle.cal_model.proofs.Numbers.{is-num}
-use Rattle.expr_lower.proofs.Coded.{negative_num}
 use Rattle.expr_lower.specs.Generators.{Counted, bound_of, counted, counted_by, how_many, literal_of, negative_of, spanned, times}
 use Rattle.expr_lower.specs.Meant.{single_meant}
-use Rattle.list_lower.proofs.MeantIs.{meant_is}
+use Rattle.expr_lower.proofs.MeantIs.{meant_is}
 
 -- ---- bounds
+
+pub negative_num : (k : ℕ) → is_num (pos k) ≡ true → is_num (neg_ℤ (pos k)) ≡ true
+negative_num zero h = h
+negative_num (suc j) h = grind (arith, nat_tests)
 
 no_number : (z : ℤ) → ◌≡◌ {A = Option ℤ} None (Some z) → ⊥
 no_number z e = cc
