@@ -149,6 +149,10 @@ under_erased : (names : List Name) (gens : Tree) (f : List Name → Bool) → ((
 under_erased names (tree.cons g gens) f h = under_same names gens f (counted_by g) (λ inner. under_erased inner gens f h)
 under_erased names gens f h = h names
 
+inside_erased : (o : Option ℕ) (f g : ℕ → Bool) → ((k : ℕ) → f k ≡ g k) → ◌≡◌ {A = Bool} (elim o [ None ↦ false | Some k ↦ f k ]) (elim o [ None ↦ false | Some k ↦ g k ])
+inside_erased None f g h = refl
+inside_erased (Some k) f g h = h k
+
 mutual
   pub gives_erased : (s : Sort) (d : ℕ) (fs : List Function) (names : List Name) (e : Tree) → gives_at s d fs (map erase names) e ≡ gives_at s d fs names e
   gives_erased s d fs names (tree.number k at) = refl
@@ -164,11 +168,7 @@ mutual
   gives_erased s d fs names (tree.comp item gens at) =
       with_one_same d (λ k. under_gens (map erase names) gens (λ inner. gives_at s k fs inner item)) (λ k. under_gens names gens (λ inner. gives_at s k fs inner item))
       (λ k. under_erased names gens (λ inner. gives_at s k fs inner item) (λ inner. gives_erased s k fs inner item))
-  gives_erased s d fs names (tree.index base place at) = go (few (d + 1))
-    where
-      go : (o : Option ℕ) → ◌≡◌ {A = Bool} (elim o [ None ↦ false | Some k ↦ gives_at s k fs (map erase names) base ]) (elim o [ None ↦ false | Some k ↦ gives_at s k fs names base ])
-      go None = refl
-      go (Some k) = gives_erased s k fs names base
+  gives_erased s d fs names (tree.index base place at) = inside_erased (few (d + 1)) (λ k. gives_at s k fs (map erase names) base) (λ k. gives_at s k fs names base) (λ k. gives_erased s k fs names base)
   gives_erased s d fs names other = refl
 
   all_erased : (s : Sort) (d : ℕ) (fs : List Function) (names : List Name) (es : Tree) → all_give s d fs (map erase names) es ≡ all_give s d fs names es

@@ -1,7 +1,8 @@
 -- What is seen to give values of a sort gives them.
-use Rattle.std.proofs.Common.{◌≡◌, ℕ, zero, suc, ◌+◌, ◌-◌, ℤ, pos, negsuc, ◌+ℤ◌, List, ◌∷◌, length, Bool, true, false, refl, sym, ap, ◌∙◌, subst, Option, None, Some, arith}
+use Rattle.std.proofs.Common.{◌≡◌, ℕ, zero, suc, ◌+◌, ◌-◌, ◌<◌, ℤ, pos, negsuc, ◌+ℤ◌, List, ◌∷◌, length, Bool, true, false, refl, sym, ap, ◌∙◌, subst, Option, None, Some, arith}
 use Rattle.std.specs.Prelude.{◌^◌, ◌&&◌, ◌||◌, if◌then◌else◌, nat_eq, nat_lt}
 use Rattle.std.specs.Str.{bytes_eq}
+use Rattle.std.proofs.lemmas.Bool.Decides.{nat_tests}
 use Rattle.rvc_base.specs.declared.scalar.Scalar.{Scalar}
 use Rattle.rvc_base.specs.declared.trap.Trap.TheVariants.{IndexRange}
 use Rattle.rvc_base.specs.Arithmetic as arithmetic
@@ -78,8 +79,11 @@ both_true false b h = cc
 
 -- no index
 none_put : (d : ℕ) (b : Bool) → with_none d b ≡ true → (d ≡ 0) × (b ≡ true)
-none_put zero b h = (refl, h)
-none_put (suc d) b h = cc
+none_put d b h = go (nat_eq d 0) refl h
+  where
+    go : (t : Bool) → nat_eq d 0 ≡ t → t && b ≡ true → (d ≡ 0) × (b ≡ true)
+    go true e g = (grind (arith, nat_tests, e), g)
+    go false e g = cc
 
 -- .. or one, and others
 record OnePut (d : ℕ) (item : ℕ → Bool) : Type 0 where
@@ -88,8 +92,11 @@ record OnePut (d : ℕ) (item : ℕ → Bool) : Type 0 where
   gives : item deeper ≡ true
 
 one_put : (d : ℕ) (item : ℕ → Bool) → with_one d item ≡ true → OnePut d item
-one_put zero item h = cc
-one_put (suc d) item h = let e : suc d - 1 ≡ d = omega arith in record { deeper = d; is = refl; gives = subst (λ k. item k ≡ true) e h }
+one_put d item h = go (nat_eq d 0) refl h
+  where
+    go : (t : Bool) → nat_eq d 0 ≡ t → (if t then false else item (d - 1)) ≡ true → OnePut d item
+    go true e g = cc
+    go false e g = let some : 0 < d = grind (arith, nat_tests, e) in record { deeper = d - 1; is = omega (arith, some); gives = g }
 
 few_is : (n k : ℕ) → few n ≡ Some k → n ≡ k
 few_is n k e = go (nat_lt n (2 ^ 32)) e
@@ -214,10 +221,10 @@ range_sort s d (suc n) i f left h =
 -- ---- names
 
 -- the text means a value of the name's type
-record Means (env : Env) (text : List ℕ) (x : Name) : Type 0 where
-  value : Value
-  is : look_up text env ≡ Some value
-  of_type : HasKind (kind_of_type x.shape) value
+pub record Means (env : Env) (text : List ℕ) (x : Name) : Type 0 where
+  pub value : Value
+  pub is : look_up text env ≡ Some value
+  pub of_type : HasKind (kind_of_type x.shape) value
 
 -- so does each of the names
 abbrev pub Knows : List Name → Env → Type 0
@@ -245,6 +252,18 @@ name_sort s d names env text left (Some x) e h known_names =
     let m : Means env text x = known_names text x e in
     subst (λ (o : Option Value). Only s d (known o left)) (sym m.is) (shape_all s d x.shape m.value h m.of_type)
 
+-- ---- indexes
+
+index_sort : (s : Sort) (d : ℕ) (base_gives : ℕ → Bool) (base : Out Value) (place : ℕ → Out Value) (o : Option ℕ) → few (d + 1) ≡ o → ◌≡◌ {A = Bool} (elim o [ None ↦ false | Some k ↦ base_gives k ]) true
+    → ((k : ℕ) → base_gives k ≡ true → Only s k base) → Only s d (and_then base (λ v m. and_then (place m) (λ i j. indexed v i j)))
+index_sort s d base_gives base place None e g h = cc
+index_sort s d base_gives base place (Some k) e g h =
+    let same = few_is (d + 1) k e in
+    let deeper : k ≡ suc d = omega (arith, same) in
+    follows_then base (λ v m. and_then (place m) (λ i j. indexed v i j)) (λ v m. AllAt s (suc d) v) (λ c. Unit {0}) (λ v m. AllAt s d v) (λ c. Unit {0})
+    (subst (λ j. Only s j base) deeper (h k g))
+    (λ v m q. after_each (place m) (λ i j. indexed v i j) (λ u j. AllAt s d u) (λ i j. indexed_sort s d v i j q)) (λ c t. tt)
+
 -- ---- expressions
 
 module _ (calls : Calls) (fs : List Function) where
@@ -263,6 +282,35 @@ module _ (calls : Calls) (fs : List Function) where
       turned vs (suc j) p is size sorted =
           follows_more (calls vars text vs j) (λ v m. HasKind (kind_of_scalar f.result) v) (λ c. Unit {0}) (λ v m. IsOfSort s v) (λ c. Unit {0})
           (kinds text f is vs j p.0 (p.1 ∙ sym size)) (λ v m k. scalar_sort s f.result v sorted k) (λ c t. tt)
+
+  -- what sees the variables of generators, and is told of over names that know them
+  abbrev Told : Sort → ℕ → (List Name → Bool) → (Env → ℕ → Out Value) → Type 0
+  Told s d inside item = (names : List Name) (env : Env) (left : ℕ) → inside names ≡ true → Knows names env → KindsIn calls env.globals fs → Only s d (item env left)
+
+  one_sort : (s : Sort) (d : ℕ) (item : ℕ → Out Value) (left : ℕ) → ((m : ℕ) → Only s d (item m)) → OnlyEach s d (turn left (λ m. and_then (item m) (λ v k. Gives (one v) k)))
+  one_sort s d item zero h = tt
+  one_sort s d item (suc left) h =
+      follows_then (item left) (λ v k. Gives (one v) k) (λ v k. AllAt s d v) (λ c. Unit {0}) (λ vs k. Each (λ v. AllAt s d v) vs) (λ c. Unit {0}) (h left) (λ v k q. (q, tt)) (λ c t. tt)
+
+  counted_sort : (s : Sort) (d : ℕ) (g gens : Tree) (inside : List Name → Bool) (item : Env → ℕ → Out Value) (names : List Name) (env : Env) (left : ℕ) (o : Option Counted) → counted_by g ≡ o
+      → ◌≡◌ {A = Bool} (elim o [ None ↦ false | Some x ↦ under_gens (local x.text x.kind 0 ∷ names) gens inside ]) true → Knows names env
+      → ((x : Counted) (v : Value) (m : ℕ) → under_gens (local x.text x.kind 0 ∷ names) gens inside ≡ true → Knows (local x.text x.kind 0 ∷ names) (with_local (variable x.text (Single x.kind) false v) env)
+      → OnlyEach s d (elements gens item calls (with_local (variable x.text (Single x.kind) false v) env) m))
+      → OnlyEach s d (elements (tree.cons g gens) item calls env left)
+  counted_sort s d g gens inside item names env left None e i known_names later = cc
+  counted_sort s d g gens inside item names env left (Some x) e i known_names later =
+      let f : IsGenerator g x = generator g x e in
+      subst (λ (o : Out Values). OnlyEach s d o) (sym (elements_are g gens x item calls env left e))
+      (range_sort s d (span x.low x.high) x.low (λ j m. elements gens item calls (with_local (variable x.text (Single x.kind) false (stored (Single x.kind) (Num j))) env) m) left
+      (λ j m. later x (stored (Single x.kind) (Num j)) m i (knows_more names env x.text x.kind (stored (Single x.kind) (Num j)) (number_stored x.kind j (meant_sized f.shape x.kind f.kind)).0 known_names)))
+
+  elements_sort : (s : Sort) (d : ℕ) (gens : Tree) (inside : List Name → Bool) (item : Env → ℕ → Out Value) → Told s d inside item → (names : List Name) (env : Env) (left : ℕ) → under_gens names gens inside ≡ true → Knows names env → KindsIn calls env.globals fs
+      → OnlyEach s d (elements gens item calls env left)
+  elements_sort s d tree.nil inside item told names env left h known_names kinds = one_sort s d (item env) left (λ m. told names env m h known_names kinds)
+  elements_sort s d (tree.cons g gens) inside item told names env left h known_names kinds =
+      counted_sort s d g gens inside item names env left (counted_by g) refl h known_names
+      (λ x v m i known_more. elements_sort s d gens inside item told (local x.text x.kind 0 ∷ names) (with_local (variable x.text (Single x.kind) false v) env) m i known_more kinds)
+  elements_sort s d other inside item told names env left h known_names kinds = tt
 
   mutual
     pub gives : (s : Sort) (d : ℕ) (e : Tree) (names : List Name) (env : Env) (left : ℕ) → gives_at s d fs names e ≡ true → Knows names env → KindsIn calls env.globals fs → Only s d (eval e calls env left)
@@ -300,17 +348,9 @@ module _ (calls : Calls) (fs : List Function) where
         let p : OnePut d (λ k. under_gens names gens (λ inner. gives_at s k fs inner item)) = one_put d (λ k. under_gens names gens (λ inner. gives_at s k fs inner item)) h in
         subst (λ j. Only s j (eval (tree.comp item gens at) calls env left)) (sym p.is)
         (follows_then (elements gens (λ inner k. eval item calls inner k) calls env left) (λ vs m. Gives (Items vs) m) (λ vs m. Each (λ v. AllAt s p.deeper v) vs) (λ c. Unit {0}) (λ v m. AllAt s (suc p.deeper) v) (λ c. Unit {0})
-        (elements_give s p.deeper gens item names env left p.gives known_names kinds) (λ vs m q. q) (λ c t. tt))
-    gives s d (tree.index base place at) names env left h known_names kinds = go (few (d + 1)) refl h
-      where
-        go : (o : Option ℕ) → few (d + 1) ≡ o → ◌≡◌ {A = Bool} (elim o [ None ↦ false | Some k ↦ gives_at s k fs names base ]) true → Only s d (eval (tree.index base place at) calls env left)
-        go None e g = cc
-        go (Some k) e g =
-            let same = few_is (d + 1) k e in
-            let deeper : k ≡ suc d = omega (arith, same) in
-            follows_then (eval base calls env left) (λ v m. and_then (eval place calls env m) (λ i j. indexed v i j)) (λ v m. AllAt s (suc d) v) (λ c. Unit {0}) (λ v m. AllAt s d v) (λ c. Unit {0})
-            (subst (λ j. Only s j (eval base calls env left)) deeper (gives s k base names env left g known_names kinds))
-            (λ v m q. after_each (eval place calls env m) (λ i j. indexed v i j) (λ u j. AllAt s d u) (λ i j. indexed_sort s d v i j q)) (λ c t. tt)
+        (elements_sort s p.deeper gens (λ inner. gives_at s p.deeper fs inner item) (λ inner k. eval item calls inner k) (λ inner now m g known_more more. gives s p.deeper item inner now m g known_more more) names env left p.gives known_names kinds) (λ vs m q. q) (λ c t. tt))
+    gives s d (tree.index base place at) names env left h known_names kinds =
+        index_sort s d (λ k. gives_at s k fs names base) (eval base calls env left) (λ m. eval place calls env m) (few (d + 1)) refl h (λ k g. gives s k base names env left g known_names kinds)
     gives s d other names env left h known_names kinds = cc
 
     give : (s : Sort) (d : ℕ) (es : Tree) (names : List Name) (env : Env) (left : ℕ) → all_give s d fs names es ≡ true → Knows names env → KindsIn calls env.globals fs
@@ -324,22 +364,3 @@ module _ (calls : Calls) (fs : List Function) where
         (give s d es names env j both.1 known_names kinds) (λ vs i p. ((q, p.0), ap suc p.1)) (λ c t. tt))
         (λ c t. tt)
     give s d other names env left h known_names kinds = tt
-
-    elements_give : (s : Sort) (d : ℕ) (gens item : Tree) (names : List Name) (env : Env) (left : ℕ) → under_gens names gens (λ inner. gives_at s d fs inner item) ≡ true → Knows names env → KindsIn calls env.globals fs
-        → OnlyEach s d (elements gens (λ inner k. eval item calls inner k) calls env left)
-    elements_give s d tree.nil item names env zero h known_names kinds = tt
-    elements_give s d tree.nil item names env (suc left) h known_names kinds =
-        follows_then (eval item calls env left) (λ v k. Gives (one v) k) (λ v k. AllAt s d v) (λ c. Unit {0}) (λ vs k. Each (λ v. AllAt s d v) vs) (λ c. Unit {0})
-        (gives s d item names env left h known_names kinds) (λ v k q. (q, tt)) (λ c t. tt)
-    elements_give s d (tree.cons g gens) item names env left h known_names kinds = go (counted_by g) refl h
-      where
-        go : (o : Option Counted) → counted_by g ≡ o → ◌≡◌ {A = Bool} (elim o [ None ↦ false | Some x ↦ under_gens (local x.text x.kind 0 ∷ names) gens (λ inner. gives_at s d fs inner item) ]) true
-            → OnlyEach s d (elements (tree.cons g gens) (λ inner k. eval item calls inner k) calls env left)
-        go None e i = cc
-        go (Some x) e i =
-            let f : IsGenerator g x = generator g x e in
-            subst (λ (o : Out Values). OnlyEach s d o) (sym (elements_are g gens x (λ inner k. eval item calls inner k) calls env left e))
-            (range_sort s d (span x.low x.high) x.low (λ j m. elements gens (λ inner k. eval item calls inner k) calls (with_local (variable x.text (Single x.kind) false (stored (Single x.kind) (Num j))) env) m) left
-            (λ j m. elements_give s d gens item (local x.text x.kind 0 ∷ names) (with_local (variable x.text (Single x.kind) false (stored (Single x.kind) (Num j))) env) m i
-            (knows_more names env x.text x.kind (stored (Single x.kind) (Num j)) (number_stored x.kind j (meant_sized f.shape x.kind f.kind)).0 known_names) kinds))
-    elements_give s d other item names env left h known_names kinds = tt
