@@ -1,4 +1,3 @@
-pub mod TypeSizes
 pub mod Assigning
 pub mod Fewer
 pub mod Scoping

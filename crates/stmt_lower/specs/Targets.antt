@@ -12,6 +12,7 @@ use Rattle.expr_lower.specs.declared.names.Seat.TheVariants.{Cell, Tokens}
 use Rattle.expr_lower.specs.Listed.{list_named, single_of}
 use Rattle.expr_lower.specs.Names.{Name, named}
 use Rattle.expr_lower.specs.Parted.{Part, part_named}
+pub use Rattle.list_lower.specs.ListStarting.{leaf_of}
 use Rattle.stmt_lower.specs.declared.targets.ListCells.{ListCells}
 
 -- the cell of a single value
@@ -51,11 +52,6 @@ abbrev pub deep_cells_at : Seat → ℕ → Option Scalar → Option ListCells
 deep_cells_at (Cell c) size None = None
 deep_cells_at (Cell c) size (Some t) = Some (record { cell = c; size = size; kind = t })
 deep_cells_at (Tokens port first step) size leaf = None
-
--- the type of the single values of a list at any depth
-abbrev pub leaf_of : Shape → Scalar
-leaf_of (Single t) = t
-leaf_of (Many n items) = leaf_of items
 
 -- the cells of a whole list at any depth, if it stands in cells
 abbrev pub whole_cells_in : Part → Option ListCells

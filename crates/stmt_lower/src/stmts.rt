@@ -24,7 +24,6 @@ use crate::deep::set_deep;
 use crate::jumps::{exit_at, jump_at};
 use crate::lists::{set_copy, set_filled, set_items};
 use crate::scope::StmtScope;
-use crate::starts::start_list;
 use crate::targets::{cell_named, cells_named};
 use cal_ast::{Expr, ExprForm, Ident, Stmt, StmtForm, TypeExpr, VarDecl};
 use cal_model::Shape;
@@ -32,7 +31,9 @@ use code_ir::Instr;
 use expr_lower::{
     Callee, Draft, Frame, LowerFault, Named, close, link, next_place, put, put_all, take_cell,
 };
-use list_lower::{lower, lower_args, lower_test, shape_meant, single_meant, start};
+use list_lower::{
+    lower, lower_args, lower_test, shape_meant, single_meant, start, start_list,
+};
 use rvc_base::Scalar;
 
 /// Appends code that executes a statement.

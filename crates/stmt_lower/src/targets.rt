@@ -5,11 +5,12 @@ ghost use Rattle.cal_model.specs.View.{shape_view};
 ghost use Rattle.expr_lower.specs.PartView.{part_view, places_of};
 ghost use Rattle.expr_lower.specs.Seen.{seen};
 ghost use Rattle.stmt_lower.specs.Targets.{cell_named, cells_named, deep_cells_in, leaf_in};
-ghost use Rattle.stmt_lower.specs.Targets.{leaf_of, whole_cells_in};
+ghost use Rattle.stmt_lower.specs.Targets.{whole_cells_in};
 
 use cal_ast::Expr;
 use cal_model::Shape;
 use expr_lower::{OneCell, Part, Scope, Seat, list_called, one_named, single};
+use list_lower::leaf_of;
 use rvc_base::Scalar;
 
 /// The cells of a list, from the first on, and the type of its items.
@@ -69,16 +70,6 @@ pub(crate) fn whole_cells(whole: Part) -> Option<ListCells>
         size: whole.size,
         kind: leaf_of(whole.shape),
     })
-}
-
-/// The type of the single values of a list at any depth.
-pub(crate) fn leaf_of(shape: &Shape) -> Scalar
-    ensures { result ≡ leaf_of (shape_view shape.now) }
-{
-    match shape {
-        Shape::Scalar(kind) => *kind,
-        Shape::List(_, items) => leaf_of(items),
-    }
 }
 
 /// The cells of the list in which so many indexes choose a single value, if they choose one.

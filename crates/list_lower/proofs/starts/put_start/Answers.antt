@@ -3,9 +3,9 @@ use Rattle.std.specs.Prelude.{OnOk}
 use Rattle.std.proofs.lemmas.Result.{on_ok_weaker}
 use Rattle.cal_model.specs.View.{shape_view}
 use Rattle.expr_lower.specs.Seen.{called, seen}
-use Rattle.stmt_lower.specs.StartWords.{AddsStartAt}
-use Rattle.stmt_lower.proofs.StartingLists.{zero_adds}
-use Rattle.stmt_lower.proofs.starts.put_start.Goals as goal
+use Rattle.list_lower.specs.StartWords.{AddsStartAt}
+use Rattle.list_lower.proofs.StartingLists.{zero_adds}
+use Rattle.list_lower.proofs.starts.put_start.Goals as goal
 
 pub returns-in-None-clause-ok : goal.returns-in-None-clause-ok
 returns-in-None-clause-ok c =

@@ -1,8 +1,8 @@
 use Rattle.cal_ast.specs.View.{optional_expr}
 use Rattle.cal_model.specs.View.{shape_view}
 use Rattle.expr_lower.specs.Seen.{called, seen}
-use Rattle.stmt_lower.proofs.StartingLists.{start_adds}
-use Rattle.stmt_lower.proofs.starts.start_list.Goals as goal
+use Rattle.list_lower.proofs.StartingLists.{start_adds}
+use Rattle.list_lower.proofs.starts.start_list.Goals as goal
 
 pub returns-clause-ok : goal.returns-clause-ok
 returns-clause-ok c =

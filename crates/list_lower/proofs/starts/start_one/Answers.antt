@@ -1,8 +1,8 @@
 use Rattle.std.proofs.Common.{◌∙◌}
 use Rattle.cal_model.specs.View.{local_view}
 use Rattle.expr_lower.specs.Seen.{called, seen}
-use Rattle.stmt_lower.proofs.StartingLists.{local_one, one_adds}
-use Rattle.stmt_lower.proofs.starts.start_one.Goals as goal
+use Rattle.list_lower.proofs.StartingLists.{local_one, one_adds}
+use Rattle.list_lower.proofs.starts.start_one.Goals as goal
 
 pub returns-clause-ok : goal.returns-clause-ok
 returns-clause-ok c =

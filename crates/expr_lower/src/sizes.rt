@@ -2,13 +2,13 @@
 
 ghost use Rattle.std.specs.Prelude.{◌≡◌};
 ghost use Rattle.cal_model.specs.View.{shape_view};
-ghost use Rattle.stmt_lower.specs.Types.{is_size, numbers_of_items, type_size};
+ghost use Rattle.expr_lower.specs.Types.{is_size, numbers_of_items, type_size};
 
 use cal_model::{MAX_LIST_SCALARS, Shape};
 use rvc_base::{MAX_SIZE, Scalar};
 
 /// How many numbers a type has, if its sizes are allowed.
-pub(crate) fn type_size(t: &Shape) -> Option<u32>
+pub fn type_size(t: &Shape) -> Option<u32>
     ensures { result ≡ type_size (shape_view t.now) }
 {
     match t {

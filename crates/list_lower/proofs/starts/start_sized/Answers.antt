@@ -2,8 +2,8 @@ use Rattle.std.proofs.Common.{sym}
 use Rattle.std.proofs.lemmas.Result.{on_ok_weaker}
 use Rattle.cal_model.specs.View.{local_view}
 use Rattle.expr_lower.specs.Seen.{called, seen}
-use Rattle.stmt_lower.proofs.StartingLists.{list_local_adds}
-use Rattle.stmt_lower.proofs.starts.start_sized.Goals as goal
+use Rattle.list_lower.proofs.StartingLists.{list_local_adds}
+use Rattle.list_lower.proofs.starts.start_sized.Goals as goal
 
 pub returns-clause-ok : goal.returns-clause-ok
 returns-clause-ok c =

@@ -7,7 +7,7 @@ use Rattle.rvc_base.specs.declared.scalar.Scalar.TheVariants as scalar
 use Rattle.rvc_base.specs.Storing.{IsSize}
 use Rattle.rvc_base.specs.Width.{max_size}
 use Rattle.cal_model.specs.Value.{Shape, Single, Many, IsType, max_list_scalars, scalars_of_type}
-use Rattle.stmt_lower.specs.Types.{is_size, numbers_of_items, type_size}
+use Rattle.expr_lower.specs.Types.{is_size, numbers_of_items, type_size}
 
 both_true : (a b : Bool) → a && b ≡ true → (a ≡ true) × (b ≡ true)
 both_true true true e = (refl, refl)

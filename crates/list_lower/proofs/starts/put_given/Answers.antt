@@ -5,8 +5,8 @@ use Rattle.cal_model.specs.View.{shape_view}
 use Rattle.code_ir.specs.declared.instr.Instr.TheVariants as op
 use Rattle.expr_lower.specs.Lowered.{IsPut}
 use Rattle.expr_lower.specs.Seen.{called, seen}
-use Rattle.stmt_lower.proofs.StartingLists.{given_adds}
-use Rattle.stmt_lower.proofs.starts.put_given.Goals as goal
+use Rattle.list_lower.proofs.StartingLists.{given_adds}
+use Rattle.list_lower.proofs.starts.put_given.Goals as goal
 
 pub returns-clause-ok : goal.returns-clause-ok
 returns-clause-ok c =
