@@ -40,7 +40,7 @@ abbrev pub AddsItems : StmtScope → Ident → List Expr → Draft → Draft →
 AddsItems scope name items old new = (list at : ℕ)
     → Adds (IsStmt (called scope) (seen scope) (set_items_of name items list at)) old new
 
--- the first part of places that is left out, and of an assignment to an item of a list in lists
+-- the first part of places that is left out, and of an assignment to a part of a list
 abbrev pub left_out_kept : StmtScope → List Expr → Option ℕ
 left_out_kept scope places = left_out_each (called scope).functions (seen scope) (places_of places)
 

@@ -31,9 +31,6 @@ set_of name places value at =
 abbrev pub set_one_of : Ident → Expr → ℕ → Tree
 set_one_of name value at = set_of name [] value at
 
-abbrev pub set_item_of : Ident → Expr → Expr → ℕ → Tree
-set_item_of name place value at = set_of name (place ∷ []) value at
-
 abbrev pub set_items_of : Ident → List Expr → ℕ → ℕ → Tree
 set_items_of name items list at =
     tree.assign (ident_tree name) tree.nil (tree.list (listed (map expr_tree items)) list) at

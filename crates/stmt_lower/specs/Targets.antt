@@ -9,9 +9,9 @@ use Rattle.expr_lower.specs.declared.names.ItemList.{ItemList}
 use Rattle.expr_lower.specs.declared.names.OneCell.{OneCell}
 use Rattle.expr_lower.specs.declared.names.Seat.{Seat}
 use Rattle.expr_lower.specs.declared.names.Seat.TheVariants.{Cell, Tokens}
-use Rattle.expr_lower.specs.Listed.{list_named, single_of}
+use Rattle.expr_lower.specs.Listed.{list_named}
 use Rattle.expr_lower.specs.Names.{Name, named}
-use Rattle.expr_lower.specs.Parted.{Part, part_named}
+use Rattle.expr_lower.specs.Parted.{Part}
 use Rattle.stmt_lower.specs.declared.targets.ListCells.{ListCells}
 
 -- the cell of a single value
@@ -38,19 +38,18 @@ abbrev pub cells_named : List Name → List ℕ → Option ListCells
 cells_named names text =
     elim (list_named names (tree.variable text 0)) [ None ↦ None | Some l ↦ cells_of l ]
 
--- ---- items of lists in lists
+-- ---- parts of lists in lists
 
--- the type of the single value that so many indexes choose, if they choose one
-abbrev pub leaf_in : Shape → Tree → Option Scalar
-leaf_in shape tree.nil = single_of shape
-leaf_in (Many n items) (tree.cons place places) = leaf_in items places
-leaf_in shape other = None
+-- the type of the part that so many indexes choose, if there are lists for all of them
+abbrev pub part_in : Shape → Tree → Option Shape
+part_in shape tree.nil = Some shape
+part_in (Many n items) (tree.cons place places) = part_in items places
+part_in shape other = None
 
--- the cells of the list in which they choose one
-abbrev pub deep_cells_at : Seat → ℕ → Option Scalar → Option ListCells
-deep_cells_at (Cell c) size None = None
-deep_cells_at (Cell c) size (Some t) = Some (record { cell = c; size = size; kind = t })
-deep_cells_at (Tokens port first step) size leaf = None
+-- the cells of so many single values of a type, if they stand in cells
+abbrev pub cells_at : Seat → ℕ → Scalar → Option ListCells
+cells_at (Cell c) size t = Some (record { cell = c; size = size; kind = t })
+cells_at (Tokens port first step) size t = None
 
 -- the type of the single values of a list at any depth
 abbrev pub leaf_of : Shape → Scalar
@@ -59,11 +58,4 @@ leaf_of (Many n items) = leaf_of items
 
 -- the cells of a whole list at any depth, if it stands in cells
 abbrev pub whole_cells_in : Part → Option ListCells
-whole_cells_in p = deep_cells_at p.seat p.size (Some (leaf_of p.shape))
-
-abbrev pub deep_cells_in : Part → Tree → Option ListCells
-deep_cells_in p places = deep_cells_at p.seat p.size (leaf_in p.shape places)
-
-abbrev pub deep_cells_named : List Name → List ℕ → Tree → Option ListCells
-deep_cells_named names text places = elim (part_named names (tree.variable text 0))
-    [ None ↦ None | Some p ↦ deep_cells_in p places ]
+whole_cells_in p = cells_at p.seat p.size (leaf_of p.shape)

@@ -1,4 +1,4 @@
-//! Assignments to items of lists in lists.
+//! Assignments to parts of lists.
 
 ghost use Rattle.std.specs.Prelude.{◌≡◌, ◌+◌, ◌<◌, ◌^◌, length};
 ghost use Rattle.std.specs.Prelude.{IfErr, None, OnOk};
@@ -11,18 +11,19 @@ ghost use Rattle.stmt_lower.specs.SeenStmts.{AddsKept, AddsStmt, left_out_item, 
 ghost use Rattle.stmt_lower.specs.Stating.{step_code};
 ghost use Rattle.stmt_lower.specs.StmtWords.{set_of};
 
-use crate::counter::take_kept;
+use crate::counter::take_row;
 use crate::scope::StmtScope;
-use crate::targets::deep_cells;
+use crate::targets::{part_in, whole_cells};
 use cal_ast::{Expr, Ident};
 use cal_model::Shape;
 use code_ir::Instr;
 use expr_lower::{Draft, LowerFault, put, put_all, scalars, whole_called};
-use list_lower::lower;
+use list_lower::{fill, lower};
 
-/// Appends an assignment to an item of a list in lists: its places and the value, each of which is kept, the tests of
-/// the places, and the instruction that stores the value.
-pub(crate) fn set_deep(
+/// Appends an assignment to a part of a list, be it a single value or a list: its places, each of which is kept, the
+/// value, which is filled apart, since it may read what it replaces, the tests of the places, and the instruction that
+/// stores the value.
+pub(crate) fn set_part(
     scope: &StmtScope,
     name: &Ident,
     places: &[Expr],
@@ -40,20 +41,24 @@ pub(crate) fn set_deep(
     let Some(whole) = whole_called(&scope.values, name.text.as_str()) else {
         return Err(LowerFault::NotLowered { at });
     };
-    let Some(to) = deep_cells(whole, places) else {
+    let Some(to) = whole_cells(whole) else {
         return Err(LowerFault::NotLowered { at });
     };
-    let kept = take_kept(places.len(), draft)?;
-    keep(scope, places, kept.places, draft)?;
-    lower(&scope.values, value, draft)?;
-    put_all(draft, &[Instr::Store(kept.value, None), Instr::Const(0)])?;
-    put_steps(whole.shape, places, kept.places, draft)?;
-    put_all(
+    let Some(part) = part_in(whole.shape, places) else {
+        return Err(LowerFault::NotLowered { at });
+    };
+    let Some(size) = scalars(part) else {
+        unreachable!();
+    };
+    let cell = take_row(places.len(), draft)?;
+    let first = take_row(size as usize, draft)?;
+    keep(scope, places, cell, draft)?;
+    fill(&scope.values, value, part, first, draft)?;
+    put(draft, Instr::Const(0))?;
+    put_steps(whole.shape, places, cell, draft)?;
+    put(
         draft,
-        &[
-            Instr::Load(kept.value),
-            Instr::StoreAt(to.cell, to.size, Some(to.kind)),
-        ],
+        Instr::CopyTo(to.cell, to.size, first, size, Some(to.kind)),
     )
 }
 
@@ -77,7 +82,7 @@ pub(crate) fn keep(
     keep(scope, rest, cell + 1, draft)
 }
 
-/// Appends the tests of places that are kept in cells, each of which adds to the offset of an item.
+/// Appends the tests of places that are kept in cells, each of which adds to the offset of the part.
 fn put_steps(shape: &Shape, places: &[Expr], cell: u32, draft: &mut Draft) -> Result<(), LowerFault>
     requires room { cell + length places.now < 2 ^ 32 }
     ensures added { OnOk result

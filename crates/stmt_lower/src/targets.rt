@@ -1,15 +1,15 @@
 //! Cells of names that are assigned.
 
-ghost use Rattle.std.specs.Prelude.{◌≡◌};
+ghost use Rattle.std.specs.Prelude.{◌≡◌, option_map};
 ghost use Rattle.cal_model.specs.View.{shape_view};
 ghost use Rattle.expr_lower.specs.PartView.{part_view, places_of};
 ghost use Rattle.expr_lower.specs.Seen.{seen};
-ghost use Rattle.stmt_lower.specs.Targets.{cell_named, cells_named, deep_cells_in, leaf_in};
-ghost use Rattle.stmt_lower.specs.Targets.{leaf_of, whole_cells_in};
+ghost use Rattle.stmt_lower.specs.Targets.{cell_named, cells_named};
+ghost use Rattle.stmt_lower.specs.Targets.{leaf_of, part_in, whole_cells_in};
 
 use cal_ast::Expr;
 use cal_model::Shape;
-use expr_lower::{OneCell, Part, Scope, Seat, list_called, one_named, single};
+use expr_lower::{OneCell, Part, Scope, Seat, list_called, one_named};
 use rvc_base::Scalar;
 
 /// The cells of a list, from the first on, and the type of its items.
@@ -81,30 +81,16 @@ pub(crate) fn leaf_of(shape: &Shape) -> Scalar
     }
 }
 
-/// The cells of the list in which so many indexes choose a single value, if they choose one.
-pub(crate) fn deep_cells(whole: Part, places: &[Expr]) -> Option<ListCells>
-    ensures { result ≡ deep_cells_in (part_view whole.entry) (places_of places.now) }
-{
-    let Seat::Cell(cell) = whole.seat else {
-        return None;
-    };
-    let kind = leaf_in(whole.shape, places)?;
-    Some(ListCells {
-        cell,
-        size: whole.size,
-        kind,
-    })
-}
-
-/// The type of the single value that so many indexes choose, if they choose one.
-fn leaf_in(shape: &Shape, places: &[Expr]) -> Option<Scalar>
-    ensures { result ≡ leaf_in (shape_view shape.now) (places_of places.now) }
+/// The type of the part that so many indexes choose, if there are lists for all of them.
+pub(crate) fn part_in<'a>(shape: &'a Shape, places: &[Expr]) -> Option<&'a Shape>
+    ensures { option_map (λ t. shape_view t.now) result
+        ≡ part_in (shape_view shape.entry.now) (places_of places.now) }
 {
     let Some((_, rest)) = places.split_first() else {
-        return single(shape);
+        return Some(shape);
     };
     match shape {
         Shape::Scalar(_) => None,
-        Shape::List(_, items) => leaf_in(items, rest),
+        Shape::List(_, items) => part_in(items, rest),
     }
 }
