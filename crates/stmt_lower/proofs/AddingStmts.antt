@@ -229,9 +229,10 @@ pub kept_none : {fs : List Function} (names : List Name) (c : ℕ) (draft : Draf
 kept_none names c draft = record { code = []; is = sym (append-nil draft.instrs.items); routines = refl; has = no_place c (length draft.instrs.items) draft.cells }
 
 -- an assignment with one place, of what is no list of single values
-pub one_place : (fs : List Function) (names : List Name) (text : List ℕ) (spot value : Tree) (at : ℕ) → cells_named names text ≡ None → left_out_set fs names text (listed (spot ∷ [])) value at ≡ left_out_deep fs names text (listed (spot ∷ [])) value at
-one_place fs names text spot value at e =
-    ap (λ (o : Option ListCells). elim o [ None ↦ left_out_deep fs names text (tree.cons spot tree.nil) value at | Some c ↦ left_out_in fs names spot or_else left_out_in fs names value ]) e
+pub one_place : (fs : List Function) (names : List Name) (text : List ℕ) (spot value : Tree) (at : ℕ) (ts : List Tree) → ts ≡ spot ∷ [] → cells_named names text ≡ None → left_out_set fs names text (listed ts) value at ≡ left_out_deep fs names text (listed ts) value at
+one_place fs names text spot value at ts is e =
+    subst (λ us. left_out_set fs names text (listed us) value at ≡ left_out_deep fs names text (listed us) value at) (sym is)
+    (ap (λ (o : Option ListCells). elim o [ None ↦ left_out_deep fs names text (tree.cons spot tree.nil) value at | Some c ↦ left_out_in fs names spot or_else left_out_in fs names value ]) e)
 
 -- .. or with two places or more
 pub many_places : (fs : List Function) (names : List Name) (text : List ℕ) (value : Tree) (at : ℕ) (ts : List Tree) → 2 ≤ length ts → left_out_set fs names text (listed ts) value at ≡ left_out_deep fs names text (listed ts) value at
@@ -315,7 +316,7 @@ part_adds {rs = rs} names text places value place at many cell first each p c t 
     let wide : scalars_of_type t ≡ each = sized_is t each sized_as in
     let leaf : c.kind ≡ leaf_of t = cells.2 ∙ part_leaf p.shape places part in
     let behind : first ≡ f = let x = k2.is in let y = k1.cells in omega (arith, x, y, number) in
-    let zero : List Instr = op.Const (pos 0) ∷ [] in
+    let push : List Instr = op.Const (pos 0) ∷ [] in
     let steps : List Instr = step_code cell p.shape places in
     let here : List Instr = step_code n w.x.shape places in
     let last : List Instr = op.CopyTo c.cell c.size first each (Some c.kind) ∷ [] in
@@ -326,10 +327,10 @@ part_adds {rs = rs} names text places value place at many cell first each p c t 
     let l2 = length_join d1.instrs.items d2.instrs.items a.code a.is in
     let at2 : length d2.instrs.items ≡ base + length a.code = omega (arith, l2, start) in
     let taken : d1.cells ≡ f + scalars_of_type t = let x = k2.cells in let y = k1.cells in omega (arith, x, y, number, wide) in
-    let all : new.instrs.items ≡ ((((old.instrs.items ++ a.code) ++ b.code) ++ zero) ++ steps) ++ last = cc (p3.is, p2.is, p1.is, b.is, a.is, k2.instrs, k1.instrs) in
-    let flat : ((((old.instrs.items ++ a.code) ++ b.code) ++ zero) ++ steps) ++ last ≡ old.instrs.items ++ (a.code ++ (b.code ++ (zero ++ (steps ++ last)))) = simp append_assoc in
+    let all : new.instrs.items ≡ ((((old.instrs.items ++ a.code) ++ b.code) ++ push) ++ steps) ++ last = cc (p3.is, p2.is, p1.is, b.is, a.is, k2.instrs, k1.instrs) in
+    let flat : ((((old.instrs.items ++ a.code) ++ b.code) ++ push) ++ steps) ++ last ≡ old.instrs.items ++ (a.code ++ (b.code ++ (push ++ (steps ++ last)))) = simp append_assoc in
     let code : List Instr = a.code ++ (b.code ++ part_tail c.cell c.size f t here) in
-    let shaped : a.code ++ (b.code ++ (zero ++ (steps ++ last))) ≡ code = ap (λ q. a.code ++ (b.code ++ (zero ++ (q ++ last)))) same_steps ∙ ap (λ q. a.code ++ (b.code ++ (zero ++ (here ++ q)))) same_last in
+    let shaped : a.code ++ (b.code ++ (push ++ (steps ++ last))) ≡ code = ap (λ q. a.code ++ (b.code ++ (push ++ (q ++ last)))) same_steps ∙ ap (λ q. a.code ++ (b.code ++ (push ++ (here ++ q)))) same_last in
     record {
       code = code;
       is = all ∙ flat ∙ ap (λ xs. old.instrs.items ++ xs) shaped;
