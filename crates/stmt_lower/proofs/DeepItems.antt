@@ -365,7 +365,7 @@ module _ (rs : Routines) (outer : List Name) (w : World) (serves : Serves w oute
   part_ends : (inner : List Name) (n m base place end c s size : ℕ) (text : List ℕ) (x : Name) (t : Shape) (stack before cells : List ℤ) (us : Values) (v : Value) (env : Env) (left k from : ℕ)
       → slice_get w.code.instrs place ≡ Some (op.CopyTo c size s (scalars_of_type t) (Some (leaf_of t))) → end ≡ place + 1 → n ≤ m
       → AreLaid rs outer w.tokens w.low w.high n inner → named text (inner ++ outer) ≡ Some x → x.seat ≡ Cell c → scalars_of_type x.shape ≡ size
-      → (s + scalars_of_type t ≤ c) ⊎ (c + size ≤ s) → c + size ≤ length cells → s + scalars_of_type t ≤ length cells → StandAt (Cell s) w.tokens cells (flat v)
+      → (s + scalars_of_type t ≤ c) ⊎ (c + size ≤ s + scalars_of_type t) → c + size ≤ length cells → s + scalars_of_type t ≤ length cells → StandAt (Cell s) w.tokens cells (flat v)
       → (u : Value) → HasKind (kind_of_type x.shape) u → StandAt (Cell c) w.tokens cells (flat u)
       → (o : Out Value) → put x.shape u us v k ≡ o
       → (typed : IsType t) (shaped : IsShaped t v) (small : size < 2 ^ 32)
@@ -379,7 +379,7 @@ module _ (rs : Routines) (outer : List Name) (w : World) (serves : Serves w oute
       let leaf : Scalar = leaf_of t in
       let i : Instr = op.CopyTo c size s wide (Some leaf) in
       let written : List ℤ = copied (Some leaf) (c + o) s wide cells in
-      let far : (s + wide ≤ c + o) ⊎ (c + o ≤ s) = ⊎_elim (λ (a : s + wide ≤ c). inl (omega (arith, a))) (λ (a : c + size ≤ s). inr (omega (arith, a, within, many))) away in
+      let far : (s + wide ≤ c + o) ⊎ (c + o ≤ s) = ⊎_elim (λ (a : s + wide ≤ c). inl (omega (arith, a))) (λ (a : c + size ≤ s + wide). inr (omega (arith, a, within, many))) away in
       let inside : c + o + wide ≤ length cells = omega (arith, within, many, to) in
       let moved : AreMoved (in_cell (Some leaf)) (λ j. slice_get cells (s + j)) (c + o) wide cells written = copied_are (Some leaf) (c + o) s wide cells far inside in
       let a : State = state place (pos o ∷ stack) frames cells k in
@@ -412,7 +412,7 @@ module _ (rs : Routines) (outer : List Name) (w : World) (serves : Serves w oute
   tail_moves : (inner : List Name) (places : Tree) (n m base p c s size : ℕ) (text : List ℕ) (x : Name) (t : Shape) (stack before cells : List ℤ) (us : Values) (v : Value) (env : Env) (left k : ℕ)
       → named text (inner ++ outer) ≡ Some x → x.seat ≡ Cell c → sized x.shape ≡ Some size → part_in x.shape places ≡ Some t
       → StandsAt w.code.instrs p (part_tail c size s t (step_code n x.shape places)) → n ≤ m → m ≤ length cells → AreLaid rs outer w.tokens w.low w.high n inner
-      → (s + scalars_of_type t ≤ c) ⊎ (c + size ≤ s) → s + scalars_of_type t ≤ length cells → StandAt (Cell s) w.tokens cells (flat v) → IsShaped t v
+      → (s + scalars_of_type t ≤ c) ⊎ (c + size ≤ s + scalars_of_type t) → s + scalars_of_type t ≤ length cells → StandAt (Cell s) w.tokens cells (flat v) → IsShaped t v
       → AreKept n us cells → count us ≡ number_of places
       → Reaches w.code w.tokens (state base stack frames before left) (state p stack frames cells k) → Keeps n m w.low w.high before cells → Inside inner before env
       → Follows (assign env text us v k) (Moves rs outer w serves frames inner n m (state base stack frames before left) (p + length (part_tail c size s t (step_code n x.shape places))) (length env.locals)) (CutShort w (inner ++ outer) outer n m (state base stack frames before left))
