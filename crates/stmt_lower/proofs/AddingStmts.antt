@@ -353,10 +353,10 @@ part_room names places cell first each t d0 d1 d2 sized_as k a =
 
 -- .. which has a size
 pub part_has_size : (names : List Name) (text : List ℕ) (places : Tree) (p : Part) (t : Shape) → part_named names (tree.variable text 0) ≡ Some p → part_in p.shape places ≡ Some t → sized t ≡ None → ⊥
-part_has_size names text places p t e part none =
+part_has_size names text places p t e part lacks =
     let w : IsWhole names text p = whole_found names text 0 p e in
     let some = part_sized p.shape places p.size (ap sized (sym w.shape) ∙ w.size) part in
-    let both : Some some.0 ≡ None = sym some.1 ∙ none in
+    let both : Some some.0 ≡ None = sym some.1 ∙ lacks in
     cc
 
 -- what is left out, when the part is there

@@ -15,7 +15,7 @@ pub unreachable-requires : goal.unreachable-requires
 unreachable-requires c =
     let whole : part_named (seen c.args.scope.now) (tree.variable (string_bytes c.args.name.now.text) 0) ≡ Some (part_view c.in-Some.whole) = search rules in
     let part : part_in (shape_view c.in-Some.whole.shape.now) (places_of c.args.places.now) ≡ Some (shape_view c.in-Some-part_in.part.now) = search rules in
-    part_has_size (seen c.args.scope.now) (string_bytes c.args.name.now.text) (places_of c.args.places.now) (part_view c.in-Some.whole) (shape_view c.in-Some-part_in.part.now) whole part (sym c.scalars.ensures ∙ c.in_default.is)
+    part_has_size (seen c.args.scope.now) (string_bytes c.args.name.now.text) (places_of c.args.places.now) (part_view c.in-Some.whole) (shape_view c.in-Some-part_in.part.now) whole part (sym c.scalars.ensures ∙ c.in_default-scalars.is)
 
 pub fill-requires : goal.fill-requires
 fill-requires c =
