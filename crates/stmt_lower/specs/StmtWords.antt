@@ -1,6 +1,6 @@
 -- The words of the contracts of calls that lower statements, over names and statements as the code has them.
 -- Trusted: part of what a promise means.
-use Rattle.std.specs.Prelude.{◌≡◌, ℕ, List, [], ◌∷◌, map, Option, None, Vec}
+use Rattle.std.specs.Prelude.{◌≡◌, ℕ, List, [], map, Option, None, Vec}
 use Rattle.std.specs.declared.alloc.Global.{Global}
 use Rattle.cal_ast.specs.Tree as tree
 use Rattle.cal_ast.specs.Tree.{Tree, listed}

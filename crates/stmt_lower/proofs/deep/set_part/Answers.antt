@@ -5,7 +5,7 @@ use Rattle.cal_ast.specs.View.{expr_tree}
 use Rattle.cal_model.specs.View.{shape_view}
 use Rattle.expr_lower.specs.Parted.{part_named}
 use Rattle.expr_lower.specs.PartView.{part_view, places_of}
-use Rattle.stmt_lower.specs.StmtSeen.{called, seen}
+use Rattle.stmt_lower.specs.StmtSeen.{seen}
 use Rattle.stmt_lower.specs.Targets.{part_in}
 use Rattle.expr_lower.proofs.Adding.{places_number}
 use Rattle.stmt_lower.proofs.AddingStmts.{part_adds, part_has_size, part_room}
