@@ -409,7 +409,7 @@ module _ (rs : Routines) (outer : List Name) (w : World) (serves : Serves w oute
       never rs outer w serves frames runs inner n m base from end c text x (pos 0 ∷ stack) stack before cells us v env left k (λ b. ⊥) (λ b q. absurd q) laid e seat (as_put x c us v k Clashes cells (λ b. ⊥) seat u kind stand is tt) now
 
   -- the tests of the places and the last instruction, where the places are kept and the value stands in cells
-  tail_moves : (inner : List Name) (places : Tree) (n m base p c s size : ℕ) (text : List ℕ) (x : Name) (t : Shape) (stack before cells : List ℤ) (us : Values) (v : Value) (env : Env) (left k : ℕ)
+  pub tail_moves : (inner : List Name) (places : Tree) (n m base p c s size : ℕ) (text : List ℕ) (x : Name) (t : Shape) (stack before cells : List ℤ) (us : Values) (v : Value) (env : Env) (left k : ℕ)
       → named text (inner ++ outer) ≡ Some x → x.seat ≡ Cell c → sized x.shape ≡ Some size → part_in x.shape places ≡ Some t
       → StandsAt w.code.instrs p (part_tail c size s t (step_code n x.shape places)) → n ≤ m → m ≤ length cells → AreLaid rs outer w.tokens w.low w.high n inner
       → (s + scalars_of_type t ≤ c) ⊎ (c + size ≤ s + scalars_of_type t) → s + scalars_of_type t ≤ length cells → StandAt (Cell s) w.tokens cells (flat v) → IsShaped t v

@@ -18,7 +18,7 @@ use Rattle.stmt_lower.specs.Changing.{AreTyped}
 use Rattle.expr_lower.specs.Fitting.{Fits}
 use Rattle.expr_lower.specs.Parted.{number_of, sized}
 use Rattle.expr_lower.specs.Placed.{StandsAt}
-use Rattle.stmt_lower.specs.Stating.{IsKept, IsStmt, AreStmts, copy_code, no_place, part_tail, place_more, set, set_filled, set_item, set_items, set_list, set_part, step_code, step_in, if_alone, if_else, while_code, each_code, each_head, each_tail, block_code, none, one_more, IsBlock, list_more, no_more, variable_more, call, run_code}
+use Rattle.stmt_lower.specs.Stating.{IsKept, IsStmt, AreStmts, copy_code, no_place, part_tail, place_more, set, set_filled, set_item, set_items, set_list, set_part, set_part_list, step_code, step_in, if_alone, if_else, while_code, each_code, each_head, each_tail, block_code, none, one_more, IsBlock, list_more, no_more, variable_more, call, run_code}
 use Rattle.expr_lower.specs.Starting.{IsStart, at_zero, at_value}
 use Rattle.expr_lower.proofs.Coded.{grows, grows_test}
 use Rattle.stmt_lower.proofs.DeepItems.{grows_kept, part_typed}
@@ -34,6 +34,7 @@ use Rattle.list_lower.proofs.FittedJumps.{fits_back, fits_goto, fits_none}
 use Rattle.expr_lower.proofs.Keeping.{below_more}
 use Rattle.list_lower.proofs.MeantIs.{meant_sized}
 use Rattle.list_lower.proofs.ShapeIs.{shape_typed}
+use Rattle.list_lower.proofs.Shapes.{alike_sizes}
 use Rattle.stmt_lower.specs.ListStarting.{IsListStart, all_filled, all_zero, local_of}
 use Rattle.stmt_lower.proofs.ListStarting.{grows_list_start}
 use Rattle.stmt_lower.proofs.Scoping.{choose_name}
@@ -203,6 +204,18 @@ module _ (code : Code) (callable limit : ℕ) where
           (fits_fill code callable limit rs.functions has.functions h (below_more n f names (omega arith) below) wide le (stands_left code.instrs (base + length a) b tail (stands_right code.instrs base a (b ++ tail) stands)) d)
           (fits_tail (base + length a + length b) h c size f t steps (omega (arith, all, many)) (omega (arith, wide, more, le)) (part_typed x.shape places (typed text x e) part)
           (fits_steps (base + length a + length b + 1) h n x.shape places (omega (arith, wide, more, le)))))
+      fits_stmt h below typed le stands (set_part_list names text from places place from_at at base n m c size d a x y t e seat shape part f there same g) =
+          let wide = grows_kept g in
+          let steps : List Instr = step_code n x.shape places in
+          let tail : List Instr = part_tail c size d t steps in
+          let up : n ≤ m = omega (arith, wide) in
+          let all = cells_there n c names text x x.shape below (omega (arith, up, le)) e seat refl in
+          let from_cells = cells_there n d names from y y.shape below (omega (arith, up, le)) f there refl in
+          let many = sized_is x.shape size shape in
+          let sizes = alike_sizes t y.shape same in
+          plain_then code callable limit base h h h a tail (fits_kept names h (omega arith) below le (stands_left code.instrs base a tail stands) g)
+          (fits_tail (base + length a) h c size d t steps (omega (arith, all, many)) (omega (arith, from_cells, sizes)) (part_typed x.shape places (typed text x e) part)
+          (fits_steps (base + length a + 1) h n x.shape places (omega (arith, wide, le))))
       fits_stmt h below typed le stands (call names text args place at base n m part p e g) =
           let f = proc_found text (number_of args) rs.procedures p e in
           let r = has.procedures text p f.0 in

@@ -1,6 +1,6 @@
 -- The code of each form of a statement. It stands at a place of the code, since jumps name places.
 -- Trusted: part of what a promise means.
-use Rattle.std.specs.Prelude.{◌≡◌, ℕ, ◌+◌, pos, Bool, List, [], ◌∷◌, ◌++◌, length, Option, None, Some}
+use Rattle.std.specs.Prelude.{◌≡◌, ℕ, ◌+◌, pos, Bool, true, List, [], ◌∷◌, ◌++◌, length, Option, None, Some}
 use Rattle.rvc_base.specs.declared.scalar.Scalar.{Scalar}
 use Rattle.cal_ast.specs.Tree as tree
 use Rattle.cal_ast.specs.Tree.{Tree}
@@ -22,7 +22,7 @@ use Rattle.list_lower.specs.ShapeMeant.{shape_meant}
 use Rattle.stmt_lower.specs.ListStarting.{IsListStart, local_of}
 use Rattle.stmt_lower.specs.Procedures.{Procedure, Routines, procedure_for}
 use Rattle.stmt_lower.specs.Targets.{leaf_of, part_in}
-use Rattle.expr_lower.specs.Parted.{number_of, sized}
+use Rattle.expr_lower.specs.Parted.{alike, number_of, sized}
 
 -- ---- parts of the code of a `foreach`
 
@@ -145,6 +145,15 @@ mutual
         → IsFill rs.functions names value t (n + number_of places) (base + length a) k b m
         → IsStmt rs names (tree.assign (tree.ident text place) places value at) base n
         (a ++ (b ++ part_tail c size (n + number_of places) t (step_code n x.shape places))) m
+    -- .. or from the cells of a list's name, which isn't copied before
+    set_part_list : (names : List Name) (text from : List ℕ) (places : Tree)
+        (place from_at at base n m c size d : ℕ) (a : List Instr) (x y : Name) (t : Shape)
+        → named text names ≡ Some x → x.seat ≡ Cell c → sized x.shape ≡ Some size
+        → part_in x.shape places ≡ Some t
+        → named from names ≡ Some y → y.seat ≡ Cell d → alike t y.shape ≡ true
+        → IsKept rs.functions names n places base (n + number_of places) a m
+        → IsStmt rs names (tree.assign (tree.ident text place) places (tree.variable from from_at) at) base n
+        (a ++ part_tail c size d t (step_code n x.shape places)) m
     -- the arguments, a turn, and the routine of the procedure
     call : (names : List Name) (text : List ℕ) (args : Tree) (place at base n m : ℕ)
         (code : List Instr) (p : Procedure)

@@ -1,6 +1,6 @@
 -- Cells of names that may be assigned.
 -- Trusted: part of what a promise means.
-use Rattle.std.specs.Prelude.{ℕ, List, Option, None, Some}
+use Rattle.std.specs.Prelude.{ℕ, List, Option, None, Some, if◌then◌else◌}
 use Rattle.rvc_base.specs.declared.scalar.Scalar.{Scalar}
 use Rattle.cal_ast.specs.Tree as tree
 use Rattle.cal_ast.specs.Tree.{Tree}
@@ -11,7 +11,8 @@ use Rattle.expr_lower.specs.declared.names.Seat.{Seat}
 use Rattle.expr_lower.specs.declared.names.Seat.TheVariants.{Cell, Tokens}
 use Rattle.expr_lower.specs.Listed.{list_named}
 use Rattle.expr_lower.specs.Names.{Name, named}
-use Rattle.expr_lower.specs.Parted.{Part}
+use Rattle.expr_lower.specs.Growing.{first_cell}
+use Rattle.expr_lower.specs.Parted.{Part, alike, part_named}
 use Rattle.stmt_lower.specs.declared.targets.ListCells.{ListCells}
 
 -- the cell of a single value
@@ -59,3 +60,13 @@ leaf_of (Many n items) = leaf_of items
 -- the cells of a whole list at any depth, if it stands in cells
 abbrev pub whole_cells_in : Part → Option ListCells
 whole_cells_in p = cells_at p.seat p.size (leaf_of p.shape)
+
+-- the first cell of the list that is assigned to a part of a type, if that is the list of a name, in cells
+abbrev pub source_in : Shape → Option Part → Option ℕ
+source_in t None = None
+source_in t (Some p) = if alike t p.shape then first_cell p.seat else None
+
+abbrev pub source_of : List Name → Shape → Tree → Option ℕ
+source_of names t (tree.variable text at) =
+    source_in t (part_named names (tree.variable text at))
+source_of names t other = None
