@@ -61,12 +61,13 @@ leaf_of (Many n items) = leaf_of items
 abbrev pub whole_cells_in : Part → Option ListCells
 whole_cells_in p = cells_at p.seat p.size (leaf_of p.shape)
 
--- the first cell of the list that is assigned to a part of a type, if that is the list of a name, in cells
+-- the first cell of a list that is assigned to a part, if it is that of a name, in cells, with as many items at each
+-- depth
 abbrev pub source_in : Shape → Option Part → Option ℕ
 source_in t None = None
 source_in t (Some p) = if alike t p.shape then first_cell p.seat else None
 
 abbrev pub source_of : List Name → Shape → Tree → Option ℕ
-source_of names t (tree.variable text at) =
-    source_in t (part_named names (tree.variable text at))
+source_of names (Many n items) (tree.variable text at) =
+    source_in (Many n items) (part_named names (tree.variable text at))
 source_of names t other = None
