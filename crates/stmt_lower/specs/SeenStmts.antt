@@ -62,7 +62,7 @@ pub record IsTarget (names : List Name) (text : List ℕ) (places : Tree) (t : T
   pub is : part_named names (tree.variable text 0) ≡ Some whole
   pub list : whole.shape ≡ shape_view t.list.now
   pub cells : whole_cells_in whole ≡ Some t.to
-  pub chosen : part_in (shape_view t.list.now) places ≡ Some (shape_view t.part.now)
+  pub chosen : part_in whole.shape places ≡ Some (shape_view t.part.now)
   pub size : sized (shape_view t.part.now) ≡ Some t.size
 
 -- .. and that there is no such part

@@ -3,6 +3,7 @@
 ghost use Rattle.std.specs.Prelude.{◌≡◌, IfNone, IfSome, Some, option_map};
 ghost use Rattle.cal_ast.specs.View.{expr_tree};
 ghost use Rattle.cal_model.specs.View.{shape_view};
+ghost use Rattle.expr_lower.specs.Parted.{alike};
 ghost use Rattle.expr_lower.specs.PartView.{part_view, places_of};
 ghost use Rattle.expr_lower.specs.Seen.{seen};
 ghost use Rattle.stmt_lower.specs.Targets.{cell_named, cells_named};
@@ -12,7 +13,6 @@ ghost use Rattle.stmt_lower.specs.Targets.{leaf_of, part_in, source_in, source_o
 use cal_ast::{Expr, ExprForm};
 use cal_model::Shape;
 use expr_lower::{OneCell, Part, Scope, Seat, list_called, one_named, scalars, whole_called};
-use list_lower::alike;
 use rvc_base::Scalar;
 
 /// The cells of a list, from the first on, and the type of its items.
@@ -157,5 +157,21 @@ fn source_in(part: &Shape, from: Part) -> Option<u32>
             first: _,
             step: _,
         } => None,
+    }
+}
+
+/// Whether two types are of lists of as many items at each depth.
+fn alike(one: &Shape, other: &Shape) -> bool
+    ensures { result ≡ alike (shape_view one.now) (shape_view other.now) }
+{
+    match one {
+        Shape::Scalar(_) => match other {
+            Shape::Scalar(_) => true,
+            Shape::List(_, _) => false,
+        },
+        Shape::List(count, items) => match other {
+            Shape::Scalar(_) => false,
+            Shape::List(many, others) => *count == *many && alike(items, others),
+        },
     }
 }
