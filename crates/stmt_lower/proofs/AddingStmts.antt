@@ -410,11 +410,11 @@ source_found names t other d e = cc
 pub source_whole : (fs : List Function) (names : List Name) (t : Shape) (value : Tree) (d : ℕ) → source_of names t value ≡ Some d → left_out_fill fs names t value ≡ None
 source_whole fs names (Many n items) (tree.variable text at) d e = go (part_named names (tree.variable text at)) e
   where
-    by : (p : Part) (b : Bool) → (if b then first_cell p.seat else None) ≡ Some d → (if b then None else Some at) ≡ None
+    by : (p : Part) (b : Bool) → (if b then first_cell p.seat else None) ≡ Some d → ◌≡◌ {A = Option ℕ} (if b then None else Some at) None
     by p true h = refl
     by p false h = cc
 
-    go : (o : Option Part) → source_in (Many n items) o ≡ Some d → elim o [ None ↦ Some at | Some p ↦ if alike (Many n items) p.shape then None else Some at ] ≡ None
+    go : (o : Option Part) → source_in (Many n items) o ≡ Some d → ◌≡◌ {A = Option ℕ} (elim o [ None ↦ Some at | Some p ↦ if alike (Many n items) p.shape then None else Some at ]) None
     go None h = cc
     go (Some p) h = by p (alike (Many n items) p.shape) h
 source_whole fs names (Single s) value d e = cc
