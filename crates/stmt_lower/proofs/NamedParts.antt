@@ -1,12 +1,12 @@
 -- The code that stores the list of a name in a part of a list does what executing the assignment does.
-use Rattle.std.proofs.Common.{◌≡◌, ℕ, ◌+◌, ◌≤◌, ◌⊎◌, inl, inr, ⊎_elim, ℤ, List, [], ◌∷◌, ◌++◌, length, Bool, true, false, refl, sym, ap, ◌∙◌, subst, Option, Some, arith, length-append}
+use Rattle.std.proofs.Common.{◌≡◌, ℕ, ◌+◌, ◌≤◌, ◌⊎◌, inl, inr, ⊎_elim, List, ◌++◌, length, Bool, true, false, refl, sym, ap, ◌∙◌, subst, Option, Some, arith, length-append}
 use Rattle.std.specs.Str.{bytes_eq}
 use Rattle.std.proofs.lemmas.Slice.Eq.{bytes_eq-Decides}
 use Rattle.cal_ast.specs.Tree as tree
 use Rattle.cal_ast.specs.Tree.{Tree}
-use Rattle.cal_model.specs.Value.{Shape, Value, Values, scalars_of_type}
+use Rattle.cal_model.specs.Value.{Shape, Value, scalars_of_type}
 use Rattle.cal_model.specs.Outcome.{Out, Gives, and_then, known}
-use Rattle.cal_model.specs.Env.{Env, assign}
+use Rattle.cal_model.specs.Env.{assign}
 use Rattle.cal_model.specs.Expression.{eval, eval_all}
 use Rattle.cal_model.specs.Statement.{Runs, exec}
 use Rattle.code_ir.specs.declared.instr.Instr.{Instr}
@@ -18,7 +18,7 @@ use Rattle.expr_lower.specs.Following.{CutsOff, Follows}
 use Rattle.expr_lower.specs.Held.{HoldsName, SeatIsBelow, StandAt}
 use Rattle.expr_lower.specs.Names.{Name, named}
 use Rattle.expr_lower.specs.Parted.{alike, number_of, sized}
-use Rattle.expr_lower.specs.Placed.{StandsAt, World, state}
+use Rattle.expr_lower.specs.Placed.{World, state}
 use Rattle.expr_lower.proofs.PartValues.{sized_is}
 use Rattle.expr_lower.proofs.Runs.{follows_then, stands_left, stands_right}
 use Rattle.list_lower.proofs.Shapes.{alike_sizes, kind_shaped}
