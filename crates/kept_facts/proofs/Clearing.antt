@@ -179,7 +179,7 @@ module _ (actor : Actor) (limit callable : ℕ) (firing : Bool) (wide : actor.ke
 -- ---- actions
 
 wide-enough : (actor : Actor) (entry limit : ℕ) → Clears actor entry limit → actor.kept ≤ limit
-wide-enough actor entry limit h = let e = h.limit in omega (arith, e)
+wide-enough actor entry limit h = let e = h.up_to in omega (arith, e)
 
 guard-spans : (actor : Actor) (action : Action) (entry : ℕ) → GuardStands actor action entry → HasSpan actor action false entry
 guard-spans actor action entry g =
@@ -190,8 +190,8 @@ guard-spans actor action entry g =
       are = are-routines actor g.limit h.callable false wide h.routines;
       body = entry-span actor.code.instrs g.limit entry;
       begins = refl;
-      first = first-set actor g.limit h.callable false wide h.routines entry h.clears.count h.clears.there h.clears.limit;
-      fits = entry-fits actor g.limit h.callable false wide h.routines entry h.clears.count h.clears.there h.clears.limit action.needs h.body;
+      first = first-set actor g.limit h.callable false wide h.routines entry h.clears.count h.clears.there h.clears.up_to;
+      fits = entry-fits actor g.limit h.callable false wide h.routines entry h.clears.count h.clears.there h.clears.up_to action.needs h.body;
       sends = λ e. absurd (cc);
     }
 
@@ -204,10 +204,10 @@ firing-spans actor action f =
       are = are-routines actor f.limit h.callable true wide h.routines;
       body = entry-span actor.code.instrs f.limit action.fire;
       begins = refl;
-      first = first-set actor f.limit h.callable true wide h.routines action.fire h.clears.count h.clears.there h.clears.limit;
-      fits = entry-fits actor f.limit h.callable true wide h.routines action.fire h.clears.count h.clears.there h.clears.limit action.needs h.body;
+      first = first-set actor f.limit h.callable true wide h.routines action.fire h.clears.count h.clears.there h.clears.up_to;
+      fits = entry-fits actor f.limit h.callable true wide h.routines action.fire h.clears.count h.clears.there h.clears.up_to action.needs h.body;
       sends = λ e p from to is port k low less.
-          set-behind actor f.limit h.callable true wide h.routines action.fire h.clears.count h.clears.there h.clears.limit p (number_on action.sends port + k)
+          set-behind actor f.limit h.callable true wide h.routines action.fire h.clears.count h.clears.there h.clears.up_to p (number_on action.sends port + k)
           (⊎_elim (λ (past : action.fire < p). past) (λ (le : p ≤ action.fire).
           let same : p ≡ action.fire = omega (arith, le, from) in
           absurd (not-zero (sym is ∙ (ap (slice_get actor.code.instrs) same ∙ h.clears.there)))) (cases_lt action.fire p))

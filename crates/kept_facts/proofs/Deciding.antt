@@ -16,12 +16,18 @@ use Rattle.kept_facts.specs.Rows.{called, is_among, reads}
 use Rattle.kept_facts.proofs.Alike.{among-is}
 use Rattle.kept_facts.proofs.Looping.{each-behind, up-to}
 
-some-same : {A : Type 0} {x y : A} → ◌≡◌ {A = Option A} (Some x) (Some y) → x ≡ y
+pub some-same : {A : Type 0} {x y : A} → ◌≡◌ {A = Option A} (Some x) (Some y) → x ≡ y
 some-same e = cc
 
 -- an action of parts is one of the actor
 pub action-there : (P : Action → Type 0) (xs : List ActionCode) (k : ℕ) (x : ActionCode) → k < length xs → x ≡ slice_index_or xs k x → All P (map action_of xs) → P (action_of x)
 action-there P xs k x low is all = all-at P (map action_of xs) k (action_of x) all (mapped-at action_of xs k x low is)
+
+-- an item that is there, whatever stands for those that aren't
+pub number-at : (xs : List ℕ) (k x : ℕ) → k < length xs → x ≡ slice_index_or xs k x → slice_index_or xs k 0 ≡ x
+number-at [] k x low is = absurd (omega (arith, low))
+number-at (y ∷ xs) zero x low is = sym is
+number-at (y ∷ xs) (suc k) x low is = number-at xs k x (omega (arith, low)) is
 
 -- ---- where a body ends
 
@@ -129,12 +135,12 @@ clears-of actor entry limit e = by (slice_get actor.code.instrs entry) refl e
     by None there e = absurd (cc)
     by (Some i) there e =
         let zero = by-limit actor.kept i limit e in
-        record { count = zero.0; there = there ∙ ap (λ x. Some x) zero.1; limit = zero.2 }
+        record { count = zero.0; there = there ∙ ap (λ x. Some x) zero.1; up_to = zero.2 }
 
 pub limit-of : (actor : Actor) (entry limit : ℕ) → Clears actor entry limit → limit_at actor entry ≡ Some limit
 limit-of actor entry limit h =
     ap (λ o. elim o [ None ↦ None | Some i ↦ cleared actor.kept i ]) h.there
-    ∙ (ap (λ b. if b then Some (actor.kept + h.count) else None) (eq-eqb actor.kept actor.kept refl) ∙ ap (λ n. Some n) (sym h.limit))
+    ∙ (ap (λ b. if b then Some (actor.kept + h.count) else None) (eq-eqb actor.kept actor.kept refl) ∙ ap (λ n. Some n) (sym h.up_to))
 
 -- ---- a body
 

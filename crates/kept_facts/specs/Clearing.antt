@@ -77,7 +77,7 @@ RoutinesStand actor limit firing callable = (r : ℕ) → r < callable
 pub record Clears (actor : Actor) (entry limit : ℕ) : Type 0 where
   pub count : ℕ
   pub there : slice_get actor.code.instrs entry ≡ Some (op.Zero actor.kept count)
-  pub limit : limit ≡ actor.kept + count
+  pub up_to : limit ≡ actor.kept + count
 
 -- A guard or a firing clears the cells behind the state cells up to a limit, its instructions stand, and so do those of
 -- the routines that it may call.
