@@ -175,7 +175,7 @@ module _ (fs : List Function) (actor : Actor) (a : ℕ) (act : Action) (code : C
   hold-cleared : (n : ℕ) → HoldVars actor x (zeroed (state_cells actor) n cells)
   hold-cleared n = take-zeroed n (state_cells actor) (state_cells actor) cells (omega arith) ∙ hold
 
-  is-truth : Tree → Type 0
+  abbrev is-truth : Tree → Type 0
   is-truth g = GivesOrTraps (HasKind BoolKind) (eval g (calls_of actor.funs) (seen_by actor x u act) max_turns)
 
   -- a guard answers behind an instruction that clears the cells
@@ -194,10 +194,10 @@ module _ (fs : List Function) (actor : Actor) (a : ℕ) (act : Action) (code : C
   -- code of a guard, whatever it begins with
   headed : {clears : Option ℕ} {head : List Instr} (g : Tree) (base n m : ℕ) (body : List Instr) → ClearsBehind actor clears → IsHead clears m head → IsLoweredWith fs (seen_seats actor act) g (base + length head) n body m
       → StandsAt code.instrs base (head ++ (body ++ op.Answer ∷ [])) → state_cells actor ≤ n → first ≤ n → m ≤ last → is-truth g → IsGuardOf actor a act code x u cells g base
-  headed g base n m body behind (no_head m) lowered stands le from to good =
+  headed g base n _ body behind (no_head m) lowered stands le from to good =
       let here : base + 0 ≡ base = omega arith in
       guard-answers fs actor a act code sound is_act x u cells first last functions in_state of_ports has hold g base n m body (subst (λ p. IsLoweredWith fs (seen_seats actor act) g p n body m) here lowered) stands le from to good
-  headed g base n m body behind (clearing kept count m is) lowered stands le from to good =
+  headed g base n _ body behind (clearing kept count m is) lowered stands le from to good =
       let same : kept ≡ state_cells actor = behind kept refl in
       let low = state_cells actor in
       let there : slice_get code.instrs base ≡ Some (op.Zero low count) = subst (λ k. slice_get code.instrs base ≡ Some (op.Zero k count)) same stands.0 in

@@ -129,7 +129,7 @@ more-added f clears fs names xs x i es hs entry old mid new small is before now 
         is = b.is ∙ ap (λ is. is ++ b.code) a.is ∙ append_assoc old.instrs.items a.code b.code;
         routines = b.routines ∙ a.routines;
         has = subst (λ ks. AreGuards clears fs names (map f (take i xs) ++ f x ∷ []) ks (length old.instrs.items) old.cells (a.code ++ b.code) new.cells) (ap (λ p. es ++ p ∷ []) (sym place ∙ sym now.0) ∙ sym entries)
-            (guard-last fs names (f x) new.cells b.code a.has (subst (λ p. IsGuardCode clears fs names (f x) p mid.cells b.code new.cells) place b.has));
+            (guard-last clears fs names (f x) new.cells b.code a.has (subst (λ p. IsGuardCode clears fs names (f x) p mid.cells b.code new.cells) place b.has));
       };
       whole = left-more fs names (map f (take i xs)) (f x) before.whole ∙ whole;
       below = below_more mid.cells new.cells names b.has.lowered.cells before.below;

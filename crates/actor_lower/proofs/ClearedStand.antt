@@ -21,7 +21,7 @@ use Rattle.kept_facts.specs.declared.body.Last.{Last}
 use Rattle.kept_facts.specs.declared.body.Last.TheVariants as last
 use Rattle.kept_facts.specs.ClearWords.{CallsBelow}
 use Rattle.kept_facts.specs.Clearing.{ActionStands, AllStand, BodyStands, EntryStands, FiringStands, GuardStands, RoutineStands, RoutinesStand, SendsBelow, Stands, ends_body, stop_of}
-use Rattle.kept_facts.specs.Fitting.{last_of}
+use Rattle.kept_facts.specs.Fitting.{MayStand, last_of}
 use Rattle.kept_facts.specs.Rows.{called, reads}
 use Rattle.kept_facts.proofs.Deciding.{stop-here, stop-next}
 use Rattle.kept_facts.proofs.Looping.{each-behind}
@@ -130,7 +130,7 @@ stop-is instrs base (i ∷ code) end stands inner is =
     omega (arith, first, more)
 
 -- it is one of them, or the last
-Placed : List Instr → ℕ → Instr → ℕ → Instr → Type 0
+abbrev Placed : List Instr → ℕ → Instr → ℕ → Instr → Type 0
 Placed code base end p i = ((j : ℕ) × (p ≡ base + j) × (slice_get code j ≡ Some i)) ⊎ ((p ≡ base + length code) × (i ≡ end))
 
 same-some : {x y : Instr} → Some x ≡ Some y → x ≡ y
@@ -174,8 +174,8 @@ module _ (l : coded.Actor) where
         by (inl h) = calls-below callable i r (stay h.0 i h.2).calls is
         by (inr h) = absurd (let no : called end ≡ Some r = ap called (sym h.1) ∙ is in let none = is-last.calls in cc)
 
-    body-stands : (firing : Bool) (needs : List ℕ) (ends : Last) (top : ℕ) → BodyMay l firing needs ends base → CallsBelow instrs base (stop_of instrs base) top → BodyStands l limit firing needs ends top base
-    body-stands firing needs ends top may calls = record {
+    body-stands : (firing : Bool) (needs : List ℕ) (ends : Last) (top : ℕ) → MayStand l firing needs ends end → BodyMay l firing needs ends base → CallsBelow instrs base (stop_of instrs base) top → BodyStands l limit firing needs ends top base
+    body-stands firing needs ends top ended may calls = record {
       some = let s = stop in omega (arith, s);
       each = λ p from to i e. one p from to i e (placed p i from to e);
     }
@@ -186,16 +186,16 @@ module _ (l : coded.Actor) where
             let within = slice_get_within code h.0 i h.2 in
             let at = h.1 in
             record {
-              may = may p i from to e;
+              may = may p i from (let s = stop in omega (arith, s, at, within)) e;
               reads = λ c is. reads-below limit i c here.cells is;
               next = λ on. let s = stop in omega (arith, s, at, within);
-              jump = λ t is. let to = here.inside t is in (to.0, let s = stop in let up = to.1 in omega (arith, s, up));
+              jump = λ t is. let aim = here.inside t is in (aim.0, let s = stop in let up = aim.1 in omega (arith, s, up));
               calls = λ r is. calls p i r from to e is;
             }
         one p from to i e (inr h) =
             let same = h.1 in
             record {
-              may = may p i from to e;
+              may = subst (MayStand l firing needs ends) (sym same) ended;
               reads = λ c is. absurd (let no : reads end c ≡ true = ap (λ x. reads x c) (sym same) ∙ is in let none = is-last.reads c in cc);
               next = λ on. absurd (let no : goes_on end ≡ true = ap goes_on (sym same) ∙ on in let none = is-last.stops in cc);
               jump = λ t is. absurd (let no : target end ≡ Some t = ap target (sym same) ∙ is in let none = is-last.aims in cc);
@@ -210,22 +210,31 @@ module _ (l : coded.Actor) where
       record {
         routine = h.routine;
         there = h.there;
-        body = body-stands limit r h.routine.start h.rest op.Return return-last h.stands stay firing [] last.Return r (may h.routine h.there)
+        body = body-stands limit r h.routine.start h.rest op.Return return-last h.stands stay firing [] last.Return r refl (may h.routine h.there)
             (calls-stay limit r h.routine.start h.rest op.Return return-last h.stands stay);
       }
 
   -- ---- the greatest routine that is called
 
+  -- none is called, or n is one more than the number of one that is
+  abbrev AtCall : ℕ → ℕ → ℕ → Type 0
+  AtCall begin to n = (n ≡ 0)
+      ⊎ ((p : ℕ) × (i : Instr) × (r : ℕ) × (begin ≤ p) × (p < to) × (slice_get instrs p ≡ Some i) × (called i ≡ Some r) × (n ≡ r + 1))
+
   -- n is above all calls up to a place, and no greater than it must be
   record IsTop (begin to n : ℕ) : Type 0 where
     above : CallsBelow instrs begin to n
-    least : (n ≡ 0) ⊎ ((p : ℕ) × (i : Instr) × (r : ℕ) × (begin ≤ p) × (p < to) × (slice_get instrs p ≡ Some i) × (called i ≡ Some r) × (n ≡ r + 1))
+    least : AtCall begin to n
 
-  Top : ℕ → ℕ → Type 0
+  abbrev Top : ℕ → ℕ → Type 0
   Top begin to = (n : ℕ) × IsTop begin to n
 
+  later-call : (begin to n : ℕ) → AtCall begin to n → AtCall begin (to + 1) n
+  later-call begin to n (inl e) = inl e
+  later-call begin to n (inr w) = inr (w.0, w.1, w.2, w.3, (let low = w.4 in omega (arith, low)), w.5, w.6, w.7)
+
   wider : (begin to n : ℕ) → IsTop begin to n → CallsBelow instrs begin (to + 1) n → IsTop begin (to + 1) n
-  wider begin to n h above = record { above = above; least = ⊎_elim (λ e. inl e) (λ w. inr (w.0, w.1, w.2, w.3, (let low = w.4 in omega (arith, low)), w.5, w.6, w.7)) h.least }
+  wider begin to n h above = record { above = above; least = later-call begin to n h.least }
 
   top-more : (begin to : ℕ) → begin ≤ to → Top begin to → Top begin (to + 1)
   top-more begin to from (n, h) = by-instr (slice_get instrs to) refl
@@ -287,9 +296,9 @@ module _ (l : coded.Actor) where
 
   -- ---- guards and firings
 
-  entry-stands : (firing : Bool) (needs : List ℕ) (entry limit low : ℕ) (end : Instr) → IsLast end → IsClearedBody l.code l.kept entry limit end → low ≤ limit
+  entry-stands : (firing : Bool) (needs : List ℕ) (entry limit low : ℕ) (end : Instr) → IsLast end → MayStand l firing needs (last_of firing) end → IsClearedBody l.code l.kept entry limit end → low ≤ limit
       → ((r : ℕ) → r < length l.code.routines → IsRoutineBody l.code low r) → EntryMay l firing needs entry → EntryStands l firing needs entry limit
-  entry-stands firing needs entry limit low end is-last h le routines may =
+  entry-stands firing needs entry limit low end is-last ended h le routines may =
       let code = op.Zero l.kept h.count ∷ h.rest in
       let all = length l.code.routines in
       let s : stop_of instrs entry ≡ entry + length code + 1 = stop limit all entry code end is-last h.stands h.stay in
@@ -298,17 +307,16 @@ module _ (l : coded.Actor) where
       record {
         clears = record { count = h.count; there = h.stands.0; up_to = h.limit_is };
         callable = top.0;
-        routines = λ q less. by q less top.1.least within refl;
-        body = body-stands limit all entry code end is-last h.stands h.stay firing needs (last_of firing) top.0 may.body top.1.above;
+        routines = λ q less. by top.0 (stop_of instrs entry) q less top.1.least within refl;
+        body = body-stands limit all entry code end is-last h.stands h.stay firing needs (last_of firing) top.0 ended may.body top.1.above;
       }
     where
-      by : {n to : ℕ} (q : ℕ) → q < n → (n ≡ 0) ⊎ ((p : ℕ) × (i : Instr) × (r : ℕ) × (entry ≤ p) × (p < to) × (slice_get instrs p ≡ Some i) × (called i ≡ Some r) × (n ≡ r + 1))
-          → CallsBelow instrs entry to (length l.code.routines) → (to ≡ stop_of instrs entry) → RoutineStands l limit firing q
-      by q less (inl e) within same = absurd (omega (arith, less, e))
-      by q less (inr w) within same =
+      by : (n to q : ℕ) → q < n → AtCall entry to n → CallsBelow instrs entry to (length l.code.routines) → to ≡ stop_of instrs entry → RoutineStands l limit firing q
+      by n to q less (inl e) within same = absurd (omega (arith, less, e))
+      by n to q less (inr w) within same =
           let is = w.7 in
-          let called-there : w.2 < length l.code.routines = within w.0 w.1 w.2 w.3 w.4 w.5 w.6 in
-          routine-stands low limit firing q le (routines q (omega (arith, less, is, called-there)))
+          let there = within w.0 w.1 w.2 w.3 w.4 w.5 w.6 in
+          routine-stands low limit firing q le (routines q (omega (arith, less, is, there)))
           (may.calls w.0 w.1 w.2 q w.3 (subst (λ k. w.0 < k) same w.4) w.5 w.6 (omega (arith, less, is)))
 
 -- ---- whole actors
@@ -348,12 +356,12 @@ module _ (actor : Actor) (l : coded.Actor) (draft : Draft) (code : IsCodeOf draf
             let g = c.guards k entry at in
             record {
               limit = g.0;
-              stands = entry-stands l false one.needs.items entry g.0 low op.Answer answer-last (body-at entry g.0 op.Answer g.1) g.1.below routines
+              stands = entry-stands l false one.needs.items entry g.0 low op.Answer answer-last refl (body-at entry g.0 op.Answer g.1) g.1.below routines
                   (all-at (EntryMay l false one.needs.items) one.guards.items k entry may.guards at);
             });
         firing = record {
           limit = c.firing.limit;
-          stands = entry-stands l true one.needs.items one.fire c.firing.limit low op.Done done-last (body-at one.fire c.firing.limit op.Done c.firing.from) c.firing.from.below routines may.firing;
+          stands = entry-stands l true one.needs.items one.fire c.firing.limit low op.Done done-last refl (body-at one.fire c.firing.limit op.Done c.firing.from) c.firing.from.below routines may.firing;
           sends = sends-below a one e c;
         };
       }

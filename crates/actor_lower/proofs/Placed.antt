@@ -60,7 +60,7 @@ sends-are b a n act same low is outs firsts cells sends ports o f p e other at =
 
 -- ---- one action more
 
-last-or-before : {A : Type 0} (xs : List A) (y : A) (k : ℕ) (x : A) → slice_get (xs ++ y ∷ []) k ≡ Some x → (slice_get xs k ≡ Some x) ⊎ ((k ≡ length xs) × (y ≡ x))
+pub last-or-before : {A : Type 0} (xs : List A) (y : A) (k : ℕ) (x : A) → slice_get (xs ++ y ∷ []) k ≡ Some x → (slice_get xs k ≡ Some x) ⊎ ((k ≡ length xs) × (y ≡ x))
 last-or-before [] y zero x e = inr (refl, cc)
 last-or-before [] y (suc k) x e = absurd (cc)
 last-or-before (z ∷ xs) y zero x e = inl e

@@ -1,6 +1,6 @@
 -- Code of which each instruction may stand where it does.
 -- Trusted: part of what a promise means.
-use Rattle.std.specs.Prelude.{◌≡◌, ℕ, ◌<◌, ◌≤◌, Bool, true, false, List, [], Some, All, slice_get}
+use Rattle.std.specs.Prelude.{◌≡◌, ℕ, ◌+◌, ◌<◌, ◌≤◌, Bool, true, false, List, [], Some, All, slice_get}
 use Rattle.code_ir.specs.declared.instr.Instr.{Instr}
 use Rattle.code_ir.specs.declared.instr.Routine.{Routine}
 use Rattle.lowered_actor.specs.Actor as coded
@@ -10,11 +10,11 @@ use Rattle.kept_facts.specs.Clearing.{stop_of}
 use Rattle.kept_facts.specs.Fitting.{MayStand, last_of}
 use Rattle.kept_facts.specs.Rows.{called}
 
--- each instruction of the body that begins at a place may stand in it: it writes no cell that a firing, or a guard, may
--- not change, reads no token behind those that are taken, and ends the body as it must
+-- each instruction of the body that begins at a place, but the one that ends it, may stand in it: it writes no cell that
+-- a firing, or a guard, may not change, and reads no token behind those that are taken
 abbrev pub BodyMay : coded.Actor → Bool → List ℕ → Last → ℕ → Type 0
 BodyMay actor firing needs end begin = (p : ℕ) (instr : Instr) → begin ≤ p
-    → p < stop_of actor.code.instrs begin → slice_get actor.code.instrs p ≡ Some instr
+    → p + 1 < stop_of actor.code.instrs begin → slice_get actor.code.instrs p ≡ Some instr
     → MayStand actor firing needs end instr
 
 -- .. of the body of a routine, which takes no tokens

@@ -37,9 +37,8 @@ use std::alloc::Global;
 /// [`lower_guards`](action_lower::lower_guards) and [`lower_firing`](action_lower::lower_firing) say. A guard calls each
 /// function of which no part is left out, and a firing such a procedure too: a call of another one is such a part.
 /// `NotSeen` if code was made of all parts, but an instruction of a guard or a firing, or of a routine that it may call,
-/// may not stand there: it writes a state cell that a firing, or a guard, may not change, reads a token behind those that
-/// the action takes, or ends the body in another way. So it never comes if there are no actions. The code is always
-/// admitted.
+/// may not stand there: it writes a state cell that a firing, or a guard, may not change, or reads a token behind those
+/// that the action takes. So it never comes if there are no actions. The code is always admitted.
 pub fn lower(alloc: Global, b: &Bound) -> Result<Lowered, ActorFault>
     requires sound { IsSound (actor_of b.now) }
     ensures stands_for { IfOk result (StandsForActor (actor_of b.now)) }

@@ -12,7 +12,7 @@ clear_at-requires-clause-inside c =
     let first = ap length c.in_ok-put.ensures.added.is ∙ length-append c.args.draft.now.instrs.items (op.Zero 0 0 ∷ []) in
     let one = c.in_ok-put_plain.ensures.code in
     let second = ap length one.is ∙ length-append c.put.new.draft.instrs.items one.code in
-    let at = c.len.ensures in
+    let at = c.len-place.ensures in
     omega (arith, at, first, second)
 
 pub clear_at-requires-clause-cells : goal.clear_at-requires-clause-cells
@@ -24,6 +24,6 @@ clear_at-requires-clause-cells c =
 
 pub returns-clause-code : goal.returns-clause-code
 returns-clause-code c =
-    let at : c.len.result ≡ length c.args.draft.now.instrs.items = let e = c.len.ensures in omega (arith, e) in
-    cleared-guard (functions_view c.args.callees.now) (names_view c.args.names.now) (expr_tree c.args.guard.now) c.args.kept c.len.result c.args.draft.now c.put.new.draft c.put_plain.new.draft c.clear_at.new.draft
+    let at : c.len-place.result ≡ length c.args.draft.now.instrs.items = let e = c.len-place.ensures in omega (arith, e) in
+    cleared-guard (functions_view c.args.callees.now) (names_view c.args.names.now) (expr_tree c.args.guard.now) c.args.kept c.len-place.result c.args.draft.now c.put.new.draft c.put_plain.new.draft c.clear_at.new.draft
     c.requires.kept at c.in_ok-put.ensures.added c.in_ok-put_plain.ensures.code c.clear_at.ensures.clears c.clear_at.ensures.routines c.clear_at.ensures.cells
