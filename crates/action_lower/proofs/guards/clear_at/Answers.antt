@@ -1,7 +1,7 @@
 use Rattle.std.proofs.Common.{◌-◌, ◌∙◌, ap, set, sym}
 use Rattle.std.proofs.lemmas.List.{set_at}
 use Rattle.code_ir.specs.declared.instr.Instr.TheVariants as op
-use Rattle.actor_lower.proofs.firings.clear_at.Goals as goal
+use Rattle.action_lower.proofs.guards.clear_at.Goals as goal
 
 pub returns-clause-clears : goal.returns-clause-clears
 returns-clause-clears c = λ before rest i is at.
