@@ -31,7 +31,7 @@ pub record FunsSame (P : List ℕ → Type 0) (a b : List Fun) : Type 0 where
   pub named : (name : List ℕ) → P name → fun_named name a ≡ fun_named name b
   pub given : (globals : List Var) → CallsSame P (calls_of a) (calls_of b) globals
 
-counters-on : (gens : Tree) (a : List Fun) (names : Names) → with_counters gens (on a names) ≡ on a (with_counters gens names)
+pub counters-on : (gens : Tree) (a : List Fun) (names : Names) → with_counters gens (on a names) ≡ on a (with_counters gens names)
 counters-on (tree.cons (tree.gen shape (tree.ident name place) from to at) gens) a names = counters-on gens a (with_known (counter name) names)
 counters-on other a names = refl
 

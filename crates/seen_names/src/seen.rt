@@ -1,15 +1,17 @@
 //! Names with all functions that are seen over them.
 
-ghost use Rattle.std.specs.Prelude.{◌≡◌, ◌++◌, [], IfOk, OnOk, false, map, true};
+ghost use Rattle.std.specs.Prelude.{◌≡◌, ◌++◌, [], IfOk, OnOk, false, length, map, true};
 ghost use Rattle.cal_ast.specs.View.{function_tree};
 ghost use Rattle.cal_check.specs.Actors.{at_rest};
-ghost use Rattle.cal_check.specs.Routines.{fun_judged, funs_over, with_fun};
+ghost use Rattle.cal_check.specs.Routines.{fun_judged, funs_after, funs_over, with_fun};
+ghost use Rattle.cal_model.specs.Kinding.{Names};
 ghost use Rattle.cal_check.specs.Variables.{seen};
 ghost use Rattle.const_eval.specs.Constants.{has_fun};
 ghost use Rattle.const_eval.specs.Counting.{names_view};
 ghost use Rattle.const_eval.specs.Held.{globals_of, held, last_first, names_in};
 ghost use Rattle.seen_names.specs.Known.{all_known, fun_decls, known_at, names_differ};
 
+use crate::bounds::some_calls;
 use crate::declared::DeclaredFun;
 use crate::known::{KnownName, names_without};
 use cal_model::types_are_kept;
@@ -54,7 +56,20 @@ fn round(
     Ok(next)
 }
 
-/// The names with all functions. A head may call functions in its sizes, so there are as many rounds as functions.
+/// How many rounds find all functions: one, if no size and no bound in them calls a function, and else as many as there are
+/// functions.
+#[tactic(auto, using(crate::proofs::Bounds::one_round))]
+fn rounds_needed(funs: &[DeclaredFun]) -> usize
+    ensures { (names : Names) → funs_after result (fun_decls funs.now) names
+        ≡ funs_after (length funs.now) (fun_decls funs.now) names }
+{
+    if some_calls(funs) || funs.is_empty() {
+        return funs.len();
+    }
+    1
+}
+
+/// The names with all functions. A head may call functions in its sizes, so there may be as many rounds as functions.
 fn with_funs(
     alloc: Global,
     at_rest: bool,
@@ -66,8 +81,9 @@ fn with_funs(
         ≡ seen (fun_decls funs.now) (last_first (known_at at_rest) known.now [])) }
 {
     let mut env = names_without(alloc, at_rest, known)?;
+    let needed = rounds_needed(funs);
     let mut rounds = 0usize;
-    'rounds: while rounds < funs.len() {
+    'rounds: while rounds < needed {
         env = round(alloc, at_rest, known, funs, &env)?;
         rounds += 1;
     }
