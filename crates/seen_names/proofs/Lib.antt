@@ -3,4 +3,4 @@ mod Rounds
 mod SameCalls
 mod SameKinds
 mod Callless
-mod Bounds
+mod OneRound

@@ -1,10 +1,11 @@
 -- What must be constant in a function: the sizes of types, and the bounds of generators. One round finds all functions if
 -- none of these calls one.
 -- Not trusted: no promise is read with it.
-use Rattle.std.specs.Prelude.{Bool, true, false, ◌||◌, List, [], ◌∷◌}
+use Rattle.std.specs.Prelude.{◌≡◌, ℕ, Bool, true, false, ◌||◌, List, [], ◌∷◌, length}
 use Rattle.cal_ast.specs.Tree as tree
 use Rattle.cal_ast.specs.Tree.{Tree}
-use Rattle.cal_check.specs.Routines.{FunDecl}
+use Rattle.cal_model.specs.Kinding.{Names}
+use Rattle.cal_check.specs.Routines.{FunDecl, funs_after}
 use Rattle.seen_names.specs.Calls.{calls_any}
 
 -- what must be constant in an expression calls a function; what is none counts as if it did
@@ -49,3 +50,7 @@ constants_call other = true
 abbrev pub some_calls : List FunDecl → Bool
 some_calls [] = false
 some_calls (f ∷ fs) = constants_call f.decl || some_calls fs
+
+-- so many rounds find all functions
+abbrev pub AreEnough : ℕ → List FunDecl → Type 0
+AreEnough n fs = (names : Names) → funs_after n fs names ≡ funs_after (length fs) fs names

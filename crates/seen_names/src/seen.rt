@@ -1,14 +1,14 @@
 //! Names with all functions that are seen over them.
 
-ghost use Rattle.std.specs.Prelude.{◌≡◌, ◌++◌, [], IfOk, OnOk, false, length, map, true};
+ghost use Rattle.std.specs.Prelude.{◌≡◌, ◌++◌, [], IfOk, OnOk, false, map, true};
 ghost use Rattle.cal_ast.specs.View.{function_tree};
 ghost use Rattle.cal_check.specs.Actors.{at_rest};
-ghost use Rattle.cal_check.specs.Routines.{fun_judged, funs_after, funs_over, with_fun};
-ghost use Rattle.cal_model.specs.Kinding.{Names};
+ghost use Rattle.cal_check.specs.Routines.{fun_judged, funs_over, with_fun};
 ghost use Rattle.cal_check.specs.Variables.{seen};
 ghost use Rattle.const_eval.specs.Constants.{has_fun};
 ghost use Rattle.const_eval.specs.Counting.{names_view};
 ghost use Rattle.const_eval.specs.Held.{globals_of, held, last_first, names_in};
+ghost use Rattle.seen_names.specs.Bounds.{AreEnough};
 ghost use Rattle.seen_names.specs.Known.{all_known, fun_decls, known_at, names_differ};
 
 use crate::bounds::some_calls;
@@ -58,10 +58,9 @@ fn round(
 
 /// How many rounds find all functions: one, if no size and no bound in them calls a function, and else as many as there are
 /// functions.
-#[tactic(auto, using(crate::proofs::Bounds::one_round))]
+#[tactic(auto, using(crate::proofs::OneRound::all_rounds, crate::proofs::OneRound::one_round))]
 fn rounds_needed(funs: &[DeclaredFun]) -> usize
-    ensures { (names : Names) → funs_after result (fun_decls funs.now) names
-        ≡ funs_after (length funs.now) (fun_decls funs.now) names }
+    ensures { AreEnough result (fun_decls funs.now) }
 {
     if some_calls(funs) || funs.is_empty() {
         return funs.len();

@@ -12,9 +12,10 @@ use Rattle.cal_model.specs.Value.{Shape}
 use Rattle.cal_check.specs.Routines.{FunDecl, Head, formal_judged, formal_of, formals_judged, fun_if, fun_judged, fun_of, funs_after, funs_over, head_judged, local_of, locals_of, result_judged, shape_of, single, single_type, start_of, with_fun}
 use Rattle.cal_check.specs.Statements.{behind, names_behind, type_of_var}
 use Rattle.cal_check.specs.Written.{behind_vars, by_number, constant_written, gens_written, with_inner, written}
-use Rattle.seen_names.specs.Bounds.{bounds_call, constants_call, formals_call, some_calls, vars_call}
+use Rattle.std.proofs.lemmas.List.{length-map}
+use Rattle.seen_names.specs.Bounds.{AreEnough, bounds_call, constants_call, formals_call, some_calls, vars_call}
 use Rattle.seen_names.specs.Calls.{calls_any}
-use Rattle.seen_names.specs.Known.{fun_decls}
+use Rattle.seen_names.specs.Known.{fun_decl, fun_decls}
 use Rattle.seen_names.specs.declared.declared.DeclaredFun.{DeclaredFun}
 use Rattle.seen_names.proofs.Callless.{Never, any_same, none_called, or_left, or_right}
 use Rattle.seen_names.proofs.SameKinds.{and-same, counters-on, kind-same, number-same, on, type-same}
@@ -257,7 +258,9 @@ module _ (a b : List Fun) where
 after_one : (fs : List FunDecl) (k : ℕ) (names : Names) → some_calls fs ≡ false → funs_after 1 fs names ≡ funs_after (suc k) fs names
 after_one fs k names h = over_same [] (funs_after k fs names) fs names h
 
-pub one_round : (funs : List DeclaredFun) (names : Names) → some_calls (fun_decls funs) ≡ false → (length funs ≡ 0 → ⊥)
-    → funs_after 1 (fun_decls funs) names ≡ funs_after (length funs) (fun_decls funs) names
-one_round [] names h k = absurd (k refl)
-one_round (f ∷ funs) names h k = after_one (fun_decls (f ∷ funs)) (length funs) names h
+pub one_round : (funs : List DeclaredFun) → some_calls (fun_decls funs) ≡ false → (length funs ≡ 0 → ⊥) → AreEnough 1 (fun_decls funs)
+one_round [] h k = absurd (k refl)
+one_round (f ∷ funs) h k = λ names. after_one (fun_decls (f ∷ funs)) (length (fun_decls funs)) names h
+
+pub all_rounds : (funs : List DeclaredFun) → AreEnough (length funs) (fun_decls funs)
+all_rounds funs = λ names. ap (λ n. funs_after n (fun_decls funs) names) (sym (length-map funs fun_decl))
