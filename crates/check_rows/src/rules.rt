@@ -141,7 +141,10 @@ fn refuses<R: Abort>(rt: &R, alloc: Global, parts: &str, refused: &str) -> Resul
     report.push_str(refused)?;
     report.push_str("\n")?;
     assert!(rt; status.code() == 4, "{refused}");
-    assert!(rt; drains.held(REPORT_CHANNEL) == report.as_bytes(), "{refused}");
+    assert!(rt;
+        drains.held(REPORT_CHANNEL) == report.as_bytes(),
+        "{refused}"
+    );
     Ok(())
 }
 
