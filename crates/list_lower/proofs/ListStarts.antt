@@ -19,7 +19,6 @@ use Rattle.code_ir.specs.declared.instr.Instr.TheVariants as op
 use Rattle.code_ir.specs.Code.{Code}
 use Rattle.code_ir.specs.Effect.{Breaks, Leaves, copied, effect, zeroed, stored as in_cell}
 use Rattle.code_ir.specs.Running.{State, Reaches}
-use Rattle.expr_lower.specs.declared.names.Seat.TheVariants.{Cell}
 use Rattle.expr_lower.specs.Callees.{Function}
 use Rattle.expr_lower.specs.Calling.{HasRoutines, Serves}
 use Rattle.expr_lower.specs.Flat.{flat, flat_all}

@@ -1,5 +1,5 @@
 -- The code of the start of a list that was added to a draft, part by part.
-use Rattle.std.proofs.Common.{◌≡◌, ℕ, ◌+◌, List, [], ◌∷◌, ◌++◌, length, sym, ap, ◌∙◌, subst, Some, map, Option, None, refl}
+use Rattle.std.proofs.Common.{◌≡◌, ℕ, ◌+◌, List, [], ◌∷◌, ◌++◌, length, sym, ap, ◌∙◌, subst, Some, Option, None}
 use Rattle.rvc_base.specs.declared.scalar.Scalar.{Scalar}
 use Rattle.cal_ast.specs.View.{optional}
 use Rattle.cal_model.specs.Actor.{Local}

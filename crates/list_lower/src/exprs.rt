@@ -21,8 +21,8 @@ use crate::truths::is_truth;
 use cal_ast::{BinOp, Expr, ExprForm, PrefixOp};
 use code_ir::Instr;
 use expr_lower::{
-    Callee, Draft, LowerFault, Named, Scope, binary_instr, deep_item_named, function_for, item_instr,
-    link, list_named, negative, next_place, number, prefix_instr, put, put_call,
+    Callee, Draft, LowerFault, Named, Scope, binary_instr, deep_item_named, function_for,
+    item_instr, link, list_named, negative, next_place, number, prefix_instr, put, put_call,
     put_const, rows_named, truth, variable, whole_offset,
 };
 

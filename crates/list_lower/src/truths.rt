@@ -114,14 +114,7 @@ fn prefix_gives(scope: &Scope, op: PrefixOp, of: &Expr, depth: u32, sort: Sort) 
 
 /// Whether an operator between two operands gives such values.
 #[cycle(gives)]
-fn binary_gives(
-    scope: &Scope,
-    op: BinOp,
-    left: &Expr,
-    right: &Expr,
-    depth: u32,
-    sort: Sort,
-) -> bool
+fn binary_gives(scope: &Scope, op: BinOp, left: &Expr, right: &Expr, depth: u32, sort: Sort) -> bool
     ensures { result ≡ gives_at sort depth (called scope.now) (seen scope.now)
         (binary_of op left.now right.now 0) }
 {
@@ -214,14 +207,7 @@ fn under_gens(scope: &Scope, item: &Expr, gens: &[Gen], depth: u32, sort: Sort) 
 
 /// .. and first that of this one, if it counts.
 #[cycle(gives)]
-fn under_gen(
-    scope: &Scope,
-    item: &Expr,
-    first: &Gen,
-    rest: &[Gen],
-    depth: u32,
-    sort: Sort,
-) -> bool
+fn under_gen(scope: &Scope, item: &Expr, first: &Gen, rest: &[Gen], depth: u32, sort: Sort) -> bool
     ensures { result ≡ of_elements sort depth (called scope.now) (seen scope.now)
         (gens_of (first.now ∷ rest.now)) (expr_tree item.now) }
 {

@@ -8,7 +8,7 @@ use Rattle.rvc_base.specs.declared.scalar.Scalar.{Scalar}
 use Rattle.rvc_base.specs.Storing.{conv, IsSize}
 use Rattle.cal_ast.specs.Tree as tree
 use Rattle.cal_ast.specs.Tree.{Tree}
-use Rattle.cal_model.specs.Value.{Single, Many, Value, Num, Truth, Items, Values, Nil, Cons, count, stored, stored_each, HasKind, HaveKind, IsType, kind_of_scalar, kind_of_type, scalars_of_type}
+use Rattle.cal_model.specs.Value.{Single, Many, Value, Items, Values, Nil, Cons, count, stored, stored_each, HasKind, HaveKind, IsType, kind_of_scalar, kind_of_type, scalars_of_type}
 use Rattle.cal_model.specs.Outcome.{Out, and_then}
 use Rattle.cal_model.specs.Env.{Env, assign}
 use Rattle.cal_model.specs.Expression.{eval}

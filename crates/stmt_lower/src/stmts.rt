@@ -31,9 +31,7 @@ use code_ir::Instr;
 use expr_lower::{
     Callee, Draft, Frame, LowerFault, Named, close, link, next_place, put, put_all, take_cell,
 };
-use list_lower::{
-    lower, lower_args, lower_test, shape_meant, single_meant, start, start_list,
-};
+use list_lower::{lower, lower_args, lower_test, shape_meant, single_meant, start, start_list};
 use rvc_base::Scalar;
 
 /// Appends code that executes a statement.
