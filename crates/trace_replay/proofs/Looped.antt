@@ -156,9 +156,9 @@ readers_pulled links readings a b pulls fit = record {
       subst (EndIsTrue reading) (sym (pulls.same_left (feed_of links l) (λ same. no_trace (count_inputs (take l links)) (sym same)))) (fit.same_feeds l reading here);
 }
 
-pub ready_pulled : {X : Type 0} (now next : Between X) (links : List Link) (came grow : ℕ) → next.held ≡ now.held → next.readings ≡ now.readings → next.numbers ≡ now.numbers → next.rested ≡ now.rested
+pub ready_pulled : {X : Type 0} (now next : Between X) (links : List Link) (came grow : ℕ) → next.held ≡ now.held → next.readings ≡ now.readings → next.numbers ≡ now.numbers
     → PullsOnlyAt TRACE_FEED now.feeds next.feeds → CanGoOn now links came grow → CanGoOn next links came grow
-ready_pulled now next links came grow held readings numbers rested pulls ready = record {
+ready_pulled now next links came grow held readings numbers pulls ready = record {
   links_are = ap (λ h. h.links) held ∙ ready.links_are;
   few = ready.few;
   few_held = subst (λ h. HoldFew h.capacities) (sym held) ready.few_held;
@@ -168,5 +168,4 @@ ready_pulled now next links came grow held readings numbers rested pulls ready =
   numbers = subst (FitLinks links) (sym numbers) ready.numbers;
   queues = subst (λ h. CanGrow grow h.cells links) (sym held) ready.queues;
   enough = subst (λ h. HoldEnough links h.capacities) (sym held) ready.enough;
-  rest = λ e. subst IsAtRest (sym held) (ready.rest (sym rested ∙ e));
 }

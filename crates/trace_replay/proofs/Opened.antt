@@ -155,7 +155,7 @@ module _ {C X : Type 0} (cell : C → Cell X) (cells : List C) (wiring : Wiring)
   enough : HoldEnough wiring.links.items replay.state.capacities
   enough l link at = subst (λ cs. link.capacity ≤ slice_index_or cs l 0) (sym opened.capacities) (holds_first wiring.links.items l link at)
 
-  pub ready_to_go : CanGoOn (record { held = seen cell replay.state; readings = replay.readers.items; numbers = replay.numbers; rested = replay.rested; feeds = feeds }) replay.links.items (length replay.came.items) replay.grow
+  pub ready_to_go : CanGoOn (record { held = seen cell replay.state; readings = replay.readers.items; numbers = replay.numbers; feeds = feeds }) replay.links.items (length replay.came.items) replay.grow
   ready_to_go = record {
     links_are = opened.links_held ∙ sym opened.links_are;
     few = subst (λ ls. length ls ≤ max_links) (sym opened.links_are) work.few_links;
@@ -173,7 +173,6 @@ module _ {C X : Type 0} (cell : C → Cell X) (cells : List C) (wiring : Wiring)
         (subst (λ cs. CanGrow replay.grow (map cell cs) wiring.links.items) (sym opened.cells_are)
         (subst (λ g. CanGrow g (map cell cells) wiring.links.items) (sym opened.grow_is) queues));
     enough = subst (λ ls. HoldEnough ls replay.state.capacities) (sym opened.links_are) enough;
-    rest = λ e. absurd (not_both replay.rested opened.rested e);
   }
 
   module _ (t : Trial X) (text : List ℕ) (inputs : List (List ℕ)) (is : IsReplayOf t text inputs (map cell cells) wiring grow names feeds) where
@@ -199,7 +198,7 @@ module _ {C X : Type 0} (cell : C → Cell X) (cells : List C) (wiring : Wiring)
         let low : length (waiting_at (map cell cells) link.to) ≤ link.capacity = (wired_ready.queues l link at).waiting in
         subst (λ f. untaken f ≤ f.capacity) same (omega (arith, low))
 
-    is_at : IsAt t.net inputs (record { held = seen cell replay.state; readings = replay.readers.items; numbers = replay.numbers; rested = replay.rested; feeds = feeds }) t.start t.start
+    is_at : IsAt t.net inputs (record { held = seen cell replay.state; readings = replay.readers.items; numbers = replay.numbers; feeds = feeds }) t.start t.start
     is_at = record {
       stands = record {
         stands = record {
@@ -213,7 +212,6 @@ module _ {C X : Type 0} (cell : C → Cell X) (cells : List C) (wiring : Wiring)
             (are_fed t.net (map cell cells) wiring inputs replay.readers.items feeds is.is_of opened.readers is.told);
       };
       fits = fits;
-      fed = λ e. absurd (not_both replay.rested opened.rested e);
     }
 
     counted : IsCountedTo t.net inputs t.start [] t.start replay.numbers
@@ -230,7 +228,7 @@ module _ {C X : Type 0} (cell : C → Cell X) (cells : List C) (wiring : Wiring)
 
     pub begins : (trace : Trace) (first : Line) → trace.lines.bytes ≡ [] → trace.lines.passed ≡ 0 → trace.count ≡ 0 → trace.grow ≡ grow
         → first ≡ Header replay.count (length replay.links.items) replay.grow
-        → BeginsFirst t text inputs trace (record { held = seen cell replay.state; readings = replay.readers.items; numbers = replay.numbers; rested = replay.rested; feeds = feeds }) replay.grow first names
+        → BeginsFirst t text inputs trace (record { held = seen cell replay.state; readings = replay.readers.items; numbers = replay.numbers; feeds = feeds }) replay.grow first names
     begins trace first no_bytes none_passed none_read grow_is first_is = record {
       head = record {
         grow_is = is.grow_is ∙ sym grow_is;

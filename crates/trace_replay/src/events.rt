@@ -34,7 +34,7 @@ pub(crate) fn read_events<A: Firing, F: Feeds>(
     requires count { replay.old.count ≡ length replay.old.state.cells }
     requires ready { IsReadyToGo A.cell F.feeds replay.old feeds.old }
     requires grow { trace.old.grow ≡ replay.old.grow }
-    requires fresh { replay.old.rested ≡ false }
+    requires noted { length replay.old.noted.items ≡ length replay.old.links.items }
     requires none_fired { replay.old.numbers.firings ≡ 0 }
     requires none_delivered { replay.old.numbers.rounds ≡ 0 }
     ensures ended { IfOk result (λ end. EndsEvents A.cell F.feeds trace.old replay.old feeds.old end
@@ -97,7 +97,7 @@ pub(crate) fn read_trace<A: Firing, F: Feeds>(
     requires count { replay.old.count ≡ length replay.old.state.cells }
     requires ready { IsReadyToGo A.cell F.feeds replay.old feeds.old }
     requires grow { trace.old.grow ≡ replay.old.grow }
-    requires fresh { replay.old.rested ≡ false }
+    requires noted { length replay.old.noted.items ≡ length replay.old.links.items }
     requires none_fired { replay.old.numbers.firings ≡ 0 }
     requires none_delivered { replay.old.numbers.rounds ≡ 0 }
     ensures ended { IfOk result (λ end. EndsTrace A.cell F.feeds first.now names.now trace.old

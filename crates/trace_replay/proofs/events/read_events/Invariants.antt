@@ -20,6 +20,7 @@ invariant-lines g l =
       ready : IsReadyToGo g.A.Firing.cell g.F.Feeds.feeds l.replay l.feeds;
       grow : l.replay.grow ≡ l.initial.replay.grow;
       links : l.replay.links ≡ l.initial.replay.links;
+      noted : length l.replay.noted.items ≡ length l.replay.links.items;
       trace_grow : l.trace.grow ≡ l.replay.grow;
       pulls : OnlyPulls (g.F.Feeds.feeds l.initial.feeds) (g.F.Feeds.feeds l.feeds);
     }

@@ -15,7 +15,7 @@ returns-clause-goes g c =
 
 pub returns-clause-counts : goal.returns-clause-counts
 returns-clause-counts g c =
-    grown_counts c.args.self.now.grow c.args.link c.args.capacity (seen g.A.Firing.cell c.args.self.now.state) c.args.self.now.readers.items c.args.self.now.numbers c.args.self.now.rested (g.F.Feeds.feeds c.args.feeds.now)
+    grown_counts c.args.self.now.grow c.args.link c.args.capacity (seen g.A.Firing.cell c.args.self.now.state) c.args.self.now.readers.items c.args.self.now.numbers (g.F.Feeds.feeds c.args.feeds.now)
 
 pub returns-clause-still_ready : goal.returns-clause-still_ready
 returns-clause-still_ready g c =

@@ -1,0 +1,12 @@
+//! What comes of the growth of a link.
+
+/// What came of a line that says that a link grows.
+#[derive(Clone, Copy, Debug)]
+pub(crate) enum Growth {
+    /// It isn't true.
+    Untrue,
+    /// It is true, and more is to come from outside.
+    Unfed,
+    /// It is true, and the run goes on.
+    Grown,
+}
