@@ -30,7 +30,7 @@ use Rattle.trace_replay.specs.Growing.{IsUnfed}
 use Rattle.trace_replay.specs.Laws.{StartFits}
 use Rattle.trace_replay.specs.Head.{StandsAt}
 use Rattle.trace_replay.specs.Judging.{AtEnd, AtEvents, AtFirst, AtInstance, IsNotRun, Lead, LeadsOn, MayCome, Reached, Trial, after_line, due, first_line, instance_text, is_end, is_of_table}
-use Rattle.trace_replay.specs.Reading.{NamesFeed, NamesTrace, HasReached, IsJudged, IsRead, OnReadFault}
+use Rattle.trace_replay.specs.Reading.{NamesRead, NamesTrace, HasReached, IsJudged, IsRead, OnReadFault}
 use Rattle.trace_text.specs.Text.{line_feed, line_text}
 use Rattle.trace_replay.specs.Scanning.{Scans}
 use Rattle.trace_replay.specs.declared.bytes.TheConstants.{TRACE_FEED}
@@ -340,8 +340,8 @@ fault_over T U (NotRun line why) P Q f h = tt
 fault_over T U (ReadFault feed) P Q f h = f h
 fault_over T U Memory P Q f h = tt
 
--- who names the trace names a feed of the run
-pub names_too : (links : List Link) (fault : ReplayFault) → NamesTrace fault → NamesFeed links fault
-names_too links (NotRun line why) named = tt
-names_too links (ReadFault feed) named = inl named
-names_too links Memory named = tt
+-- who names the trace names a feed that is read
+pub names_too : (links : List Link) (read : List Bool) (fault : ReplayFault) → NamesTrace fault → NamesRead links read fault
+names_too links read (NotRun line why) named = tt
+names_too links read (ReadFault feed) named = inl named
+names_too links read Memory named = tt

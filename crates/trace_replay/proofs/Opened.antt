@@ -1,7 +1,9 @@
 -- A network at the start of its trace: it stands where the run begins, and its readers read its feeds.
-use Rattle.std.proofs.Common.{◌≡◌, ℕ, ◌<◌, ◌≤◌, Bool, true, false, List, [], length, map, refl, sym, ap, subst, ◌∙◌, arith}
+use Rattle.std.proofs.Common.{◌≡◌, ℕ, ◌<◌, ◌≤◌, Bool, true, false, List, [], length, map, refl, sym, ap, subst, ◌∙◌, ⊎_elim, inl, inr, arith}
 use Rattle.std.proofs.lemmas.List.{length-map, length-replicate}
-use Rattle.std.specs.Prelude.{Option, Some, slice_get, slice_index_or}
+use Rattle.std.specs.Prelude.{Option, None, Some, is_some, slice_get, slice_index_or}
+use Rattle.std.specs.Option.{option_map}
+use Rattle.std.proofs.lemmas.Option.{slice_get-map}
 use Rattle.rvc_io.specs.Feeds.{Inputs}
 use Rattle.port_files.specs.Coming.{Reading, coming, coming_on}
 use Rattle.trace_text.specs.declared.line.Line.{Line}
@@ -9,6 +11,7 @@ use Rattle.trace_text.specs.declared.line.Line.TheVariants.{Header}
 use Rattle.net_model.specs.declared.wiring.End.{End}
 use Rattle.net_model.specs.declared.wiring.End.TheVariants.{Leaf as AtLeaf, Net as AtNet}
 use Rattle.net_model.specs.declared.wiring.Link.{Link}
+use Rattle.net_model.specs.declared.wiring.Port.{Port}
 use Rattle.net_model.specs.declared.wiring.Wiring.{Wiring}
 use Rattle.net_model.specs.Counted.{rest_at}
 use Rattle.net_model.specs.Limits.{max_instances, max_links}
@@ -31,12 +34,16 @@ use Rattle.trace_replay.specs.Between.{CanGoOn, IsAt}
 use Rattle.trace_replay.specs.Counting.{FitLinks, IsCountedTo}
 use Rattle.trace_replay.specs.Ending.{CanGrow, HoldEnough}
 use Rattle.trace_replay.specs.Events.{BeginsFirst}
+use Rattle.trace_replay.specs.Feeding.{IsFeedOf, IsFeedRead}
 use Rattle.trace_replay.specs.Judging.{AtFirst, Trial}
 use Rattle.trace_replay.specs.Opening.{IsOpenedOn}
+use Rattle.trace_replay.specs.Reading.{NamesFeed, NamesRead}
 use Rattle.trace_replay.specs.Replaying.{CanReplay, HaveInputPorts, IsEndTold, IsInputTold, IsReadyAs, IsReplayOf}
 use Rattle.trace_replay.specs.declared.between.Replay.{Replay}
 use Rattle.trace_replay.specs.declared.bytes.TheConstants.{TRACE_FEED}
 use Rattle.trace_replay.specs.declared.reading.Trace.{Trace}
+use Rattle.trace_replay.specs.declared.why.ReplayFault.{ReplayFault}
+use Rattle.trace_replay.specs.declared.why.ReplayFault.TheVariants.{NotRun, ReadFault, Memory}
 use Rattle.trace_replay.proofs.Chained.{There, there}
 use Rattle.trace_replay.proofs.Counted.{none_counted}
 use Rattle.trace_replay.proofs.Reached.{reached_start}
@@ -68,6 +75,23 @@ readers_fit wiring readings feeds are are_open = record {
       let on : There wiring.links.items l = there readings wiring.links.items l (Some reading) (sym are.count) here in
       absurd (not_both reading.ended (are.each l on.item (Some reading) on.at here).3 ended);
 }
+
+-- the feed of a link that has a reader is that of an input that has one
+pub fault_named : (ports : List Port) (opened : List Bool) (links : List Link) (readings : List (Option Reading)) (fault : ReplayFault) → AreReadersOf ports opened links readings
+    → NamesRead links (map is_some readings) fault → NamesFeed links opened fault
+fault_named ports opened links readings (NotRun line why) are named = tt
+fault_named ports opened links readings (ReadFault feed) are named = ⊎_elim (λ trace. inl trace) (λ read. inr (fed read)) named
+  where
+    of_reader : (o : Option (Option Reading)) → option_map is_some o ≡ Some true → (reading : Reading) × (o ≡ Some (Some reading))
+    of_reader None e = cc
+    of_reader (Some None) e = cc
+    of_reader (Some (Some reading)) e = (reading, refl)
+
+    fed : IsFeedRead links (map is_some readings) feed → IsFeedOf links opened feed
+    fed (l, link, at, some, is) =
+        let reader = of_reader (slice_get readings l) (sym (slice_get-map is_some readings l) ∙ some) in
+        (l, link, at, (are.each l link (Some reader.0) at reader.1).0, is)
+fault_named ports opened links readings Memory are named = tt
 
 -- What is to come.
 

@@ -1,6 +1,8 @@
 -- What a line does to a network between two lines.
 use Rattle.std.proofs.Common.{◌≡◌, ℕ, ◌≤◌, Bool, true, false, List, length, refl, sym, ap, subst, ◌∙◌, inl, ⊎_elim, arith}
-use Rattle.std.specs.Prelude.{Option, None, Some, slice_get, slice_set}
+use Rattle.std.specs.Prelude.{Option, None, Some, is_some, map, slice_get, slice_set}
+use Rattle.std.specs.Option.{option_map}
+use Rattle.std.proofs.lemmas.Option.{slice_get-map}
 use Rattle.rvc_base.specs.declared.trap.Trap.{Trap as TrapName}
 use Rattle.rvc_io.specs.Feeds.{Inputs}
 use Rattle.port_files.specs.Coming.{Reading}
@@ -32,7 +34,7 @@ use Rattle.network_runner.proofs.Numbers.{arrived_long, rests_long, sent_long}
 use Rattle.trace_replay.specs.Between.{CanGoOn, CountsBy, CountsEnd, EndsBy, FailsBy, GoesBy, IsAt, IfFails, OnEnds, Steps, is_still_end}
 use Rattle.trace_replay.specs.Counting.{AreFewCounted, CatchesUp, CountsDelivery, CountsFiring, FitLinks}
 use Rattle.trace_replay.specs.Ending.{EndsNotSo, EndsSo, HoldEnough, IsTrueEnd}
-use Rattle.trace_replay.specs.Feeding.{IsFeedOf, StandsFed}
+use Rattle.trace_replay.specs.Feeding.{IsFeedRead, StandsFed}
 use Rattle.trace_replay.specs.Growing.{GrowsBy, StillFits}
 use Rattle.trace_replay.specs.declared.growth.Growth.TheVariants.{Untrue, Unfed, Grown}
 use Rattle.trace_replay.specs.Judging.{EventFails, TrapComes, Trial, is_end}
@@ -201,10 +203,11 @@ delivered_ready grow links came came_new held new readings readings_new numbers 
 }
 
 -- the feed of a link that has a reader
-pub feed_named : (links : List Link) (readings : List (Option Reading)) (feeds : Inputs) (feed : ℕ) → ReadersFit links readings feeds → IsFeedOfReader links readings feed → IsFeedOf links feed
-feed_named links readings feeds feed fit named =
+pub feed_named : (links : List Link) (old readings : List (Option Reading)) (feeds : Inputs) (feed : ℕ) → ReadersFit links readings feeds → map is_some readings ≡ map is_some old
+    → IsFeedOfReader links readings feed → IsFeedRead links (map is_some old) feed
+feed_named links old readings feeds feed fit same named =
     let at : There links named.0 = there readings links named.0 (Some named.1) (sym fit.count) named.2 in
-    (named.0, at.item, at.at, fit.inputs named.0 at.item named.1 at.at named.2, named.3)
+    (named.0, at.item, at.at, ap (λ ms. slice_get ms named.0) (sym same) ∙ (slice_get-map is_some readings named.0 ∙ ap (option_map is_some) named.2), named.3)
 
 -- End lines.
 

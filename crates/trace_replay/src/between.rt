@@ -1,13 +1,13 @@
 //! A network between two lines of its trace.
 
-ghost use Rattle.std.specs.Prelude.{◌≡◌, ◌+◌, ◌≤◌, true, false, IfOk, length, map};
+ghost use Rattle.std.specs.Prelude.{◌≡◌, ◌+◌, ◌≤◌, true, false, IfOk, is_some, length, map};
 ghost use Rattle.rvc_io.specs.Feeds.{ReadFails};
 ghost use Rattle.net_model.specs.Limits.{max_links};
 ghost use Rattle.trace_text.specs.declared.line.Line.TheVariants as line;
 ghost use Rattle.trace_replay.specs.Between.{EndCounts, FailsBy, IfFails, IsReadyToGo, LineCounts, LineEnds, LineFails, LineGoes, OnEnds, OnFeedFails, OnGoes, is_still_end, stand, IfFeedFails};
 ghost use Rattle.trace_replay.specs.declared.came.Came.TheVariants as came;
 ghost use Rattle.trace_replay.specs.declared.why.Why.TheVariants as why;
-ghost use Rattle.trace_replay.specs.Feeding.{PullsInputs, IsFeedOf};
+ghost use Rattle.trace_replay.specs.Feeding.{PullsInputs, IsFeedRead};
 ghost use Rattle.net_state.specs.Held.{CanWork};
 ghost use Rattle.trace_replay.specs.Opening.{IsOpenedOn};
 ghost use Rattle.trace_replay.specs.Counting.{AreFewCounted};
@@ -128,11 +128,12 @@ impl<A: Firing> Replay<A> {
         ensures fails { LineFails A.cell F.feeds result (line.Fire inst action) self.old feeds.now }
         ensures no_end { OnEnds result ⊥ }
         ensures no_fault { OnFeedFails result ⊥ }
-        ensures feed { IfFeedFails result (IsFeedOf self.old.links.items) }
+        ensures feed { IfFeedFails result (IsFeedRead self.old.links.items (map is_some self.old.readers.items)) }
         ensures noted { self.new.noted ≡ self.old.noted }
         ensures still_count { OnGoes result (self.new.count ≡ length self.new.state.cells) }
         ensures grow { self.new.grow ≡ self.old.grow }
         ensures links { self.new.links ≡ self.old.links }
+        ensures still_read { map is_some self.new.readers.items ≡ map is_some self.old.readers.items }
     {
         match fire(&mut self.state, self.count, inst, action) {
             None => {
@@ -154,7 +155,7 @@ impl<A: Firing> Replay<A> {
         ensures fails { LineFails A.cell F.feeds result (line.Trap inst action cause) self.old feeds.now }
         ensures no_step { OnGoes result ⊥ }
         ensures no_fault { OnFeedFails result ⊥ }
-        ensures feed { IfFeedFails result (IsFeedOf self.old.links.items) }
+        ensures feed { IfFeedFails result (IsFeedRead self.old.links.items (map is_some self.old.readers.items)) }
     {
         catch_up(&self.state, &self.links, &mut self.numbers);
         if traps(&mut self.state, self.count, inst, action, cause) {
@@ -177,11 +178,12 @@ impl<A: Firing> Replay<A> {
         ensures no_end { OnEnds result ⊥ }
         ensures no_failure { IfFails result (λ _. ⊥) }
         ensures failed { OnFeedFails result (ReadFails F.feeds feeds.old feeds.new) }
-        ensures feed { IfFeedFails result (IsFeedOf self.old.links.items) }
+        ensures feed { IfFeedFails result (IsFeedRead self.old.links.items (map is_some self.old.readers.items)) }
         ensures noted { self.new.noted ≡ self.old.noted }
         ensures still_count { OnGoes result (self.new.count ≡ length self.new.state.cells) }
         ensures grow { self.new.grow ≡ self.old.grow }
         ensures links { self.new.links ≡ self.old.links }
+        ensures still_read { map is_some self.new.readers.items ≡ map is_some self.old.readers.items }
         ensures elsewhere { PullsInputs (F.feeds feeds.old) (F.feeds feeds.new) }
     {
         catch_up(&self.state, &self.links, &mut self.numbers);
@@ -216,11 +218,12 @@ impl<A: Firing> Replay<A> {
         ensures fails { LineFails A.cell F.feeds result (line.Grow link capacity) self.old feeds.old }
         ensures no_end { OnEnds result ⊥ }
         ensures failed { OnFeedFails result (ReadFails F.feeds feeds.old feeds.new) }
-        ensures feed { IfFeedFails result (IsFeedOf self.old.links.items) }
+        ensures feed { IfFeedFails result (IsFeedRead self.old.links.items (map is_some self.old.readers.items)) }
         ensures noted { length self.new.noted.items ≡ length self.old.noted.items }
         ensures still_count { OnGoes result (self.new.count ≡ length self.new.state.cells) }
         ensures grow { self.new.grow ≡ self.old.grow }
         ensures links { self.new.links ≡ self.old.links }
+        ensures still_read { map is_some self.new.readers.items ≡ map is_some self.old.readers.items }
         ensures elsewhere { PullsInputs (F.feeds feeds.old) (F.feeds feeds.new) }
     {
         match grow_fed(
@@ -251,7 +254,7 @@ impl<A: Firing> Replay<A> {
         ensures fails { LineFails A.cell F.feeds result line.now self.old feeds.old }
         ensures no_step { OnGoes result ⊥ }
         ensures failed { OnFeedFails result (ReadFails F.feeds feeds.old feeds.new) }
-        ensures feed { IfFeedFails result (IsFeedOf self.old.links.items) }
+        ensures feed { IfFeedFails result (IsFeedRead self.old.links.items (map is_some self.old.readers.items)) }
         ensures elsewhere { PullsInputs (F.feeds feeds.old) (F.feeds feeds.new) }
     {
         catch_up(&self.state, &self.links, &mut self.numbers);
@@ -288,10 +291,12 @@ impl<A: Firing> Replay<A> {
         ensures is_end { OnEnds result (is_end line.now ≡ true) }
         ensures noted { OnGoes result (length self.new.noted.items ≡ length self.old.noted.items) }
         ensures failed { OnFeedFails result (ReadFails F.feeds feeds.old feeds.new) }
-        ensures feed { IfFeedFails result (IsFeedOf self.old.links.items) }
+        ensures feed { IfFeedFails result (IsFeedRead self.old.links.items (map is_some self.old.readers.items)) }
         ensures still_count { OnGoes result (self.new.count ≡ length self.new.state.cells) }
         ensures grow { OnGoes result (self.new.grow ≡ self.old.grow) }
         ensures links { OnGoes result (self.new.links ≡ self.old.links) }
+        ensures still_read { OnGoes result (map is_some self.new.readers.items
+            ≡ map is_some self.old.readers.items) }
         ensures elsewhere { PullsInputs (F.feeds feeds.old) (F.feeds feeds.new) }
     {
         match *line {

@@ -1,6 +1,6 @@
 //! Lines that say that a link grows.
 
-ghost use Rattle.std.specs.Prelude.{◌≡◌, ◌≤◌, true, false, IfErr, IfOk, OnErr, Some, length, map, slice_get};
+ghost use Rattle.std.specs.Prelude.{◌≡◌, ◌≤◌, true, false, IfErr, IfOk, OnErr, Some, is_some, length, map, slice_get};
 ghost use Rattle.rvc_io.specs.Feeds.{ReadFails};
 ghost use Rattle.net_model.specs.Limits.{max_links};
 ghost use Rattle.net_state.specs.Held.{HoldFew, seen};
@@ -9,7 +9,7 @@ ghost use Rattle.net_state.specs.Surveyed.{AreUntrapped};
 ghost use Rattle.net_state.specs.Working.{IsAtRest};
 ghost use Rattle.network_runner.specs.Filling.{ReadersFit};
 ghost use Rattle.trace_replay.specs.Ending.{CanGrow, GrewAt, GrewNotAt, GrowsNotSo, GrowsSo, HoldEnough, IsInner};
-ghost use Rattle.trace_replay.specs.Feeding.{IsFeedOf, PullsInputs};
+ghost use Rattle.trace_replay.specs.Feeding.{IsFeedRead, PullsInputs};
 ghost use Rattle.trace_replay.specs.Growing.{GrowsOn, NoTokenCame, SomeCame, StillFitsOn};
 
 use crate::ending::{is_input, is_settled, may_grow};
@@ -157,7 +157,8 @@ pub(crate) fn grow_fed<A: Firing, F: Feeds>(
     ensures still_fits { IfOk result (StillFitsOn A.cell F.feeds links.now state.old state.new
         readers.new feeds.new) }
     ensures failed { OnErr result (ReadFails F.feeds feeds.old feeds.new) }
-    ensures feed { IfErr result (IsFeedOf links.now) }
+    ensures feed { IfErr result (IsFeedRead links.now (map is_some readers.old)) }
+    ensures still_there { map is_some readers.new ≡ map is_some readers.old }
     ensures elsewhere { PullsInputs (F.feeds feeds.old) (F.feeds feeds.new) }
 {
     if !is_settled(state, links) {

@@ -48,7 +48,7 @@ pub fn replay<A: Firing, F: Feeds>(
     ensures refused { IfErr result (RefusesOn A.cell F.feeds cells.items wiring grow names.now
         feeds.old) }
     ensures failed { OnReadFault result (ReadFails F.feeds feeds.old feeds.new) }
-    ensures feed { IfErr result (NamesFeed wiring.links.items) }
+    ensures feed { IfErr result (NamesFeed wiring.links.items wiring.open_ins.items) }
     ensures feeds_stay { OnlyPulls (F.feeds feeds.old) (F.feeds feeds.new) }
 {
     ready_networks_can_work::<StatesOf<A>>();

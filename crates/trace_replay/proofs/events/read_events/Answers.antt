@@ -1,11 +1,12 @@
-use Rattle.std.proofs.Common.{◌∙◌, ◌⊎◌, inr, length, refl, sym, ap, subst, arith}
+use Rattle.std.proofs.Common.{◌∙◌, ◌⊎◌, inr, length, map, refl, sym, ap, subst, arith}
+use Rattle.std.specs.Prelude.{is_some}
 use Rattle.rvc_io.specs.Feeds.{ReadFails}
 use Rattle.port_files.specs.Coming.{coming_on}
 use Rattle.trace_text.specs.Text.{line_feed}
 use Rattle.trace_text.specs.declared.line.Line.{Line}
 use Rattle.trace_replay.specs.Between.{stand}
 use Rattle.trace_replay.specs.Events.{IsEnded, IsJudgedOrNot, IsTextOf, IsUnfedGrowth}
-use Rattle.trace_replay.specs.Feeding.{IsFeedOf}
+use Rattle.trace_replay.specs.Feeding.{IsFeedRead}
 use Rattle.trace_replay.specs.Judging.{AtEvents, IsNotRun}
 use Rattle.trace_replay.specs.declared.bytes.TheConstants.{TRACE_FEED}
 use Rattle.trace_replay.specs.declared.reading.Read.{Read}
@@ -28,6 +29,7 @@ lines-init g c = record {
   grow = refl;
   links = refl;
   noted = c.requires.noted;
+  read = refl;
   trace_grow = c.requires.grow;
   pulls = only_none (g.F.Feeds.feeds c.args.feeds.now);
 }
@@ -54,6 +56,7 @@ lines-preserved g c = record {
   ready = c.in-Goes.ensures.still_ready;
   grow = c.in-Goes.ensures.grow ∙ c.lines.invariant.grow;
   links = c.in-Goes.ensures.links ∙ c.lines.invariant.links;
+  read = c.in-Goes.ensures.still_read ∙ c.lines.invariant.read;
   noted = c.in-Goes.ensures.noted ∙ (c.lines.invariant.noted ∙ sym (ap (λ ls. length ls.items) c.in-Goes.ensures.links));
   trace_grow = c.next_line.ensures.grow ∙ c.lines.invariant.trace_grow ∙ sym c.in-Goes.ensures.grow;
   pulls = only_line TRACE_FEED (g.F.Feeds.feeds c.args.feeds.now) (g.F.Feeds.feeds c.lines.feeds) (g.F.Feeds.feeds c.next_line.new.feeds) (g.F.Feeds.feeds c.come.new.feeds)
@@ -159,10 +162,11 @@ returns-in-Ends-clause-feeds_stay g c =
     (only_at TRACE_FEED (g.F.Feeds.feeds c.come.new.feeds) (g.F.Feeds.feeds c.end_at.new.feeds) c.end_at.ensures.elsewhere)
 
 pub returns-in-Err-clause-feed : goal.returns-in-Err-clause-feed
-returns-in-Err-clause-feed g c = names_too c.args.replay.now.links.items c.in-Err.fault c.in-Err.ensures.feed
+returns-in-Err-clause-feed g c = names_too c.args.replay.now.links.items (map is_some c.args.replay.now.readers.items) c.in-Err.fault c.in-Err.ensures.feed
 
 pub returns-in-Ends-clause-feed : goal.returns-in-Ends-clause-feed
-returns-in-Ends-clause-feed g c = err_after c.end_at.result _ _ (λ fault named. names_too c.args.replay.now.links.items fault named) c.end_at.ensures.feed
+returns-in-Ends-clause-feed g c = err_after c.end_at.result _ _ (λ fault named. names_too c.args.replay.now.links.items (map is_some c.args.replay.now.readers.items) fault named) c.end_at.ensures.feed
 
 pub returns-in-FeedFails-clause-feed : goal.returns-in-FeedFails-clause-feed
-returns-in-FeedFails-clause-feed g c = inr (subst (λ links. IsFeedOf links.items c.in-FeedFails.feed) c.lines.invariant.links c.in-FeedFails.ensures.feed)
+returns-in-FeedFails-clause-feed g c = inr (subst (λ read. IsFeedRead c.args.replay.now.links.items read c.in-FeedFails.feed) c.lines.invariant.read
+    (subst (λ links. IsFeedRead links.items (map is_some c.lines.replay.readers.items) c.in-FeedFails.feed) c.lines.invariant.links c.in-FeedFails.ensures.feed))

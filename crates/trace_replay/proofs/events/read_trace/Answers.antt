@@ -44,7 +44,7 @@ returns-clause-failed g c =
     c.read_events.ensures.failed
 
 pub returns-in-Err-clause-feed : goal.returns-in-Err-clause-feed
-returns-in-Err-clause-feed g c = names_too c.args.replay.now.links.items c.in-Err.fault c.in-Err.ensures.feed
+returns-in-Err-clause-feed g c = names_too c.args.replay.now.links.items (map is_some c.args.replay.now.readers.items) c.in-Err.fault c.in-Err.ensures.feed
 
 pub returns-in-Err-clause-feeds_stay : goal.returns-in-Err-clause-feeds_stay
 returns-in-Err-clause-feeds_stay g c = only_at TRACE_FEED (g.F.Feeds.feeds c.args.feeds.now) (g.F.Feeds.feeds c.read_head.new.feeds) c.read_head.ensures.elsewhere

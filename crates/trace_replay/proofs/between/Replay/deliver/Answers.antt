@@ -1,4 +1,5 @@
-use Rattle.std.proofs.Common.{◌≡◌, ◌++◌, true, length, take, drop, sym, subst, ap, ◌∙◌, arith}
+use Rattle.std.proofs.Common.{◌≡◌, ◌++◌, length, map, take, drop, sym, subst, ap, ◌∙◌, arith}
+use Rattle.std.specs.Prelude.{is_some}
 use Rattle.net_state.specs.Held.{seen}
 use Rattle.network_runner.specs.Delivering.{Delivers}
 use Rattle.network_runner.specs.Filling.{IsFeedOf as IsFeedOfReader, ReadersFit}
@@ -65,6 +66,7 @@ pub returns-in-Err-clause-feed : goal.returns-in-Err-clause-feed
 returns-in-Err-clause-feed g c =
     let self = c.args.self.now in
     let fn = g.F.Feeds.feeds c.deliver_all.new.feeds in
-    feed_named self.links.items c.deliver_all.new.readers fn c.in-Err.fault.feed
+    feed_named self.links.items self.readers.items c.deliver_all.new.readers fn c.in-Err.fault.feed
     (subst (λ ls. ReadersFit ls c.deliver_all.new.readers fn) c.deref-2.ensures.value c.deliver_all.ensures.still_fit)
+    (c.deliver_all.ensures.still_there ∙ ap (map is_some) c.deref_mut.ensures.value)
     (subst (λ ls. IsFeedOfReader ls c.deliver_all.new.readers c.in-Err.fault.feed) c.deref-2.ensures.value c.in-Err.ensures.feed)
