@@ -23,4 +23,4 @@ pub mod Readied
 pub mod Surveying
 pub mod Shared
 pub mod Alone
-pub mod Reopening
+pub mod Noted
