@@ -21,7 +21,7 @@ use Rattle.network_runner.specs.Filling.{ReadersFit}
 use Rattle.trace_replay.specs.Ending.{HoldEnough}
 use Rattle.trace_replay.specs.Feeding.{StandsFed}
 use Rattle.trace_replay.specs.declared.growth.Growth.{Growth}
-use Rattle.trace_replay.specs.declared.growth.Growth.TheVariants.{Untrue, Unfed, Grown}
+use Rattle.trace_replay.specs.declared.growth.Growth.TheVariants.{Untrue, Unfed, Grown, Unread}
 
 -- The line says that a link grows, which is true of the state; but some input link has room, and more of its feed is
 -- to come.
@@ -58,11 +58,19 @@ GrowsBy grow l capacity old before feeds new after later Grown =
     InFed old before feeds (λ net inputs opened s. Grows net grow s l capacity
     × OnNext (grown s l capacity (slice_get s.flows l))
     (λ next. StandsFed net inputs new after later opened next))
+GrowsBy grow l capacity old before feeds new after later (Unread feed) = Unit {0}
 
 abbrev pub OnGrown : Growth → Type 0 → Type 0
 OnGrown Untrue P = Unit {0}
 OnGrown Unfed P = Unit {0}
 OnGrown Grown P = P
+OnGrown (Unread feed) P = Unit {0}
+
+abbrev pub IfUnread : Growth → (ℕ → Type 0) → Type 0
+IfUnread Untrue P = Unit {0}
+IfUnread Unfed P = Unit {0}
+IfUnread Grown P = Unit {0}
+IfUnread (Unread feed) P = P feed
 
 -- what the code knows then of what is held and of the readers
 pub record StillFits {X : Type 0} (links : List Link) (old new : Held (Cell X)) (after : List (Option Reading)) (later : Inputs) : Type 0 where

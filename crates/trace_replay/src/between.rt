@@ -237,10 +237,10 @@ impl<A: Firing> Replay<A> {
             capacity,
             feeds,
         ) {
-            Ok(Growth::Grown) => Came::Goes,
-            Ok(Growth::Untrue) => Came::Fails(Why::End),
-            Ok(Growth::Unfed) => Came::Fails(Why::End),
-            Err(feed) => Came::FeedFails(feed),
+            Growth::Grown => Came::Goes,
+            Growth::Untrue => Came::Fails(Why::End),
+            Growth::Unfed => Came::Fails(Why::End),
+            Growth::Unread(feed) => Came::FeedFails(feed),
         }
     }
 

@@ -1,6 +1,6 @@
 //! Lines that say that a link grows.
 
-ghost use Rattle.std.specs.Prelude.{◌≡◌, ◌≤◌, true, false, IfErr, IfOk, OnErr, Some, is_some, length, map, slice_get};
+ghost use Rattle.std.specs.Prelude.{◌≡◌, ◌≤◌, true, false, Some, is_some, length, map, slice_get};
 ghost use Rattle.rvc_io.specs.Feeds.{ReadFails};
 ghost use Rattle.net_model.specs.Limits.{max_links};
 ghost use Rattle.net_state.specs.Held.{HoldFew, seen};
@@ -10,7 +10,7 @@ ghost use Rattle.net_state.specs.Working.{IsAtRest};
 ghost use Rattle.network_runner.specs.Filling.{ReadersFit};
 ghost use Rattle.trace_replay.specs.Ending.{CanGrow, GrewAt, GrewNotAt, GrowsNotSo, GrowsSo, HoldEnough, IsInner};
 ghost use Rattle.trace_replay.specs.Feeding.{IsFeedRead, PullsInputs};
-ghost use Rattle.trace_replay.specs.Growing.{GrowsOn, NoTokenCame, SomeCame, StillFitsOn};
+ghost use Rattle.trace_replay.specs.Growing.{GrowsOn, IfUnread, NoTokenCame, SomeCame, StillFitsOn};
 
 use crate::ending::{is_input, is_settled, may_grow};
 use crate::growth::Growth;
@@ -128,10 +128,6 @@ fn any_came(came: &[Filled]) -> bool
 /// Lets a link grow as a line says, if the network is stalled there and the link grows so, with all that is left of the
 /// feeds counted as arrived. So links are filled for it. If a token came so, the run can't go on, since cells would see
 /// it; else the rooms are those of the last delivery again, which `noted` holds meanwhile.
-///
-/// # Errors
-///
-/// The number of a feed if bytes couldn't be pulled from it.
 pub(crate) fn grow_fed<A: Firing, F: Feeds>(
     state: &mut NetState<A>,
     links: &[Link],
@@ -142,7 +138,7 @@ pub(crate) fn grow_fed<A: Firing, F: Feeds>(
     link: u32,
     capacity: u32,
     feeds: &mut F,
-) -> Result<Growth, u32>
+) -> Growth
     requires links { state.old.links ≡ links.now }
     requires few { length links.now ≤ max_links }
     requires queues { CanGrow grow (map A.cell state.old.cells) links.now }
@@ -152,29 +148,29 @@ pub(crate) fn grow_fed<A: Firing, F: Feeds>(
     requires readers { ReadersFit links.now readers.old (F.feeds feeds.old) }
     requires as_many { length came.old ≡ length links.now }
     requires as_many_noted { length noted.old ≡ length links.now }
-    ensures growth { IfOk result (GrowsOn A.cell F.feeds grow link capacity state.old readers.old
-        feeds.old state.new readers.new feeds.new) }
-    ensures still_fits { IfOk result (StillFitsOn A.cell F.feeds links.now state.old state.new
-        readers.new feeds.new) }
-    ensures failed { OnErr result (ReadFails F.feeds feeds.old feeds.new) }
-    ensures feed { IfErr result (IsFeedRead links.now (map is_some readers.old)) }
+    ensures growth { GrowsOn A.cell F.feeds grow link capacity state.old readers.old feeds.old
+        state.new readers.new feeds.new result }
+    ensures still_fits { StillFitsOn A.cell F.feeds links.now state.old state.new readers.new
+        feeds.new result }
+    ensures failed { IfUnread result (λ _. ReadFails F.feeds feeds.old feeds.new) }
+    ensures feed { IfUnread result (IsFeedRead links.now (map is_some readers.old)) }
     ensures still_there { map is_some readers.new ≡ map is_some readers.old }
     ensures elsewhere { PullsInputs (F.feeds feeds.old) (F.feeds feeds.new) }
 {
     if !is_settled(state, links) {
-        return Ok(Growth::Untrue);
+        return Growth::Untrue;
     }
     state.note_waited(noted);
     match deliver_all(state, links, readers, feeds, came) {
         Ok(()) => {}
-        Err(fault) => return Err(fault.feed),
+        Err(fault) => return Growth::Unread(fault.feed),
     }
     if !grow_so(state, links, grow, link, capacity) {
-        return Ok(Growth::Untrue);
+        return Growth::Untrue;
     }
     if any_came(came) {
-        return Ok(Growth::Unfed);
+        return Growth::Unfed;
     }
     state.reopen(noted);
-    Ok(Growth::Grown)
+    Growth::Grown
 }

@@ -9,4 +9,6 @@ pub(crate) enum Growth {
     Unfed,
     /// It is true, and the run goes on.
     Grown,
+    /// It wasn't judged, since the feed with this number couldn't be read.
+    Unread(u32),
 }
