@@ -129,11 +129,12 @@ impl<A: Firing> Replay<A> {
         ensures no_end { OnEnds result ⊥ }
         ensures no_fault { OnFeedFails result ⊥ }
         ensures feed { IfFeedFails result (IsFeedRead self.old.links.items (map is_some self.old.readers.items)) }
-        ensures noted { self.new.noted ≡ self.old.noted }
+        ensures noted { OnGoes result (length self.new.noted.items ≡ length self.old.noted.items) }
         ensures still_count { OnGoes result (self.new.count ≡ length self.new.state.cells) }
         ensures grow { self.new.grow ≡ self.old.grow }
         ensures links { self.new.links ≡ self.old.links }
-        ensures still_read { map is_some self.new.readers.items ≡ map is_some self.old.readers.items }
+        ensures still_read { OnGoes result (map is_some self.new.readers.items
+            ≡ map is_some self.old.readers.items) }
     {
         match fire(&mut self.state, self.count, inst, action) {
             None => {
@@ -179,11 +180,12 @@ impl<A: Firing> Replay<A> {
         ensures no_failure { IfFails result (λ _. ⊥) }
         ensures failed { OnFeedFails result (ReadFails F.feeds feeds.old feeds.new) }
         ensures feed { IfFeedFails result (IsFeedRead self.old.links.items (map is_some self.old.readers.items)) }
-        ensures noted { self.new.noted ≡ self.old.noted }
+        ensures noted { OnGoes result (length self.new.noted.items ≡ length self.old.noted.items) }
         ensures still_count { OnGoes result (self.new.count ≡ length self.new.state.cells) }
         ensures grow { self.new.grow ≡ self.old.grow }
         ensures links { self.new.links ≡ self.old.links }
-        ensures still_read { map is_some self.new.readers.items ≡ map is_some self.old.readers.items }
+        ensures still_read { OnGoes result (map is_some self.new.readers.items
+            ≡ map is_some self.old.readers.items) }
         ensures elsewhere { PullsInputs (F.feeds feeds.old) (F.feeds feeds.new) }
     {
         catch_up(&self.state, &self.links, &mut self.numbers);
@@ -219,11 +221,12 @@ impl<A: Firing> Replay<A> {
         ensures no_end { OnEnds result ⊥ }
         ensures failed { OnFeedFails result (ReadFails F.feeds feeds.old feeds.new) }
         ensures feed { IfFeedFails result (IsFeedRead self.old.links.items (map is_some self.old.readers.items)) }
-        ensures noted { length self.new.noted.items ≡ length self.old.noted.items }
+        ensures noted { OnGoes result (length self.new.noted.items ≡ length self.old.noted.items) }
         ensures still_count { OnGoes result (self.new.count ≡ length self.new.state.cells) }
         ensures grow { self.new.grow ≡ self.old.grow }
         ensures links { self.new.links ≡ self.old.links }
-        ensures still_read { map is_some self.new.readers.items ≡ map is_some self.old.readers.items }
+        ensures still_read { OnGoes result (map is_some self.new.readers.items
+            ≡ map is_some self.old.readers.items) }
         ensures elsewhere { PullsInputs (F.feeds feeds.old) (F.feeds feeds.new) }
     {
         match grow_fed(

@@ -70,3 +70,9 @@ returns-in-Err-clause-feed g c =
     (subst (λ ls. ReadersFit ls c.deliver_all.new.readers fn) c.deref-2.ensures.value c.deliver_all.ensures.still_fit)
     (c.deliver_all.ensures.still_there ∙ ap (map is_some) c.deref_mut.ensures.value)
     (subst (λ ls. IsFeedOfReader ls c.deliver_all.new.readers c.in-Err.fault.feed) c.deref-2.ensures.value c.in-Err.ensures.feed)
+
+pub returns-in-Ok-clause-still_read : goal.returns-in-Ok-clause-still_read
+returns-in-Ok-clause-still_read g c =
+    let self = c.args.self.now in
+    let len : length c.deliver_all.new.readers ≡ self.readers.len = omega (arith, c.deliver_all.auto.readers, c.deref_mut.ensures.len) in
+    ap (map is_some) (written_back self.readers.items c.deliver_all.new.readers self.readers.len len) ∙ (c.deliver_all.ensures.still_there ∙ ap (map is_some) c.deref_mut.ensures.value)
