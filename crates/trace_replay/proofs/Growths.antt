@@ -1,24 +1,21 @@
 -- The growth of a link by a delivery that is made to judge it.
-use Rattle.std.proofs.Common.{◌≡◌, ◌≢◌, ℕ, zero, suc, ◌+◌, ◌-◌, ◌*◌, ◌<◌, ◌≤◌, ◌⊎◌, min, Bool, true, false, List, [], ◌∷◌, length, refl, sym, ap, subst, ◌∙◌, ⊎_elim, arith}
-use Rattle.std.specs.Prelude.{Option, None, Some, slice_get, slice_set, slice_index_or}
-use Rattle.std.proofs.Math.Nat.{le-min}
+use Rattle.std.proofs.Common.{◌≡◌, ℕ, suc, ◌+◌, ◌-◌, ◌<◌, ◌≤◌, min, Bool, true, false, List, [], ◌∷◌, length, refl, sym, ap, subst, ◌∙◌, ⊎_elim, arith}
+use Rattle.std.specs.Prelude.{Option, None, Some, slice_get, slice_set}
 use Rattle.rvc_io.specs.Feeds.{Inputs}
 use Rattle.port_files.specs.Coming.{Reading}
 use Rattle.net_model.specs.declared.wiring.Link.{Link}
 use Rattle.net_model.specs.Network.{NetPort, Network, is_input}
 use Rattle.net_model.specs.State.{Flow, State, capacity_at, capacity_of, untaken}
 use Rattle.net_model.specs.Counted.{rest_at}
-use Rattle.net_model.specs.Ends.{AllArrived, Grows, IsSettled}
+use Rattle.net_model.specs.Ends.{Grows, IsSettled}
 use Rattle.net_model.specs.Event.{each_flow}
-use Rattle.net_model.specs.Laws.{AreLawful}
 use Rattle.net_model.specs.Trace.{OnNext, after_delivery, arrivals, delivered, grown}
-use Rattle.net_model.specs.Wired.{IsWired}
 use Rattle.net_model.specs.Cell.{Cell}
 use Rattle.net_model.proofs.KeepingRuns.{set_is}
 use Rattle.net_state.specs.declared.filling.Filled.{Filled}
 use Rattle.net_state.specs.Held.{Held}
 use Rattle.net_state.specs.Reopening.{FitNoted, FitWaited, OpensAgain}
-use Rattle.net_state.specs.Standing.{IsOpened, StandsIn, StandsSince}
+use Rattle.net_state.specs.Standing.{IsOpened, StandsSince}
 use Rattle.net_state.specs.Surveyed.{AreSettled}
 use Rattle.net_state.specs.Working.{AreFed}
 use Rattle.round_runner.specs.Running.{AreFedBy}
@@ -32,7 +29,7 @@ use Rattle.trace_replay.specs.Growing.{GrowsBy, NoTokenCame, SomeCame}
 use Rattle.trace_replay.specs.declared.growth.Growth.TheVariants.{Untrue, Unfed, Grown}
 use Rattle.trace_replay.proofs.Chained.{There, there}
 use Rattle.trace_replay.proofs.Counted.{tokens_gone}
-use Rattle.trace_replay.proofs.Ended.{arrivals_of, grows_after, grows_before, none_left, nothing_arrives, still_settled}
+use Rattle.trace_replay.proofs.Ended.{arrivals_of, grows_after, grows_before, none_left, nothing_arrives}
 use Rattle.trace_replay.proofs.Settled.{one_of}
 
 -- A link that has grown.
@@ -130,21 +127,22 @@ none_inside ports inputs (Some is) p filled told link at inner =
     some_is x y e = cc
 
 by_input : (b : Bool) (P : Type 0) → (b ≡ true → P) → (b ≡ false → P) → P
-by_input true P yes no = yes refl
-by_input false P yes no = no refl
+by_input true P p q = p refl
+by_input false P p q = q refl
 
 -- where nothing came a delivery of a settled state changes nothing
-each_still : (links : List Link) (flows : List Flow) → ((l : ℕ) (link : Link) (flow : Flow) → slice_get links l ≡ Some link → slice_get flows l ≡ Some flow → delivered link flow ≡ flow)
+each_still : (links : List Link) (flows : List Flow) → length flows ≡ length links → ((l : ℕ) (link : Link) (flow : Flow) → slice_get links l ≡ Some link → slice_get flows l ≡ Some flow → delivered link flow ≡ flow)
     → each_flow delivered links flows ≡ flows
-each_still [] flows same = refl
-each_still (link ∷ links) [] same = refl
-each_still (link ∷ links) (flow ∷ flows) same =
+each_still [] [] whole same = refl
+each_still [] (flow ∷ flows) whole same = absurd (omega (arith, whole))
+each_still (link ∷ links) [] whole same = refl
+each_still (link ∷ links) (flow ∷ flows) whole same =
     ap (λ f. f ∷ each_flow delivered links flows) (same 0 link flow refl refl)
-    ∙ ap (λ fs. flow ∷ fs) (each_still links flows (λ l. same (suc l)))
+    ∙ ap (λ fs. flow ∷ fs) (each_still links flows (omega (arith, whole)) (λ l. same (suc l)))
 
 module _ {X : Type 0} (net : Network X) (inputs : List (List ℕ)) (s : State X) (came : List Filled) (told : (l : ℕ) → CameOn net.ins inputs (slice_get net.links l) (slice_get s.flows l) (slice_get came l)) where
-  still_so : IsSettled net s → NoTokenCame came → after_delivery net s ≡ s
-  still_so settled none = ap (λ fs. record s { flows = fs }) (each_still net.links s.flows
+  still_so : length s.flows ≡ length net.links → IsSettled net s → NoTokenCame came → after_delivery net s ≡ s
+  still_so whole settled none = ap (λ fs. record s { flows = fs }) (each_still net.links s.flows whole
       (λ l link flow at here. by_input (is_input link) (delivered link flow ≡ flow)
       (λ input.
       let that = arrives_there net.ins inputs (slice_get net.links l) (slice_get s.flows l) (slice_get came l) (told l) link flow at here input in
@@ -198,7 +196,7 @@ module _ {X : Type 0} (grow l capacity : ℕ) (held made new : Held (Cell X)) (r
   grown_grown noted after_growth fit noted_is grows none opens net inputs opened s stands wired lawful =
       let settled : IsSettled net s = settle net s stands.stands.now in
       let is = delivers.states net inputs s stands.stands.now wired stands.fed in
-      let same : after_delivery net s ≡ s = still_so net inputs s came is.told settled none in
+      let same : after_delivery net s ≡ s = still_so net inputs s came is.told stands.stands.now.stands.flows.count settled none in
       let both : Grows net grow s l capacity × OnNext (grown s l capacity (slice_get s.flows l)) (λ next. StandsSince net after_growth s next) =
       subst (λ u. Grows net grow u l capacity × OnNext (grown u l capacity (slice_get u.flows l)) (λ next. StandsSince net after_growth u next)) same
       (grows net (after_delivery net s) (after_delivery net s) is.stands wired is.all) in

@@ -4,7 +4,6 @@ use Rattle.std.specs.Prelude.{Option, None, Some, Err, slice_get, take, flat_map
 use Rattle.std.specs.List.{concat}
 use Rattle.rvc_io.specs.Feeds.{Inputs, PullsOnlyAt}
 use Rattle.trace_text.specs.declared.line.Line.{Line}
-use Rattle.trace_text.specs.declared.line.Line.TheVariants.{Inst}
 use Rattle.trace_text.specs.Table.{AreWritten, IsWritten}
 use Rattle.trace_text.specs.Spelling.{Spells}
 use Rattle.port_files.specs.Coming.{Reading, coming, coming_on}

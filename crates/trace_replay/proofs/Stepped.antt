@@ -1,6 +1,6 @@
 -- What a line does to a network between two lines.
-use Rattle.std.proofs.Common.{◌≡◌, ℕ, ◌≤◌, Bool, true, false, List, length, refl, sym, ap, subst, ◌∙◌, inl, ⊎_elim, arith}
-use Rattle.std.specs.Prelude.{Option, None, Some, is_some, map, slice_get, slice_set}
+use Rattle.std.proofs.Common.{◌≡◌, ℕ, ◌≤◌, Bool, true, false, List, length, refl, sym, ap, subst, ◌∙◌, inl, inr, ⊎_elim, arith}
+use Rattle.std.specs.Prelude.{Option, None, Some, is_some, map, slice_get}
 use Rattle.std.specs.Option.{option_map}
 use Rattle.std.proofs.lemmas.Option.{slice_get-map}
 use Rattle.rvc_base.specs.declared.trap.Trap.{Trap as TrapName}

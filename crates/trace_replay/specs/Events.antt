@@ -1,6 +1,6 @@
 -- Lines of a run that are read one after another, up to an end line.
 -- Trusted but for `BeginsAt` and what follows `IsJudgedOrNot`: part of what a promise means.
-use Rattle.std.specs.Prelude.{◌≡◌, ◌⊎◌, ℕ, suc, ◌+◌, true, false, List, [], ◌∷◌, ◌++◌, length, map, flat_map, Some, String, string_bytes}
+use Rattle.std.specs.Prelude.{◌≡◌, ◌⊎◌, ℕ, suc, ◌+◌, true, List, [], ◌++◌, length, map, flat_map, Some, String, string_bytes}
 use Rattle.std.specs.List.{concat}
 use Rattle.std.specs.declared.alloc.Global.{Global as Heap}
 use Rattle.rvc_io.specs.Feeds.{Inputs}

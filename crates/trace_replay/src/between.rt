@@ -4,7 +4,7 @@ ghost use Rattle.std.specs.Prelude.{◌≡◌, ◌+◌, ◌≤◌, true, false, 
 ghost use Rattle.rvc_io.specs.Feeds.{ReadFails};
 ghost use Rattle.net_model.specs.Limits.{max_links};
 ghost use Rattle.trace_text.specs.declared.line.Line.TheVariants as line;
-ghost use Rattle.trace_replay.specs.Between.{EndCounts, FailsBy, IfFails, IsReadyToGo, LineCounts, LineEnds, LineFails, LineGoes, OnEnds, OnFeedFails, OnGoes, is_still_end, stand, IfFeedFails};
+ghost use Rattle.trace_replay.specs.Between.{EndCounts, IfFails, IsReadyToGo, LineCounts, LineEnds, LineFails, LineGoes, OnEnds, OnFeedFails, OnGoes, is_still_end, IfFeedFails};
 ghost use Rattle.trace_replay.specs.declared.came.Came.TheVariants as came;
 ghost use Rattle.trace_replay.specs.declared.why.Why.TheVariants as why;
 ghost use Rattle.trace_replay.specs.Feeding.{PullsInputs, IsFeedRead};

@@ -1,6 +1,6 @@
 use Rattle.std.proofs.Common.{length, map, refl, sym}
 use Rattle.std.proofs.lemmas.List.{length-map}
-use Rattle.std.specs.Prelude.{string_bytes}
+use Rattle.std.specs.Prelude.{is_some, string_bytes}
 use Rattle.rvc_io.specs.Feeds.{ReadFails}
 use Rattle.trace_replay.specs.Between.{stand}
 use Rattle.trace_replay.proofs.Heads.{err_after, fault_after}
@@ -14,7 +14,7 @@ use Rattle.trace_replay.proofs.events.read_trace.Goals as goal
 pub read_events-requires-clause-ready : goal.read_events-requires-clause-ready
 read_events-requires-clause-ready g c =
     ready_pulled (stand g.A.Firing.cell g.F.Feeds.feeds c.args.replay.now c.args.feeds.now) (stand g.A.Firing.cell g.F.Feeds.feeds c.args.replay.now c.read_head.new.feeds)
-    c.args.replay.now.links.items (length c.args.replay.now.came.items) c.args.replay.now.grow refl refl refl refl c.read_head.ensures.elsewhere c.requires.ready
+    c.args.replay.now.links.items (length c.args.replay.now.came.items) c.args.replay.now.grow refl refl refl c.read_head.ensures.elsewhere c.requires.ready
 
 pub returns-in-Err-clause-judged : goal.returns-in-Err-clause-judged
 returns-in-Err-clause-judged g c = λ t text inputs begins. judged_or_not t text c.in-Err.fault (c.in-Err.ensures.judged t text begins.head begins.reached)

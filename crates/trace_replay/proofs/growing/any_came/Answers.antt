@@ -1,6 +1,4 @@
 use Rattle.std.proofs.Common.{arith}
-use Rattle.std.proofs.lemmas.Option.{slice_get-get_or}
-use Rattle.trace_replay.proofs.Growths.{none_came_more}
 use Rattle.trace_replay.proofs.growing.any_came.Goals as goal
 
 pub loop-l-init : goal.loop-l-init

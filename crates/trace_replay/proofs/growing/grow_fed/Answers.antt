@@ -1,13 +1,11 @@
-use Rattle.std.proofs.Common.{◌≡◌, ap, length, map, refl, sym, subst, ◌∙◌, arith}
-use Rattle.std.specs.Prelude.{is_some}
+use Rattle.std.proofs.Common.{ap, length, map, sym, subst, ◌∙◌, arith}
 use Rattle.net_state.specs.Held.{HoldFew, seen}
 use Rattle.net_state.proofs.Kept.{same_then}
 use Rattle.network_runner.proofs.Filling.{marks_then}
 use Rattle.trace_replay.specs.Ending.{HoldEnough}
-use Rattle.trace_replay.specs.Growing.{StillFits}
 use Rattle.trace_replay.proofs.Ended.{untrapped_after}
 use Rattle.trace_replay.proofs.Growths.{grown_grown, grown_unfed, not_grown_untrue, unsettled_untrue}
-use Rattle.trace_replay.proofs.Pulling.{inputs_none, inputs_pulled}
+use Rattle.trace_replay.proofs.Pulling.{inputs_pulled}
 use Rattle.trace_replay.proofs.Stepped.{feed_named}
 use Rattle.trace_replay.proofs.Widened.{can_grow_after}
 use Rattle.trace_replay.proofs.growing.grow_fed.Goals as goal
