@@ -201,17 +201,19 @@ module _ {X : Type 0} (grow l capacity : ℕ) (held made new : Held (Cell X)) (r
       subst (λ u. Grows net grow u l capacity × OnNext (grown u l capacity (slice_get u.flows l)) (λ next. StandsSince net after_growth u next)) same
       (grows net (after_delivery net s) (after_delivery net s) is.stands wired is.all) in
       let fed : AreFedBy net inputs s after later = subst (λ u. AreFedBy net inputs u after later) same is.fed in
-      let more : capacity_at s l ≤ capacity = grows_more net grow s l capacity both.0 in
-      (both.0, then_on (grown s l capacity (slice_get s.flows l)) (λ next. StandsSince net after_growth s next) (λ next. StandsFed net inputs new after later opened next)
-      (λ next h there_next.
-      let to : HasGrown s next l capacity = grown_is s next l capacity (slice_get s.flows l) refl h in
-      record {
-        stands = opens net opened next there_next.now
-            (subst (λ ws. IsOpened net.links ws opened.flows next.flows) (sym noted_is) (opened_grown net.links held.waited opened.flows s next l capacity to more stands.stands.since))
-            (subst (λ ws. FitNoted net ws next) (sym noted_is) (fit_grown net held.waited s next l capacity to more (fit net s stands.stands.now)));
-        fed = fed_still net inputs s next 0 after later stands.stands.now.stands.flows.count there_next.now.stands.flows.count
-            (tokens_gone net s next (grown_tokens net s next l capacity (slice_get s.flows l) refl h)) fed;
-      }) both.1)
+      let more : capacity_at s l ≤ capacity = grows_more net grow s l capacity both.0 in (
+        both.0,
+        then_on (grown s l capacity (slice_get s.flows l)) (λ next. StandsSince net after_growth s next) (λ next. StandsFed net inputs new after later opened next)
+            (λ next h there_next.
+            let to : HasGrown s next l capacity = grown_is s next l capacity (slice_get s.flows l) refl h in
+            record {
+              stands = opens net opened next there_next.now
+                  (subst (λ ws. IsOpened net.links ws opened.flows next.flows) (sym noted_is) (opened_grown net.links held.waited opened.flows s next l capacity to more stands.stands.since))
+                  (subst (λ ws. FitNoted net ws next) (sym noted_is) (fit_grown net held.waited s next l capacity to more (fit net s stands.stands.now)));
+              fed = fed_still net inputs s next 0 after later stands.stands.now.stands.flows.count there_next.now.stands.flows.count
+                  (tokens_gone net s next (grown_tokens net s next l capacity (slice_get s.flows l) refl h)) fed;
+            }) both.1,
+      )
     where
       then_on : (o : Option (State X)) (P Q : State X → Type 0) → ((next : State X) → o ≡ Some next → P next → Q next) → OnNext o P → OnNext o Q
       then_on None P Q f h = absurd h

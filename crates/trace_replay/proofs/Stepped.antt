@@ -293,15 +293,18 @@ untrue_fails grow l capacity held new readings readings_new numbers feeds feeds_
 pub unfed_fails : {X : Type 0} (grow l capacity : ℕ) (held new : Held (Cell X)) (readings readings_new : List (Option Reading)) (numbers : Counts) (feeds feeds_new : Inputs)
     → GrowsBy grow l capacity held readings feeds new readings_new feeds_new Unfed
     → FailsBy grow (Grow l capacity) (record { held = held; readings = readings; numbers = numbers; feeds = feeds }) EndIs
-unfed_fails grow l capacity held new readings readings_new numbers feeds feeds_new unfed = inr (refl, λ t inputs opened s same wired lawful at.
-    let both = unfed t.net inputs opened s at.stands wired lawful in
-    record {
-      l = l;
-      capacity = capacity;
-      line_is = refl;
-      grows = subst (λ g. Grows t.net g s l capacity) (sym same) both.0;
-      unfed = both.1;
-    })
+unfed_fails grow l capacity held new readings readings_new numbers feeds feeds_new unfed = inr (
+  refl,
+  λ t inputs opened s same wired lawful at.
+      let both = unfed t.net inputs opened s at.stands wired lawful in
+      record {
+        l = l;
+        capacity = capacity;
+        line_is = refl;
+        grows = subst (λ g. Grows t.net g s l capacity) (sym same) both.0;
+        unfed = both.1;
+      },
+)
 
 pub grown_counts : {X : Type 0} (grow l capacity : ℕ) (held : Held (Cell X)) (readings : List (Option Reading)) (numbers : Counts) (feeds : Inputs)
     → CountsBy grow (Grow l capacity) (record { held = held; readings = readings; numbers = numbers; feeds = feeds }) numbers
