@@ -5,48 +5,13 @@ ghost use Rattle.rvc_base.specs.declared.scalar.Scalar.TheVariants as scalar;
 ghost use Rattle.cal_model.specs.Value.{Single};
 ghost use Rattle.cal_model.specs.View.{shape_view};
 
-use cal_ast::{BinOp, Expr, ExprForm};
+use crate::rows::{Asked, expression, hold};
+use cal_ast::Expr;
 use cal_model::{BoundFun, BoundLocal, Shape, Value, Values};
-use const_eval::{Env, eval_const, is_counted};
+use const_eval::{Env, is_counted};
 use rvc_base::Scalar;
 use std::alloc::{AllocError, Global};
 use std::test::Fail;
-
-fn expr(form: ExprForm) -> Expr {
-    Expr { form, at: 0 }
-}
-
-fn number(value: u128) -> Expr {
-    expr(ExprForm::Number(value))
-}
-
-fn name(a: Global, text: &str) -> Result<Expr, AllocError> {
-    Ok(expr(ExprForm::Name(String::from_str(a, text)?)))
-}
-
-fn two(a: Global, op: BinOp, left: Expr, right: Expr) -> Result<Expr, AllocError> {
-    Ok(expr(ExprForm::Binary {
-        op,
-        left: Box::new(a, left)?,
-        right: Box::new(a, right)?,
-    }))
-}
-
-fn call(a: Global, text: &str, arg: Expr) -> Result<Expr, AllocError> {
-    let mut args = Vec::new(a);
-    args.push(arg)?;
-    Ok(expr(ExprForm::Call {
-        name: String::from_str(a, text)?,
-        args,
-    }))
-}
-
-fn call_without_arguments(a: Global, text: &str) -> Result<Expr, AllocError> {
-    Ok(expr(ExprForm::Call {
-        name: String::from_str(a, text)?,
-        args: Vec::new(a),
-    }))
-}
 
 fn local(a: Global, text: &str, size: u8, start: Option<Expr>) -> Result<BoundLocal, AllocError>
     ensures { IfOk result (λ x. shape_view x.shape ≡ Single (scalar.Int size)) }
@@ -72,7 +37,7 @@ fn names_that_are_there(rt: HostRuntime) -> Result<(), Fail> {
         formals: Vec::new(a),
         locals: Vec::new(a),
         result: Scalar::Int(32),
-        body: number(1),
+        body: expression(a, "1")?,
     };
     assert!(rt; !env.has_fun(fun.name.as_str()));
     env.add_fun(fun)?;
@@ -81,9 +46,8 @@ fn names_that_are_there(rt: HostRuntime) -> Result<(), Fail> {
     Ok(())
 }
 
-#[test]
-fn a_function_of_a_constant(rt: HostRuntime) -> Result<(), Fail> {
-    let a = rt.alloc();
+/// The constant `a`, and a function `f` that adds 1 to a number.
+fn with_successor(a: Global) -> Result<Env, Fail> {
     let mut env = Env::new(a);
     env.add_value("a", Value::Num(2))?;
     let mut formals = Vec::new(a);
@@ -93,57 +57,59 @@ fn a_function_of_a_constant(rt: HostRuntime) -> Result<(), Fail> {
         formals,
         locals: Vec::new(a),
         result: Scalar::Int(32),
-        body: two(a, BinOp::Add, name(a, "x")?, number(1))?,
+        body: expression(a, "x + 1")?,
     })?;
-    let e = call(a, "f", name(a, "a")?)?;
-    let found = eval_const(a, &env, &e);
-    assert_eq!(rt; format!(in a; "{found:?}")?.as_str(), "Ok(Num(3))");
-    Ok(())
+    Ok(env)
 }
 
 #[test]
-fn locals_and_results_are_stored(rt: HostRuntime) -> Result<(), Fail> {
-    let a = rt.alloc();
+fn a_function_of_a_constant(rt: HostRuntime) -> Result<(), Fail> {
+    let env = with_successor(rt.alloc())?;
+    hold(&rt, rt.alloc(), &env, Asked::Value, "\n# f(a)\n= 3")
+}
+
+/// A function `g` of a number, with the locals `y` and `z`.
+fn with_locals(a: Global) -> Result<Env, Fail> {
     let mut env = Env::new(a);
     let mut formals = Vec::new(a);
     formals.push(local(a, "x", 8, None)?)?;
     let mut locals = Vec::new(a);
-    locals.push(local(
-        a,
-        "y",
-        8,
-        Some(two(a, BinOp::Add, name(a, "x")?, number(100))?),
-    )?)?;
+    locals.push(local(a, "y", 8, Some(expression(a, "x + 100")?))?)?;
     locals.push(local(a, "z", 8, None)?)?;
     env.add_fun(BoundFun {
         name: String::from_str(a, "g")?,
         formals,
         locals,
         result: Scalar::Uint(4),
-        body: two(a, BinOp::Add, name(a, "y")?, name(a, "z")?)?,
+        body: expression(a, "y + z")?,
     })?;
-    // 200 is -56, -56 + 100 is 44, and 44 modulo 16 is 12
-    let e = call(a, "g", number(200))?;
-    let found = eval_const(a, &env, &e);
-    assert_eq!(rt; format!(in a; "{found:?}")?.as_str(), "Ok(Num(12))");
-    Ok(())
+    Ok(env)
 }
 
 #[test]
-fn a_function_without_arguments(rt: HostRuntime) -> Result<(), Fail> {
-    let a = rt.alloc();
+fn locals_and_results_are_stored(rt: HostRuntime) -> Result<(), Fail> {
+    let env = with_locals(rt.alloc())?;
+    // 200 is -56, -56 + 100 is 44, and 44 modulo 16 is 12
+    hold(&rt, rt.alloc(), &env, Asked::Value, "\n# g(200)\n= 12")
+}
+
+/// A function `seven` without arguments.
+fn with_seven(a: Global) -> Result<Env, Fail> {
     let mut env = Env::new(a);
     env.add_fun(BoundFun {
         name: String::from_str(a, "seven")?,
         formals: Vec::new(a),
         locals: Vec::new(a),
         result: Scalar::Int(32),
-        body: number(7),
+        body: expression(a, "7")?,
     })?;
-    let e = call_without_arguments(a, "seven")?;
-    let found = eval_const(a, &env, &e);
-    assert_eq!(rt; format!(in a; "{found:?}")?.as_str(), "Ok(Num(7))");
-    Ok(())
+    Ok(env)
+}
+
+#[test]
+fn a_function_without_arguments(rt: HostRuntime) -> Result<(), Fail> {
+    let env = with_seven(rt.alloc())?;
+    hold(&rt, rt.alloc(), &env, Asked::Value, "\n# seven()\n= 7")
 }
 
 #[test]

@@ -23,4 +23,6 @@ mod printing;
 #[cfg(test)]
 mod rows;
 #[cfg(test)]
+mod table;
+#[cfg(test)]
 mod values;

@@ -5,6 +5,7 @@ ghost use Rattle.rvc_base.specs.declared.scalar.Scalar.TheVariants as scalar;
 ghost use Rattle.cal_model.specs.Value.{Single};
 ghost use Rattle.cal_model.specs.View.{shape_view};
 
+use crate::table::answered;
 use cal_ast::{Body, Expr, ExprForm, File, Member};
 use cal_lexer::lex;
 use cal_model::{BoundFun, BoundLocal, Kind, Shape, Value, Values};
@@ -100,10 +101,24 @@ fn kind_text(alloc: Global, kind: &Kind) -> Result<String, AllocError> {
     format!(in alloc; "{kind:?}")
 }
 
+/// The file in which a text is an expression.
+fn file_with(alloc: Global, text: &str) -> Result<File, Fail> {
+    let source = format!(in alloc; "{BEFORE}{text}; end")?;
+    Ok(file_of(alloc, source.as_bytes())?)
+}
+
+/// The expression that a text spells.
+pub(crate) fn expression(alloc: Global, text: &str) -> Result<Expr, Fail> {
+    let file = file_with(alloc, text)?;
+    match start_of(&file) {
+        Some(e) => Ok(e.copy(alloc)?),
+        None => Err(Fail::from("no expression")),
+    }
+}
+
 /// The answer for the text of an expression.
 fn answer(alloc: Global, env: &Env, asked: Asked, text: &str) -> Result<String, Fail> {
-    let source = format!(in alloc; "{BEFORE}{text}; end")?;
-    let Ok(file) = file_of(alloc, source.as_bytes()) else {
+    let Ok(file) = file_with(alloc, text) else {
         return Ok(String::from_str(alloc, "no file")?);
     };
     let Some(e) = start_of(&file) else {
@@ -115,18 +130,33 @@ fn answer(alloc: Global, env: &Env, asked: Asked, text: &str) -> Result<String, 
     }
 }
 
-/// Stops at the first row whose answer is another.
+/// Stops unless an expression has its answer.
+fn hold_row(
+    rt: &impl Abort,
+    alloc: Global,
+    env: &Env,
+    asked: Asked,
+    row: &str,
+) -> Result<(), Fail> {
+    let (text, want) = answered(row);
+    let found = answer(alloc, env, asked, text)?;
+    let holds = found.as_str() == want;
+    assert!(rt; holds, "{text} gives {found}");
+    Ok(())
+}
+
+/// Stops at the first expression of a table whose answer is another.
 pub(crate) fn hold(
     rt: &impl Abort,
     alloc: Global,
     env: &Env,
     asked: Asked,
-    rows: &[(&str, &str)],
+    table: &str,
 ) -> Result<(), Fail> {
-    for &(text, want) in rows {
-        let found = answer(alloc, env, asked, text)?;
-        let holds = found.as_str() == want;
-        assert!(rt; holds, "{text} gives {found}");
+    for row in table.split("\n# ") {
+        if !row.is_empty() {
+            hold_row(rt, alloc, env, asked, row)?;
+        }
     }
     Ok(())
 }
