@@ -1,7 +1,8 @@
-use super::*;
-use crate::write::{write_front, write_line};
+//! Lines of a trace that are read, and read back once they were written.
+
 use arrayvec::ArrayVec;
 use rvc_base::Trap;
+use trace_text::{Line, LineReader, Step2, write_front, write_line};
 
 /// Whether a reader takes `line` from the text at its last byte, and wants more before.
 fn is_line(text: &[u8], line: Line) -> bool {

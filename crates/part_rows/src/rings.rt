@@ -1,7 +1,7 @@
 //! A queue across the end of its block.
 
-use crate::Ring;
 use std::test::Fail;
+use token_ring::Ring;
 
 #[test]
 fn a_ring_is_a_list(rt: HostRuntime) -> Result<(), Fail> {

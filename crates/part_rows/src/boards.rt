@@ -4,7 +4,7 @@ ghost use Rattle.std.specs.Prelude.{◌≡◌, ◌*◌, ◌%◌, ◌^◌, ℕ, l
 ghost use Rattle.std.specs.List.{All};
 ghost use Rattle.claim_board.specs.Seen.{IsPassOf};
 
-use crate::{Board, Pass, Piece};
+use claim_board::{Board, Pass, Piece};
 use std::alloc::{AllocError, Global};
 use std::process::Abort;
 use std::thread;

@@ -1,7 +1,7 @@
 use Rattle.std.proofs.Common.{◌≡◌, false, refl, arith}
-use Rattle.claim_board.specs.declared.tests.Doubling.{Doubling}
+use Rattle.part_rows.specs.declared.boards.Doubling.{Doubling}
 use Rattle.claim_board.proofs.Lists.{all-more}
-use Rattle.claim_board.proofs.tests.doublings.Goals as goal
+use Rattle.part_rows.proofs.boards.doublings.Goals as goal
 
 pub loop-number-preserved : goal.loop-number-preserved
 loop-number-preserved c = (

@@ -1,6 +1,6 @@
-//! Worked rows.
+//! Orders of declared pairs.
 
-use super::*;
+use priority_order::{OrderFault, close};
 use std::test::Fail;
 
 #[test]

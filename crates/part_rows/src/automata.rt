@@ -1,6 +1,6 @@
-//! Worked rows.
+//! Automata of steps and free actions.
 
-use super::*;
+use schedule_fsm::{FsmFault, Step, build};
 use std::test::Fail;
 
 const TURN: Step = Step {

@@ -5,7 +5,7 @@ ghost use Rattle.rvc_base.specs.Storing.{IsSize};
 ghost use Rattle.rvc_io.specs.MemFeeds.{feed_is_open, left_on};
 ghost use Rattle.port_files.specs.Coming.{EndIsTrue};
 
-use crate::{Next, TokenFeed, encode};
+use port_files::{Next, TokenFeed, encode};
 use rvc_base::{MAX_SIZE, Num, Scalar};
 use rvc_io::{Feeds, MemFeeds, names_are_distinct};
 use std::alloc::{AllocError, Global};

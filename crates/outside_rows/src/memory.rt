@@ -4,7 +4,7 @@ ghost use Rattle.std.specs.Prelude.{◌≡◌, ◌≤◌, ◌<◌, ◌∷◌, �
 ghost use Rattle.rvc_io.specs.MemFeeds.{FeedsState, feed_is_open};
 ghost use Rattle.rvc_io.specs.MemDrains.{channel_is_open};
 
-use crate::{
+use rvc_io::{
     Drains, Failed, Feeds, Library, MemDrains, MemFeeds, MemLibrary, ReadAnswer, names_are_distinct,
 };
 use std::alloc::{AllocError, Global};

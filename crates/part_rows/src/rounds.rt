@@ -1,6 +1,6 @@
 //! Picks and shares on small numbers.
 
-use crate::{AllPolicy, Policy, SeedPolicy, TurnPolicy, split_budget};
+use round_plan::{AllPolicy, Policy, SeedPolicy, TurnPolicy, split_budget};
 
 #[test]
 fn shares_of_ten_by_three(rt: HostRuntime) {

@@ -1,7 +1,7 @@
 //! Each adapter once on real files, in a folder of its own where the test runs.
 
-use crate::{FileDrains, FileFeeds, FolderLibrary};
 use rvc_io::{Drains, Failed, Feeds, Library, MAX_FILE_BYTES, ReadAnswer};
+use rvc_real::{FileDrains, FileFeeds, FolderLibrary};
 use std::fs;
 use std::test::Fail;
 
