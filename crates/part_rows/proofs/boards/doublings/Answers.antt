@@ -1,6 +1,6 @@
 use Rattle.std.proofs.Common.{◌≡◌, false, refl, arith}
 use Rattle.part_rows.specs.declared.boards.Doubling.{Doubling}
-use Rattle.claim_board.proofs.Lists.{all-more}
+use Rattle.part_rows.proofs.Pushed.{all-more}
 use Rattle.part_rows.proofs.boards.doublings.Goals as goal
 
 pub loop-number-preserved : goal.loop-number-preserved
