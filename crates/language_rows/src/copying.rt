@@ -66,7 +66,7 @@ actor A(int(size=8, type:int) K, int L = 1) int(size=8) In, int B ==> int(size=8
           var int v := 1
           do
             y[x][f(false)] := 2;
-            y := [];
+            y := [3, 4];
           end
         end
       end

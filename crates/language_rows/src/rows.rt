@@ -102,9 +102,11 @@ fn kind_text(alloc: Global, kind: &Kind) -> Result<String, AllocError> {
 }
 
 /// The file in which a text is an expression.
-fn file_with(alloc: Global, text: &str) -> Result<File, Fail> {
-    let source = format!(in alloc; "{BEFORE}{text}; end")?;
-    Ok(file_of(alloc, source.as_bytes())?)
+fn file_with(alloc: Global, text: &str) -> Result<File, Front> {
+    let Ok(source) = format!(in alloc; "{BEFORE}{text}; end") else {
+        return Err(Front::Memory);
+    };
+    file_of(alloc, source.as_bytes())
 }
 
 /// The expression that a text spells.
