@@ -7,6 +7,7 @@ pub mod Setting
 pub mod Copying
 pub mod Changed
 pub mod DeepItems
+pub mod NamedParts
 pub mod ItemsKept
 pub mod Leaves
 pub mod FillingRuns
