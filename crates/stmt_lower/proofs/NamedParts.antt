@@ -1,5 +1,5 @@
 -- The code that stores the list of a name, in a part of a list or in a whole one, does what executing the assignment does.
-use Rattle.std.proofs.Common.{◌≡◌, ℕ, ◌+◌, ◌≤◌, ◌⊎◌, inl, inr, ⊎_elim, List, ◌++◌, length, Bool, true, false, refl, sym, ap, ◌∙◌, subst, Option, Some, arith, length-append}
+use Rattle.std.proofs.Common.{◌≡◌, ℕ, ◌+◌, ◌≤◌, ◌⊎◌, inl, inr, ⊎_elim, ℤ, List, [], ◌∷◌, ◌++◌, length, Bool, true, false, refl, sym, ap, ◌∙◌, subst, Option, Some, arith, length-append}
 use Rattle.std.specs.Prelude.{slice_get}
 use Rattle.std.specs.Str.{bytes_eq}
 use Rattle.std.proofs.lemmas.Option.{slice_get_within}
@@ -7,7 +7,7 @@ use Rattle.rvc_base.specs.declared.scalar.Scalar.{Scalar}
 use Rattle.std.proofs.lemmas.Slice.Eq.{bytes_eq-Decides}
 use Rattle.cal_ast.specs.Tree as tree
 use Rattle.cal_ast.specs.Tree.{Tree}
-use Rattle.cal_model.specs.Value.{Shape, Value, scalars_of_type}
+use Rattle.cal_model.specs.Value.{Shape, Value, Nil, IsType, scalars_of_type, stored}
 use Rattle.cal_model.specs.Outcome.{Out, Gives, and_then, known}
 use Rattle.cal_model.specs.Env.{assign}
 use Rattle.cal_model.specs.Expression.{eval, eval_all}
