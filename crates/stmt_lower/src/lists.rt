@@ -98,10 +98,7 @@ pub(crate) fn set_filled(
         return Err(LowerFault::NotLowered { at });
     };
     if let Some(from) = source_of(&scope.values, whole.shape, value) {
-        return put(
-            draft,
-            Instr::Copy(to.cell, from, to.size, Some(to.kind)),
-        );
+        return put(draft, Instr::Copy(to.cell, from, to.size, Some(to.kind)));
     }
     let first = take_row(to.size as usize, draft)?;
     fill(&scope.values, value, whole.shape, first, draft)?;

@@ -1,4 +1,4 @@
-use Rattle.std.proofs.Common.{◌≡◌, None, Some, rules, string_bytes, sym}
+use Rattle.std.proofs.Common.{◌≡◌, Some, rules, string_bytes, sym}
 use Rattle.std.proofs.lemmas.Result.{on_ok_weaker}
 use Rattle.cal_ast.specs.View.{expr_tree}
 use Rattle.cal_ast.specs.Tree as tree
