@@ -89,7 +89,14 @@ fn guard_stands(parts: &Parts, action: &ActionCode, entry: u32) -> bool
         → IsTrue result }
 {
     match limit_of(parts, entry as usize) {
-        Some(limit) => entry_stands(parts, false, &action.needs, Last::Answer, entry as usize, limit),
+        Some(limit) => entry_stands(
+            parts,
+            false,
+            &action.needs,
+            Last::Answer,
+            entry as usize,
+            limit,
+        ),
         None => false,
     }
 }
@@ -227,7 +234,15 @@ fn routine_stands(parts: &Parts, limit: usize, firing: bool, r: usize) -> bool
 {
     match parts.code.routines().get(r) {
         Some(routine) => {
-            body_stands(parts, limit, firing, &[], Last::Return, r, routine.start as usize)
+            body_stands(
+                parts,
+                limit,
+                firing,
+                &[],
+                Last::Return,
+                r,
+                routine.start as usize,
+            )
         }
         None => false,
     }
