@@ -144,7 +144,7 @@ fn hold_row(rt: &impl Abort, alloc: Global, row: &str) -> Result<(), Fail> {
 
 /// Stops unless all cells do what is told. A table is one text: each row begins with `# ` and what it shows, and has a
 /// source, a line `> ` with the tokens, and a line `= ` with what comes of them.
-fn hold(rt: &impl Abort, alloc: Global, table: &str) -> Result<(), Fail> {
+pub(crate) fn hold(rt: &impl Abort, alloc: Global, table: &str) -> Result<(), Fail> {
     for row in table.split("\n# ") {
         if !row.is_empty() {
             hold_row(rt, alloc, row)?;
