@@ -5,3 +5,4 @@ pub mod Settled
 pub mod Standing
 pub mod Fitting
 pub mod RoutineWords
+pub mod Leaves
