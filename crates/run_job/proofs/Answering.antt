@@ -185,13 +185,13 @@ module _ (job : Job) (library : loading.Library) (misses faults : loading.Counts
       → ((inputs : List (List ℕ)) → AreGiven cmd net inputs → LeavesRun (run_over cmd net inputs) (Came line) counts between)
       → Ran cmd net line counts (lines_at image names job (Ok (record { end = end.Quiet; counts = counts }))) (about_image image names job)
   unfolding to_run files
-  some_ran line counts permitted within touches open leaves = record {
+  some_ran line counts permitted within touches are_open leaves = record {
     is_to_run = to_run permitted.matched;
     fits = within_growth permitted.fits;
     leaves = λ inputs given. ended (run_over cmd net inputs) between new only line counts (leaves inputs given);
     within = within;
     touches = touches;
-    opened = all_open open;
+    opened = all_open are_open;
     sound = has.sound;
     certified = count_none image.uncertified.items;
     are_certified = certified;
@@ -204,11 +204,11 @@ module _ (job : Job) (library : loading.Library) (misses faults : loading.Counts
       → ((inputs : List (List ℕ)) → AreGiven cmd net inputs → LeavesRun (run_over cmd net inputs) (ending_of how) counts between)
       → Comes cmd (status_at how counts.firings) (lines_at image names job (Ok (record { end = end.Quiet; counts = counts }))) (about_image image names job)
   unfolding to_run files
-  how_ended end.Quiet counts permitted within touches open caused leaves = (net, record { counts = counts; ran = some_ran _ counts permitted within touches open leaves })
-  how_ended (end.Trapped inst action trap) counts permitted within touches open caused leaves = (net, record { counts = counts; ran = some_ran _ counts permitted within touches open leaves })
-  how_ended (end.Stalled inst action link) counts permitted within touches open caused leaves = (net, record { counts = counts; ran = some_ran _ counts permitted within touches open leaves })
-  how_ended end.Budget counts permitted within touches open caused leaves = (net, record { counts = counts; ran = some_ran BudgetLine counts permitted within touches open leaves; firings_are = refl })
-  how_ended (end.ReadFault feed) counts permitted within touches open caused leaves = (
+  how_ended end.Quiet counts permitted within touches are_open caused leaves = (net, record { counts = counts; ran = some_ran _ counts permitted within touches are_open leaves })
+  how_ended (end.Trapped inst action trap) counts permitted within touches are_open caused leaves = (net, record { counts = counts; ran = some_ran _ counts permitted within touches are_open leaves })
+  how_ended (end.Stalled inst action link) counts permitted within touches are_open caused leaves = (net, record { counts = counts; ran = some_ran _ counts permitted within touches are_open leaves })
+  how_ended end.Budget counts permitted within touches are_open caused leaves = (net, record { counts = counts; ran = some_ran BudgetLine counts permitted within touches are_open leaves; firings_are = refl })
+  how_ended (end.ReadFault feed) counts permitted within touches are_open caused leaves = (
     net,
     record {
       is_to_run = to_run permitted.matched;
@@ -221,19 +221,19 @@ module _ (job : Job) (library : loading.Library) (misses faults : loading.Counts
         leaves = λ inputs given. cut (run_over cmd net inputs) between new only counts (leaves inputs given);
         within = within;
         touches = touches;
-        opened = all_open open;
+        opened = all_open are_open;
       });
       about_is = about_is;
     },
   )
-  how_ended (end.WriteFault channel) counts permitted within touches open caused leaves = (
+  how_ended (end.WriteFault channel) counts permitted within touches are_open caused leaves = (
     net,
     record {
       is_to_run = to_run permitted.matched;
       fits = within_growth permitted.fits;
       counted = risen_to old.faults between.faults new.faults caused.0 only.faults_stay;
       is_channel = subst (λ ps. IsChannelOf ps (asks.words_of job) channel) (sym outs_are) caused.1;
-      how = inr (all_open open);
+      how = inr (all_open are_open);
       leaves = λ inputs given. broken (run_over cmd net inputs) between new only (leaves inputs given);
       touches = touches;
     },
