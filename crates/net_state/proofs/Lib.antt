@@ -22,3 +22,4 @@ pub mod Readied
 pub mod Surveying
 pub mod Shared
 pub mod Alone
+pub mod Arriving

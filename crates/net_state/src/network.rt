@@ -5,11 +5,11 @@ ghost use Rattle.rvc_io.specs.Feeds.{PullsOnly, ReadFails};
 ghost use Rattle.net_model.specs.Paced.{count_picked};
 ghost use Rattle.port_files.specs.Coming.{EndIsTrue};
 ghost use Rattle.net_state.specs.Beginning.{AreLawfulIn};
-ghost use Rattle.net_state.specs.Fed.{AllArriveOn, FillsOn, IsFullOn, KeepsRest};
+ghost use Rattle.net_state.specs.Fed.{AllArriveOn, DueForOn, FillsOn, IsFullOn, KeepsRest};
 ghost use Rattle.net_state.specs.Filling.{IsInputLink};
 ghost use Rattle.net_state.specs.Held.{AreCounted, CanWork, capacity_of, room_of, seen};
 ghost use Rattle.net_state.specs.Moving.{IsFromCell, IsOutput, SameActors, SameMarks, carried_on};
-ghost use Rattle.net_state.specs.Sharing.{AreFresh, AreShares, WorkEach, share_of};
+ghost use Rattle.net_state.specs.Sharing.{AreFresh, AreShares, HaveArrived, WorkEach, share_of};
 ghost use Rattle.net_state.specs.Surveyed.{AreSettled, AreUntrapped, IsOutlook, NamesFound, NamesLink, StallsAt, StillStand, Tells};
 ghost use Rattle.net_state.specs.Working.{CanHold, GrewTo, HasAction, IsAtRest, IsLowestLacking, LacksAsEnds, LacksAt, LooksAt, MayBurst, MayWork, TriesAt, WorksAt, journal_of};
 ghost use Rattle.net_state.specs.Standing.{AreAllOut, IsTrueOfUnarrived, LeadInside, StandAtStart};
@@ -276,7 +276,8 @@ impl<A: Firing> NetState<A> {
     ///
     /// # Errors
     ///
-    /// `Failed` if bytes couldn't be pulled (`failed`). What came before that stays.
+    /// `Failed` if bytes couldn't be pulled (`failed`), of which some were due: the link isn't full, and no whole token was
+    /// left of what was pulled (`due`). What came before that stays.
     pub fn fill<F: Feeds>(
         &mut self,
         link: LinkId,
@@ -293,6 +294,8 @@ impl<A: Firing> NetState<A> {
         ensures arrivals { AllArriveOn A.cell F.feeds link.0 feed self.old tokens.old feeds.old
             result }
         ensures rests { IsAtRest (seen A.cell self.old) → IsAtRest (seen A.cell self.new) }
+        ensures failed { OnErr result (ReadFails F.feeds feeds.old feeds.new) }
+        ensures due { DueForOn A.cell F.feeds link.0 self.new tokens.new result }
 
         // What stays.
         ensures same_actors { SameActors (map A.cell self.old.cells) (map A.cell self.new.cells) }
@@ -300,7 +303,6 @@ impl<A: Firing> NetState<A> {
         ensures links { self.new.links ≡ self.old.links }
         ensures capacities { self.new.capacities ≡ self.old.capacities }
         ensures waited { self.new.waited ≡ self.old.waited }
-        ensures failed { OnErr result (ReadFails F.feeds feeds.old feeds.new) }
         ensures kind { tokens.new.kind ≡ tokens.old.kind }
         ensures same_rest { KeepsRest F.feeds feed tokens.old tokens.new feeds.old feeds.new }
         ensures still_same_feed { EndIsTrue tokens.new ((F.feeds feeds.new).left feed) }
@@ -387,6 +389,7 @@ impl<A: Firing + Send> NetState<A> {
         ensures work { WorkEach (share_of shares) 0 0 marks.now (seen A.cell self.old) result
             (seen A.cell self.new) }
         ensures few { result.fired ≤ 65536 * count_picked marks.now }
+        ensures arrived { HaveArrived (G.arrived gate.now) crew }
     {
         let part = Part {
             cell: 0,

@@ -1,6 +1,5 @@
 mod Written
 mod UpTo
 mod Marks
-mod Stepping
-mod Halving
 mod Sharing
+mod Arrived
