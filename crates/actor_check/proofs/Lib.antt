@@ -7,5 +7,6 @@ mod SamePairs
 mod InsideParts
 mod Putting
 mod Ported
+mod Sifted
 mod Telling
 mod Naming

@@ -1,5 +1,5 @@
 -- What the check of an actor says, of what its parts break.
-use Rattle.std.proofs.Common.{◌≡◌, ◌⊎◌, inl, inr, Bool, true, false, List, [], ◌∷◌, ◌++◌, map, refl, sym, ap, subst, ◌∙◌, append-nil, arith}
+use Rattle.std.proofs.Common.{◌≡◌, ◌⊎◌, inl, inr, Err, Bool, true, false, List, [], ◌∷◌, ◌++◌, map, refl, sym, ap, subst, ◌∙◌, append-nil, arith}
 use Rattle.std.specs.Prelude.{Contains, Option, None, Some, if◌then◌else◌, not, ◌&&◌, ◌||◌, ◌==◌}
 use Rattle.std.specs.declared.result.Result.{Result}
 use Rattle.std.proofs.lemmas.Bool.Decides.{nat_tests}
@@ -16,20 +16,22 @@ use Rattle.cal_model.specs.Kinding.{Judged, Fine, Broken, Names}
 use Rattle.cal_model.specs.Sound.{Each}
 use Rattle.cal_model.specs.Value.{Shape}
 use Rattle.cal_model.specs.declared.bound.Bound.{Bound}
-use Rattle.cal_check.proofs.Lists.{at-head, in-none}
+use Rattle.cal_check.proofs.Lists.{at-head, each-append, in-none}
 use Rattle.cal_check.specs.Constants.{early_type}
 use Rattle.cal_check.specs.Routines.{FunDecl}
-use Rattle.cal_check.specs.Actors.{Conforms, IsViolated, Source, actor_given, all_found, all_said, all_valued, around_of, behind_variables, declared_vars, first_valueless, has_heads, is_held, members_found, members_of, said_or_all, violations}
+use Rattle.cal_check.specs.Actors.{Conforms, IsViolated, Source, actor_given, all_found, all_said, all_valued, around_of, behind_variables, declared_vars, first_valueless, has_heads, header_found, heads_found, inside_found, is_empty, is_held, members_found, said_or_all, violations}
 use Rattle.cal_check.specs.Variables.{Found, Given, Spot, VarDecl, Valued, none_yet, seen, valued, with_type, with_var}
 use Rattle.variable_check.specs.Causes.{IsCause, SaysRule, inconstant}
 use Rattle.variable_check.specs.Valuing.{AreAt, first_in, left_over, valueless}
 use Rattle.actor_check.specs.Checked.{IsChecked, IsComplete, IsRefused, IsUnsaid, found_of}
 use Rattle.actor_check.specs.Early.{wrongly_given}
-use Rattle.actor_check.specs.Members.{AreMembers, Settles, not_constant_at, place_left, said_first}
-use Rattle.actor_check.specs.Parts.{IsCycleIn, header_names}
+use Rattle.actor_check.specs.Members.{AreMembers, FindsMembers, Settles, not_constant_at, place_left, said_first}
+use Rattle.actor_check.specs.Parts.{FindsInside, header_names}
 use Rattle.actor_check.specs.Phases.{header_over}
-use Rattle.actor_check.proofs.Behind.{behind_none, given_breaks, header_breaks, members_break, members_none}
+use Rattle.actor_check.specs.Sifting.{IsFault, IsLack}
+use Rattle.actor_check.proofs.Behind.{behind_none, given_breaks, header_breaks, heads_are_fine, heads_break, inside_break, members_break, members_none}
 use Rattle.actor_check.proofs.Chain.{behind_break, first_said, variables_break}
+use Rattle.actor_check.proofs.Sifted.{rule_of}
 
 -- ---- more variables break no less
 
@@ -55,12 +57,7 @@ pub cause_kept : (f : Front) (xs : List VarDecl) (gs : List Given) (owner : Spot
 cause_kept (front.Refused r) xs gs owner fs vs h = valued_keeps xs gs owner fs vs _ h
 cause_kept front.Memory xs gs owner fs vs h = tt
 
--- ---- a rule that is broken, and perhaps another one is said in its place
-
-rule_of : (r : Rule) → (r.0 == not_constant.0) ≡ true → r ≡ not_constant
-rule_of r e =
-    let same : r.0 ≡ not_constant.0 = grind (arith, nat_tests) in
-    ap (λ n. record { 0 = n }) same
+-- ---- what is said of what is broken
 
 other : (hides b : Bool) → b ≡ false → (hides && b) ≡ false
 other true b e = e
@@ -69,20 +66,170 @@ other false b e = refl
 shown : (hides b : Bool) → hides ≡ false → (hides && b) ≡ false
 shown hides b e = ap (λ h. h && b) e
 
-abbrev Told : Source → List Given → Spot → Found → Type 0
-Told s gs owner f = IsViolated s gs owner f ⊎ IsUnsaid s gs owner f
-
 all_are_said : (fs : List Found) → all_said false fs ≡ fs
 all_are_said [] = refl
 all_are_said (f ∷ fs) = ap (λ gs. f ∷ gs) (all_are_said fs)
 
-clash : true ≡ false → ⊥
-clash h = cc
+none_said : (fs : List Found) → Each IsLack fs → all_said true fs ≡ []
+none_said [] h = refl
+none_said (f ∷ fs) h =
+    ap (λ r. if r.0 == not_constant.0 then all_said true fs else f ∷ all_said true fs) h.0 ∙ none_said fs h.1
 
+each_said : (hides : Bool) (fs : List Found) → Each IsLack fs → Each IsLack (all_said hides fs)
+each_said hides [] h = tt
+each_said hides (f ∷ fs) h = go (hides && (f.violation.rule.0 == not_constant.0)) (each_said hides fs h.1)
+  where
+    go : (b : Bool) → Each IsLack (all_said hides fs) → Each IsLack (if b then all_said hides fs else f ∷ all_said hides fs)
+    go true k = k
+    go false k = (h.0, k)
+
+only_constants : (ps : List Place) (fs : List Found) → fs ≡ map inconstant ps → Each IsLack fs
+only_constants ps fs e = subst (Each IsLack) (sym e) (go ps)
+  where
+    go : (ps : List Place) → Each IsLack (map inconstant ps)
+    go [] = tt
+    go (p ∷ ps) = (refl, go ps)
+
+-- ---- nothing is broken but that something isn't constant
+
+-- of the variables, or behind them if they break nothing
+abbrev IsFirstLack : List Found → List Found → Found → Type 0
+IsFirstLack breaks behind f = Contains breaks f ⊎ ((breaks ≡ []) × Contains behind f)
+
+in_all : (breaks behind : List Found) (f : Found) → IsFirstLack breaks behind f → Contains (breaks ++ behind) f
+in_all breaks behind f (inl h) = Contains-append_left breaks behind f h
+in_all breaks behind f (inr (none, h)) = Contains-append_right breaks behind f h
+
+lacks_said : (hides useless : Bool) (breaks behind valueless : List Found) (f : Found) → Each IsLack breaks → Each IsLack behind → IsFirstLack breaks behind f
+    → Contains (said_or_all (all_said hides (breaks ++ all_said useless behind)) (said_or_all (breaks ++ behind) valueless)) f
+lacks_said true useless breaks behind valueless f b k h =
+    subst (λ xs. Contains (said_or_all xs (said_or_all (breaks ++ behind) valueless)) f)
+    (sym (none_said (breaks ++ all_said useless behind) (each-append IsLack breaks (all_said useless behind) b (each_said useless behind k))))
+    (first_said (breaks ++ behind) valueless f (in_all breaks behind f h))
+lacks_said false useless breaks behind valueless f b k (inl h) =
+    first_said _ _ f (subst (λ xs. Contains xs f) (sym (all_are_said (breaks ++ all_said useless behind)))
+    (Contains-append_left breaks (all_said useless behind) f h))
+lacks_said false false breaks behind valueless f b k (inr (none, h)) =
+    first_said _ _ f (subst (λ xs. Contains xs f) (sym (all_are_said (breaks ++ all_said false behind)))
+    (Contains-append_right breaks (all_said false behind) f (subst (λ xs. Contains xs f) (sym (all_are_said behind)) h)))
+lacks_said false true breaks behind valueless f b k (inr (none, h)) =
+    subst (λ xs. Contains (said_or_all xs (said_or_all (breaks ++ behind) valueless)) f)
+    (sym (all_are_said (breaks ++ all_said true behind) ∙ ap (λ bs. bs ++ all_said true behind) none ∙ none_said behind k))
+    (first_said (breaks ++ behind) valueless f (Contains-append_right breaks behind f h))
+
+lacks_told : (s : Source) (gs : List Given) (owner : Spot) (f : Found) → Each IsLack (all_valued s gs owner).breaks
+    → Each IsLack (behind_variables s gs owner (around_of s gs owner))
+    → IsFirstLack (all_valued s gs owner).breaks (behind_variables s gs owner (around_of s gs owner)) f → IsViolated s gs owner f
+lacks_told s gs owner f b k h =
+    inl (lacks_said (not (has_heads s (around_of s gs owner))) (all_valued s gs owner).useless (all_valued s gs owner).breaks
+    (behind_variables s gs owner (around_of s gs owner)) (valueless (declared_vars s) owner (all_valued s gs owner)) f b k h)
+
+-- ---- a rule that is broken behind the variables
+
+-- one that is said whatever else is broken
+behind_said : (s : Source) (gs : List Given) (owner : Spot) (f : Found) → (f.violation.rule.0 == not_constant.0) ≡ false
+    → Contains (behind_variables s gs owner (around_of s gs owner)) f → IsViolated s gs owner f
+behind_said s gs owner f e h = inl (behind_break s gs owner (around_of s gs owner) f (other _ _ e) (other _ _ e) h)
+
+says_first : (noted : Option Place) (r : Refusal) → (r.rule.0 == not_constant.0) ≡ false → said_first noted (front.Refused r) ≡ front.Refused r
+says_first None r e = refl
+says_first (Some p) r e = ap (λ b. if b then not_constant_at p else front.Refused r) e
+
+lacks_first : (p : Place) (r : Refusal) → (r.rule.0 == not_constant.0) ≡ true → said_first (Some p) (front.Refused r) ≡ not_constant_at p
+lacks_first p r e = ap (λ b. if b then not_constant_at p else front.Refused r) e
+
+first_place : (p : Place) (ps : List Place) (fs : List Found) → fs ≡ map inconstant (p ∷ ps) → Contains fs (inconstant p)
+first_place p ps fs e = subst (λ gs. Contains gs (inconstant p)) (sym e) (at-head (inconstant p) (inconstant p) (map inconstant ps) refl)
+
+-- it is said whatever else is broken, or nothing is broken behind the variables but that something isn't constant
+fault_told : (r : Refusal) (ps : List Place) (s : Source) (gs : List Given) (owner : Spot) → (all_valued s gs owner).breaks ≡ map inconstant ps
+    → Contains (behind_variables s gs owner (around_of s gs owner)) (found_of r)
+    → SaysRule (front.Refused r) ⊎ Each IsLack (behind_variables s gs owner (around_of s gs owner))
+    → IsRefused (said_first (first_in ps) (front.Refused r)) s gs owner
+fault_told r ps s gs owner e h (inl says) =
+    subst (λ f. IsRefused f s gs owner) (sym (says_first (first_in ps) r says)) (inl (behind_said s gs owner (found_of r) says h))
+fault_told r ps s gs owner e h (inr only) = go (r.rule.0 == not_constant.0) refl ps e
+  where
+    go : (b : Bool) → (r.rule.0 == not_constant.0) ≡ b → (ps : List Place) → (all_valued s gs owner).breaks ≡ map inconstant ps
+        → IsRefused (said_first (first_in ps) (front.Refused r)) s gs owner
+    go false i ps e =
+        subst (λ f. IsRefused f s gs owner) (sym (says_first (first_in ps) r i)) (inl (behind_said s gs owner (found_of r) i h))
+    go true i [] e = inl (lacks_told s gs owner (found_of r) (only_constants [] (all_valued s gs owner).breaks e) only (inr (e, h)))
+    go true i (p ∷ ps) e =
+        subst (λ f. IsRefused f s gs owner) (sym (lacks_first p r i))
+        (inl (lacks_told s gs owner (inconstant p) (only_constants (p ∷ ps) (all_valued s gs owner).breaks e) only
+        (inl (first_place p ps (all_valued s gs owner).breaks e))))
+
+-- ---- of the variables, and of what they are given
+
+pub early_refuses : (f : Front) (s : Source) (gs : List Given) (owner : Spot) → IsCause f (all_valued s gs owner).breaks × SaysRule f → IsRefused f s gs owner
+early_refuses (front.Refused r) s gs owner h =
+    inl (inl (variables_break s gs owner (around_of s gs owner) (found_of r) (other _ _ h.1) h.0))
+early_refuses front.Memory s gs owner h = tt
+
+pub given_refuses : (f : Front) (s : Source) (gs : List Given) (owner : Spot) → IsCause f (wrongly_given s gs) → SaysRule f → IsRefused f s gs owner
+given_refuses (front.Refused r) s gs owner h said =
+    inl (behind_said s gs owner (found_of r) said (given_breaks s gs owner (around_of s gs owner) (found_of r) h))
+given_refuses front.Memory s gs owner h said = tt
+
+-- ---- the header
+
+only_header : (wrong hs members : List Found) (f : Found) → wrong ≡ [] → Contains hs f → Each IsLack hs
+    → Each IsLack (wrong ++ (hs ++ (if is_empty hs then members else [])))
+only_header [] [] members f e c h = absurd (in-none f c)
+only_header [] (g ∷ hs) members f e c h = each-append IsLack (g ∷ hs) [] h tt
+only_header (w ∷ wrong) hs members f e c h = absurd (cc)
+
+header_fault_told : (g : Front) (ps : List Place) (s : Source) (gs : List Given) (owner : Spot) → (all_valued s gs owner).breaks ≡ map inconstant ps
+    → wrongly_given s gs ≡ [] → IsFault g (header_over s (header_names s gs owner)) → IsRefused (said_first (first_in ps) g) s gs owner
+header_fault_told (front.Refused r) ps s gs owner e given (cause, inl says) =
+    fault_told r ps s gs owner e (header_breaks s gs owner (around_of s gs owner) (found_of r) cause) (inl says)
+header_fault_told (front.Refused r) ps s gs owner e given (cause, inr only) =
+    fault_told r ps s gs owner e (header_breaks s gs owner (around_of s gs owner) (found_of r) cause)
+    (inr (only_header (wrongly_given s gs) (header_found s gs owner) (members_found s (around_of s gs owner) (actor_given s gs owner) (all_valued s gs owner).whole)
+    (found_of r) given cause only))
+header_fault_told front.Memory [] s gs owner e given h = tt
+header_fault_told front.Memory (p ∷ ps) s gs owner e given h = tt
+
+pub header_refuses : (f g : Front) (noted : Option Place) (ps : List Place) (s : Source) (gs : List Given) (owner : Spot) → noted ≡ first_in ps
+    → (all_valued s gs owner).breaks ≡ map inconstant ps → f ≡ said_first noted g → wrongly_given s gs ≡ []
+    → IsFault g (header_over s (header_names s gs owner)) → IsRefused f s gs owner
+header_refuses f g noted ps s gs owner first e says given h =
+    subst (λ x. IsRefused x s gs owner) (sym (says ∙ ap (λ o. said_first o g) first)) (header_fault_told g ps s gs owner e given h)
+
+-- ---- heads
+
+only_heads : (wrong header hs inside : List Found) (whole : Bool) (f : Found) → wrong ≡ [] → header ≡ [] → whole ≡ true → Contains hs f → Each IsLack hs
+    → Each IsLack (wrong ++ (header ++ (if is_empty header then (if not whole then [] else if is_empty hs then inside else hs) else [])))
+only_heads [] [] [] inside true f w h e c i = absurd (in-none f c)
+only_heads [] [] (g ∷ hs) inside true f w h e c i = i
+only_heads [] [] hs inside false f w h e c i = absurd (cc)
+only_heads [] (g ∷ header) hs inside whole f w h e c i = absurd (cc)
+only_heads (g ∷ wrong) header hs inside whole f w h e c i = absurd (cc)
+
+heads_told : (f : Front) (ps : List Place) (s : Source) (gs : List Given) (owner : Spot) → (all_valued s gs owner).breaks ≡ map inconstant ps
+    → wrongly_given s gs ≡ [] → header_over s (header_names s gs owner) ≡ [] → (all_valued s gs owner).whole ≡ true
+    → IsFault f (heads_found s (around_of s gs owner).names) → IsRefused (said_first (first_in ps) f) s gs owner
+heads_told (front.Refused r) ps s gs owner e given header whole fault = fault_told r ps s gs owner e there (go fault.1)
+  where
+    there : Contains (behind_variables s gs owner (around_of s gs owner)) (found_of r)
+    there = members_break s gs owner (around_of s gs owner) (found_of r) header
+        (heads_break s (around_of s gs owner) (actor_given s gs owner) (all_valued s gs owner).whole (found_of r) whole fault.0)
+
+    go : SaysRule (front.Refused r) ⊎ Each IsLack (heads_found s (around_of s gs owner).names)
+        → SaysRule (front.Refused r) ⊎ Each IsLack (behind_variables s gs owner (around_of s gs owner))
+    go (inl says) = inl says
+    go (inr only) = inr (only_heads (wrongly_given s gs) (header_found s gs owner) (heads_found s (around_of s gs owner).names)
+        (inside_found s (around_of s gs owner) (actor_given s gs owner)) (all_valued s gs owner).whole (found_of r) given header whole fault.0 only)
+heads_told front.Memory [] s gs owner e given header whole h = tt
+heads_told front.Memory (p ∷ ps) s gs owner e given header whole h = tt
+
+-- ---- what is inside
+
+-- the first that is said while another hides what isn't constant
 same_head : (f g : Found) (fs gs : List Found) → f ∷ fs ≡ g ∷ gs → f ≡ g
 same_head f g fs gs h = cc
 
--- the first that is said while another hides what isn't constant
 first_other : (fs : List Found) (g : Found) (gs : List Found) → all_said true fs ≡ g ∷ gs → (g.violation.rule.0 == not_constant.0) ≡ false
 first_other [] g gs h = cc
 first_other (f ∷ fs) g gs h = go (f.violation.rule.0 == not_constant.0) refl h (λ i. first_other fs g gs i)
@@ -92,27 +239,13 @@ first_other (f ∷ fs) g gs h = go (f.violation.rule.0 == not_constant.0) refl h
     go true e i k = k i
     go false e i k = subst (λ x. (x.violation.rule.0 == not_constant.0) ≡ false) (same_head f g (all_said true fs) gs i) e
 
-other_said : (hides useless : Bool) (breaks behind : List Found) (g : Found) (gs : List Found) → all_said hides (breaks ++ all_said useless behind) ≡ g ∷ gs
-    → (hides ≡ true) ⊎ ((useless ≡ true) × (breaks ≡ [])) → (g.violation.rule.0 == not_constant.0) ≡ false
-other_said true useless breaks behind g gs e i = first_other (breaks ++ all_said useless behind) g gs e
-other_said false useless breaks behind g gs e (inl i) = absurd (clash (sym i))
-other_said false useless breaks behind g gs e (inr (u, none)) =
-    let all : all_said false (breaks ++ all_said useless behind) ≡ all_said true behind =
-    all_are_said (breaks ++ all_said useless behind) ∙ ap (λ bs. bs ++ all_said useless behind) none ∙ ap (λ b. all_said b behind) u in
-    first_other behind g gs (sym all ∙ e)
-
--- what isn't constant is said, or another rule in its place
-said_or_another : (s : Source) (gs : List Given) (owner : Spot) (f : Found) → Contains (all_found s gs owner (around_of s gs owner)) f → f.violation.rule ≡ not_constant
-    → (has_heads s (around_of s gs owner) ≡ false) ⊎ (((all_valued s gs owner).useless ≡ true) × ((all_valued s gs owner).breaks ≡ []))
-    → Told s gs owner f
-said_or_another s gs owner f h rule unsaid = go (all_said hides (breaks ++ all_said useless behind)) refl
+-- a variable has no value of use, and none isn't constant: what isn't constant behind them is said, or another rule in its place
+said_or_another : (s : Source) (gs : List Given) (owner : Spot) (f : Found) → has_heads s (around_of s gs owner) ≡ true
+    → Contains (inside_found s (around_of s gs owner) (actor_given s gs owner)) f → Contains (behind_variables s gs owner (around_of s gs owner)) f
+    → f.violation.rule ≡ not_constant → (all_valued s gs owner).useless ≡ true → (all_valued s gs owner).breaks ≡ []
+    → IsViolated s gs owner f ⊎ IsUnsaid s gs owner f
+said_or_another s gs owner f heads inside there rule useless none = go (all_said true behind) refl
   where
-    hides : Bool
-    hides = not (has_heads s (around_of s gs owner))
-
-    useless : Bool
-    useless = (all_valued s gs owner).useless
-
     breaks : List Found
     breaks = (all_valued s gs owner).breaks
 
@@ -122,121 +255,78 @@ said_or_another s gs owner f h rule unsaid = go (all_said hides (breaks ++ all_s
     others : List Found
     others = said_or_all (all_found s gs owner (around_of s gs owner)) (valueless (declared_vars s) owner (all_valued s gs owner))
 
-    hidden : (has_heads s (around_of s gs owner) ≡ false) ⊎ ((useless ≡ true) × (breaks ≡ [])) → (hides ≡ true) ⊎ ((useless ≡ true) × (breaks ≡ []))
-    hidden (inl i) = inl (ap not i)
-    hidden (inr i) = inr i
+    -- of all that is broken this is said
+    first : all_said (not (has_heads s (around_of s gs owner))) (breaks ++ all_said (all_valued s gs owner).useless behind) ≡ all_said true behind
+    first = ap (λ h. all_said (not h) (breaks ++ all_said (all_valued s gs owner).useless behind)) heads
+        ∙ all_are_said (breaks ++ all_said (all_valued s gs owner).useless behind)
+        ∙ ap (λ bs. bs ++ all_said (all_valued s gs owner).useless behind) none ∙ ap (λ u. all_said u behind) useless
 
-    go : (first : List Found) → all_said hides (breaks ++ all_said useless behind) ≡ first → Told s gs owner f
-    go [] e = inl (inl (subst (λ fs. Contains (said_or_all fs others) f) (sym e)
-        (first_said (all_found s gs owner (around_of s gs owner)) (valueless (declared_vars s) owner (all_valued s gs owner)) f h)))
-    go (g ∷ first) e = inr (record {
-      broken = h;
+    go : (said : List Found) → all_said true behind ≡ said → IsViolated s gs owner f ⊎ IsUnsaid s gs owner f
+    go [] e = inl (inl (subst (λ fs. Contains (said_or_all fs others) f) (sym (first ∙ e))
+        (first_said (all_found s gs owner (around_of s gs owner)) _ f (Contains-append_right breaks behind f there))))
+    go (g ∷ gs) e = inr (record {
+      broken = inside;
       rule = rule;
-      unsaid = unsaid;
+      useless = useless;
+      constant = none;
       instead = g;
-      violated = inl (subst (λ fs. Contains (said_or_all fs others) g) (sym e) (at-head g g first refl));
-      another = other_said hides useless breaks behind g first e (hidden unsaid);
+      violated = inl (subst (λ fs. Contains (said_or_all fs others) g) (sym (first ∙ e)) (at-head g g gs refl));
+      another = first_other behind g gs e;
     })
 
-behind_told : (s : Source) (gs : List Given) (owner : Spot) (f : Found) → (all_valued s gs owner).breaks ≡ []
-    → Contains (behind_variables s gs owner (around_of s gs owner)) f → Told s gs owner f
-behind_told s gs owner f none h =
-    go (f.violation.rule.0 == not_constant.0) (has_heads s (around_of s gs owner)) (all_valued s gs owner).useless refl refl refl
+inside_cause : (r : Refusal) (ps : List Place) (s : Source) (gs : List Given) (owner : Spot) → (all_valued s gs owner).breaks ≡ map inconstant ps
+    → header_over s (header_names s gs owner) ≡ [] → (all_valued s gs owner).whole ≡ true → heads_found s (around_of s gs owner).names ≡ []
+    → Contains (inside_found s (around_of s gs owner) (actor_given s gs owner)) (found_of r)
+    → IsRefused (said_first (first_in ps) (front.Refused r)) s gs owner
+inside_cause r ps s gs owner e header whole heads h = go (r.rule.0 == not_constant.0) refl ps e
   where
-    unsaid : (f.violation.rule.0 == not_constant.0) ≡ true
-        → (has_heads s (around_of s gs owner) ≡ false) ⊎ (((all_valued s gs owner).useless ≡ true) × ((all_valued s gs owner).breaks ≡ []))
-        → Told s gs owner f
-    unsaid e i =
-        said_or_another s gs owner f (Contains-append_right (all_valued s gs owner).breaks (behind_variables s gs owner (around_of s gs owner)) f h) (rule_of f.violation.rule e) i
+    fine : has_heads s (around_of s gs owner) ≡ true
+    fine = heads_are_fine s (around_of s gs owner) heads
 
-    go : (b heads useless : Bool) → (f.violation.rule.0 == not_constant.0) ≡ b → has_heads s (around_of s gs owner) ≡ heads → (all_valued s gs owner).useless ≡ useless
-        → Told s gs owner f
-    go false heads useless e i j = inl (inl (behind_break s gs owner (around_of s gs owner) f (other _ _ e) (other _ _ e) h))
-    go true true false e i j = inl (inl (behind_break s gs owner (around_of s gs owner) f (shown _ _ (ap not i)) (shown _ _ j) h))
-    go true true true e i j = unsaid e (inr (j, none))
-    go true false useless e i j = unsaid e (inl i)
+    there : Contains (behind_variables s gs owner (around_of s gs owner)) (found_of r)
+    there = members_break s gs owner (around_of s gs owner) (found_of r) header
+        (inside_break s (around_of s gs owner) (actor_given s gs owner) (all_valued s gs owner).whole (found_of r) whole heads h)
 
--- a variable isn't constant there
-variable_told : (p : Place) (s : Source) (gs : List Given) (owner : Spot) → Contains (all_valued s gs owner).breaks (inconstant p) → Told s gs owner (inconstant p)
-variable_told p s gs owner h = go (has_heads s (around_of s gs owner)) refl
-  where
-    go : (heads : Bool) → has_heads s (around_of s gs owner) ≡ heads → Told s gs owner (inconstant p)
-    go true i = inl (inl (variables_break s gs owner (around_of s gs owner) (inconstant p) (shown _ _ (ap not i)) h))
-    go false i =
-        said_or_another s gs owner (inconstant p) (Contains-append_left (all_valued s gs owner).breaks (behind_variables s gs owner (around_of s gs owner)) (inconstant p) h) refl (inl i)
+    alone : (useless : Bool) → (all_valued s gs owner).useless ≡ useless → (r.rule.0 == not_constant.0) ≡ true → (all_valued s gs owner).breaks ≡ []
+        → IsRefused (front.Refused r) s gs owner
+    alone false u i none = inl (inl (behind_break s gs owner (around_of s gs owner) (found_of r) (shown _ _ (ap not fine)) (shown _ _ u) there))
+    alone true u i none = said_or_another s gs owner (found_of r) fine h there (rule_of r.rule i) u none
 
--- ---- what the parts break
-
-pub early_refuses : (f : Front) (s : Source) (gs : List Given) (owner : Spot) → IsCause f (all_valued s gs owner).breaks × SaysRule f → IsRefused f s gs owner
-early_refuses (front.Refused r) s gs owner h =
-    inl (inl (variables_break s gs owner (around_of s gs owner) (found_of r) (other _ _ h.1) h.0))
-early_refuses front.Memory s gs owner h = tt
-
-behind_refuses : (f : Front) (ps : List Place) (s : Source) (gs : List Given) (owner : Spot) → (all_valued s gs owner).breaks ≡ map inconstant ps
-    → IsCause f (behind_variables s gs owner (around_of s gs owner)) → IsRefused (said_first (first_in ps) f) s gs owner
-behind_refuses (front.Refused r) [] s gs owner e h = behind_told s gs owner (found_of r) e h
-behind_refuses (front.Refused r) (p ∷ ps) s gs owner e h = go (r.rule.0 == not_constant.0) refl
-  where
-    go : (b : Bool) → (r.rule.0 == not_constant.0) ≡ b → IsRefused (if b then not_constant_at p else front.Refused r) s gs owner
-    go true i = variable_told p s gs owner (subst (λ fs. Contains fs (inconstant p)) (sym e) (at-head (inconstant p) (inconstant p) (map inconstant ps) refl))
-    go false i = inl (inl (behind_break s gs owner (around_of s gs owner) (found_of r) (other _ _ i) (other _ _ i) h))
-behind_refuses front.Memory [] s gs owner e h = tt
-behind_refuses front.Memory (p ∷ ps) s gs owner e h = tt
-
-pub given_refuses : (f : Front) (s : Source) (gs : List Given) (owner : Spot) → IsCause f (wrongly_given s gs) → SaysRule f → IsRefused f s gs owner
-given_refuses (front.Refused r) s gs owner h said =
-    inl (inl (behind_break s gs owner (around_of s gs owner) (found_of r) (other _ _ said) (other _ _ said) (given_breaks s gs owner (around_of s gs owner) (found_of r) h)))
-given_refuses front.Memory s gs owner h said = tt
-
-header_behind : (f : Front) (s : Source) (gs : List Given) (owner : Spot) → IsCause f (header_over s (header_names s gs owner))
-    → IsCause f (behind_variables s gs owner (around_of s gs owner))
-header_behind (front.Refused r) s gs owner h = header_breaks s gs owner (around_of s gs owner) (found_of r) h
-header_behind front.Memory s gs owner h = tt
-
-pub header_refuses : (f g : Front) (noted : Option Place) (ps : List Place) (s : Source) (gs : List Given) (owner : Spot) → noted ≡ first_in ps
-    → (all_valued s gs owner).breaks ≡ map inconstant ps → f ≡ said_first noted g → IsCause g (header_over s (header_names s gs owner)) → IsRefused f s gs owner
-header_refuses f g noted ps s gs owner first e says h =
-    subst (λ x. IsRefused x s gs owner) (sym (says ∙ ap (λ o. said_first o g) first)) (behind_refuses g ps s gs owner e (header_behind g s gs owner h))
-
-members_behind : (f : Front) (s : Source) (gs : List Given) (owner : Spot) → header_over s (header_names s gs owner) ≡ [] → (all_valued s gs owner).whole ≡ true
-    → IsCause f (members_found s (around_of s gs owner) (actor_given s gs owner) true) → IsCause f (behind_variables s gs owner (around_of s gs owner))
-members_behind (front.Refused r) s gs owner header whole h =
-    members_break s gs owner (around_of s gs owner) (found_of r) header
-    (subst (λ w. Contains (members_found s (around_of s gs owner) (actor_given s gs owner) w) (found_of r)) (sym whole) h)
-members_behind front.Memory s gs owner header whole h = tt
+    go : (b : Bool) → (r.rule.0 == not_constant.0) ≡ b → (ps : List Place) → (all_valued s gs owner).breaks ≡ map inconstant ps
+        → IsRefused (said_first (first_in ps) (front.Refused r)) s gs owner
+    go false i ps e =
+        subst (λ f. IsRefused f s gs owner) (sym (says_first (first_in ps) r i)) (inl (behind_said s gs owner (found_of r) i there))
+    go true i [] e = alone (all_valued s gs owner).useless refl i e
+    go true i (p ∷ ps) e =
+        subst (λ f. IsRefused f s gs owner) (sym (lacks_first p r i))
+        (inl (inl (variables_break s gs owner (around_of s gs owner) (inconstant p) (shown _ _ (ap not fine))
+        (first_place p ps (all_valued s gs owner).breaks e))))
 
 -- an action above itself is said in any case
-cycle_refuses : (f : Front) (o : Option Place) (s : Source) (gs : List Given) (owner : Spot) → IsCycleIn f s.file (members_of s.actor) (actor_given s gs owner)
-    → IsRefused (said_first o f) s gs owner
-cycle_refuses (front.Refused r) None s gs owner h = inl (inr h)
-cycle_refuses (front.Refused r) (Some p) s gs owner h = go (r.rule.0 == not_constant.0) refl
-  where
-    go : (b : Bool) → (r.rule.0 == not_constant.0) ≡ b → IsRefused (if b then not_constant_at p else front.Refused r) s gs owner
-    go true i = absurd (clash (sym i ∙ ap (λ x. x.0 == not_constant.0) h.2))
-    go false i = inl (inr h)
-cycle_refuses front.Memory None s gs owner h = tt
-cycle_refuses front.Memory (Some p) s gs owner h = tt
+inside_told : (f : Front) (ps : List Place) (s : Source) (gs : List Given) (owner : Spot) → (all_valued s gs owner).breaks ≡ map inconstant ps
+    → header_over s (header_names s gs owner) ≡ [] → (all_valued s gs owner).whole ≡ true → heads_found s (around_of s gs owner).names ≡ []
+    → FindsInside (Err f) s gs owner → IsRefused (said_first (first_in ps) f) s gs owner
+inside_told (front.Refused r) ps s gs owner e header whole heads (inl h) = inside_cause r ps s gs owner e header whole heads h
+inside_told (front.Refused r) ps s gs owner e header whole heads (inr h) =
+    subst (λ f. IsRefused f s gs owner) (sym (says_first (first_in ps) r (ap (λ x. x.0 == not_constant.0) h.2))) (inl (inr h))
+inside_told front.Memory [] s gs owner e header whole heads h = tt
+inside_told front.Memory (p ∷ ps) s gs owner e header whole heads h = tt
 
 pub members_refuse : (f : Front) (noted : Option Place) (ps : List Place) (s : Source) (gs : List Given) (owner : Spot) → noted ≡ first_in ps
-    → (all_valued s gs owner).breaks ≡ map inconstant ps → header_over s (header_names s gs owner) ≡ [] → (all_valued s gs owner).whole ≡ true
-    → IsCause f (members_found s (around_of s gs owner) (actor_given s gs owner) true) ⊎ IsCycleIn f s.file (members_of s.actor) (actor_given s gs owner)
-    → IsRefused (said_first noted f) s gs owner
-members_refuse f noted ps s gs owner first e header whole (inl h) =
-    subst (λ o. IsRefused (said_first o f) s gs owner) (sym first) (behind_refuses f ps s gs owner e (members_behind f s gs owner header whole h))
-members_refuse f noted ps s gs owner first e header whole (inr h) = cycle_refuses f noted s gs owner h
+    → (all_valued s gs owner).breaks ≡ map inconstant ps → wrongly_given s gs ≡ [] → header_over s (header_names s gs owner) ≡ []
+    → (all_valued s gs owner).whole ≡ true → FindsMembers (Err f) s gs owner → IsRefused (said_first noted f) s gs owner
+members_refuse f noted ps s gs owner first e given header whole (inl h) =
+    subst (λ o. IsRefused (said_first o f) s gs owner) (sym first) (heads_told f ps s gs owner e given header whole h)
+members_refuse f noted ps s gs owner first e given header whole (inr h) =
+    subst (λ o. IsRefused (said_first o f) s gs owner) (sym first) (inside_told f ps s gs owner e header whole h.0 h.1)
 
 -- ---- nothing behind the variables is broken
-
-none_said : (fs : List Found) → Each (λ f. f.violation.rule ≡ not_constant) fs → all_said true fs ≡ []
-none_said [] h = refl
-none_said (f ∷ fs) h =
-    ap (λ r. if r.0 == not_constant.0 then all_said true fs else f ∷ all_said true fs) h.0 ∙ none_said fs h.1
 
 twice_said : (fs others : List Found) → said_or_all fs (said_or_all fs others) ≡ said_or_all fs others
 twice_said [] others = refl
 twice_said (f ∷ fs) others = refl
 
-over_alone : (hides useless : Bool) (breaks behind valueless : List Found) → behind ≡ [] → Each (λ f. f.violation.rule ≡ not_constant) breaks
+over_alone : (hides useless : Bool) (breaks behind valueless : List Found) → behind ≡ [] → Each IsLack breaks
     → said_or_all (all_said hides (breaks ++ all_said useless behind)) (said_or_all (breaks ++ behind) valueless) ≡ said_or_all breaks valueless
 over_alone hides useless breaks behind valueless none only =
     ap (λ hs. said_or_all (all_said hides (breaks ++ all_said useless hs)) (said_or_all (breaks ++ hs) valueless)) none
@@ -248,22 +338,15 @@ over_alone hides useless breaks behind valueless none only =
     go true = ap (λ fs. said_or_all fs (said_or_all breaks valueless)) (none_said breaks only)
 
 alone : (s : Source) (gs : List Given) (owner : Spot) → behind_variables s gs owner (around_of s gs owner) ≡ []
-    → Each (λ f. f.violation.rule ≡ not_constant) (all_valued s gs owner).breaks
+    → Each IsLack (all_valued s gs owner).breaks
     → violations s gs owner ≡ left_over (declared_vars s) owner (all_valued s gs owner)
 alone s gs owner none only =
     over_alone (not (has_heads s (around_of s gs owner))) (all_valued s gs owner).useless (all_valued s gs owner).breaks
     (behind_variables s gs owner (around_of s gs owner)) (valueless (declared_vars s) owner (all_valued s gs owner)) none only
 
-only_constants : (ps : List Place) (fs : List Found) → fs ≡ map inconstant ps → Each (λ f. f.violation.rule ≡ not_constant) fs
-only_constants ps fs e = subst (Each (λ f. f.violation.rule ≡ not_constant)) (sym e) (go ps)
-  where
-    go : (ps : List Place) → Each (λ f. f.violation.rule ≡ not_constant) (map inconstant ps)
-    go [] = tt
-    go (p ∷ ps) = (refl, go ps)
-
 -- what is left of the variables is refused
 left_refuses : (p : Place) (s : Source) (gs : List Given) (owner : Spot) → behind_variables s gs owner (around_of s gs owner) ≡ []
-    → Each (λ f. f.violation.rule ≡ not_constant) (all_valued s gs owner).breaks
+    → Each IsLack (all_valued s gs owner).breaks
     → Contains (left_over (declared_vars s) owner (all_valued s gs owner)) (inconstant p) → IsRefused (not_constant_at p) s gs owner
 left_refuses p s gs owner none only h = inl (inl (subst (λ fs. Contains fs (inconstant p)) (sym (alone s gs owner none only)) h))
 
@@ -277,7 +360,7 @@ members_settle found ps left r s gs owner broken leaves given header members set
     none = behind_none s gs owner (around_of s gs owner) given header
         (members_none s (around_of s gs owner) (actor_given s gs owner) (all_valued s gs owner).whole members.heads members.inside.fine)
 
-    only : Each (λ f. f.violation.rule ≡ not_constant) (all_valued s gs owner).breaks
+    only : Each IsLack (all_valued s gs owner).breaks
     only = only_constants ps (all_valued s gs owner).breaks broken
 
     go : (left : Option Place) → AreAt left (left_over (declared_vars s) owner (all_valued s gs owner)) → Settles left found r → IsChecked r s gs owner
@@ -317,7 +400,7 @@ untyped_refuses ps left place s gs owner broken leaves given header whole = go l
     none = behind_none s gs owner (around_of s gs owner) given header
         (ap (members_found s (around_of s gs owner) (actor_given s gs owner)) whole)
 
-    only : Each (λ f. f.violation.rule ≡ not_constant) (all_valued s gs owner).breaks
+    only : Each IsLack (all_valued s gs owner).breaks
     only = only_constants ps (all_valued s gs owner).breaks broken
 
     go : (left : Option Place) → AreAt left (left_over (declared_vars s) owner (all_valued s gs owner)) → IsRefused (not_constant_at (place_left left place)) s gs owner
@@ -335,19 +418,13 @@ before_keeps f xs ys more gs owner fs hs e i h =
 
 -- ---- an actor that conforms
 
--- what is broken is said, or something else
-said_none : (first others all : List Found) → said_or_all first (said_or_all others all) ≡ [] → others ≡ []
-said_none [] [] all h = refl
-said_none [] (f ∷ others) all h = cc
-said_none (f ∷ first) others all h = cc
-
-nothing_found : (s : Source) (gs : List Given) (owner : Spot) → Conforms s gs owner → all_found s gs owner (around_of s gs owner) ≡ []
-nothing_found s gs owner h = said_none _ (all_found s gs owner (around_of s gs owner)) _ h.nothing
+violated_none : (f : Found) (s : Source) (gs : List Given) (owner : Spot) → IsViolated s gs owner f → Conforms s gs owner → ⊥
+violated_none f s gs owner (inl h) k = in-none f (subst (λ fs. Contains fs f) k.nothing h)
+violated_none f s gs owner (inr h) k = k.ordered h.0
 
 never_refused : (r : Refusal) (s : Source) (gs : List Given) (owner : Spot) → IsRefused (front.Refused r) s gs owner → Conforms s gs owner → ⊥
-never_refused r s gs owner (inl (inl h)) k = in-none (found_of r) (subst (λ fs. Contains fs (found_of r)) k.nothing h)
-never_refused r s gs owner (inl (inr h)) k = k.ordered h.0
-never_refused r s gs owner (inr h) k = in-none (found_of r) (subst (λ fs. Contains fs (found_of r)) (nothing_found s gs owner k) h.broken)
+never_refused r s gs owner (inl h) k = violated_none (found_of r) s gs owner h k
+never_refused r s gs owner (inr h) k = violated_none h.instead s gs owner h.violated k
 
 pub conforming_is_given : (result : Result Bound Front) (s : Source) (gs : List Given) (owner : Spot) → IsChecked result s gs owner → IsComplete result s gs owner
 conforming_is_given result s gs owner h r e k = never_refused r s gs owner (subst (λ x. IsChecked x s gs owner) e h) k

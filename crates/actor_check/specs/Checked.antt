@@ -9,7 +9,7 @@ use Rattle.rvc_base.specs.declared.refusal.Front.TheVariants as front
 use Rattle.rvc_base.specs.declared.refusal.Refusal.{Refusal}
 use Rattle.cal_model.specs.View.{actor_of}
 use Rattle.cal_model.specs.declared.bound.Bound.{Bound}
-use Rattle.cal_check.specs.Actors.{Conforms, IsSource, IsViolated, Source, all_found, all_valued, around_of, has_heads}
+use Rattle.cal_check.specs.Actors.{Conforms, IsSource, IsViolated, Source, actor_given, all_valued, around_of, inside_found}
 use Rattle.cal_check.specs.Variables.{Found, Given, Spot}
 
 abbrev pub found_of : Refusal → Found
@@ -18,13 +18,13 @@ found_of r = record {
   file = r.place.file;
 }
 
--- What isn't constant there is broken, so the actor doesn't conform; but another rule is said in its place: some head
--- breaks one, or a variable has no value of use and none isn't constant.
+-- Inside a function, a procedure or an action something isn't constant there, so the actor doesn't conform. But a
+-- variable has no value of use, and none isn't constant: then another rule is said in its place.
 pub record IsUnsaid (s : Source) (gs : List Given) (owner : Spot) (f : Found) : Type 0 where
-  pub broken : Contains (all_found s gs owner (around_of s gs owner)) f
+  pub broken : Contains (inside_found s (around_of s gs owner) (actor_given s gs owner)) f
   pub rule : f.violation.rule ≡ not_constant
-  pub unsaid : (has_heads s (around_of s gs owner) ≡ false)
-      ⊎ (((all_valued s gs owner).useless ≡ true) × ((all_valued s gs owner).breaks ≡ []))
+  pub useless : (all_valued s gs owner).useless ≡ true
+  pub constant : (all_valued s gs owner).breaks ≡ []
   pub instead : Found
   pub violated : IsViolated s gs owner instead
   pub another : (instead.violation.rule.0 == not_constant.0) ≡ false

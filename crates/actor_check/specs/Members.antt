@@ -1,6 +1,6 @@
 -- What the members of an actor come to, and what is left to say.
 -- Not trusted: no promise is read with it.
-use Rattle.std.specs.Prelude.{◌≡◌, ◌⊎◌, true, List, [], Option, None, Some, ◌==◌, if◌then◌else◌}
+use Rattle.std.specs.Prelude.{◌≡◌, ◌⊎◌, List, [], Option, None, Some, ◌==◌, if◌then◌else◌}
 use Rattle.std.specs.declared.result.Result.{Result}
 use Rattle.std.specs.declared.result.Result.TheVariants.{Ok, Err}
 use Rattle.rvc_base.specs.Rules.{not_constant}
@@ -9,12 +9,12 @@ use Rattle.rvc_base.specs.declared.refusal.Front.TheVariants as front
 use Rattle.rvc_base.specs.declared.refusal.Place.{Place}
 use Rattle.cal_model.specs.Kinding.{Names}
 use Rattle.cal_model.specs.declared.bound.Bound.{Bound}
-use Rattle.cal_check.specs.Actors.{Source, actor_given, around_of, heads_found, members_found, members_of}
+use Rattle.cal_check.specs.Actors.{Source, around_of, heads_found}
 use Rattle.cal_check.specs.Variables.{Given, Spot}
-use Rattle.variable_check.specs.Causes.{IsCause}
 use Rattle.variable_check.specs.declared.header.Header.{Header}
-use Rattle.actor_check.specs.Parts.{IsCycleIn, IsInside}
+use Rattle.actor_check.specs.Parts.{FindsInside, IsInside}
 use Rattle.actor_check.specs.Phases.{IsHeaderOf, header_over}
+use Rattle.actor_check.specs.Sifting.{IsFault}
 
 abbrev pub not_constant_at : Place → Front
 not_constant_at p = front.Refused (record { rule = not_constant; place = p })
@@ -31,7 +31,7 @@ said_first (Some p) (front.Refused r) =
 abbrev pub TellsHeader : Result Header Front → Option Place → Source → Names → Type 0
 TellsHeader (Ok h) noted s names = IsHeaderOf h s names
 TellsHeader (Err f) noted s names =
-    (g : Front) × (f ≡ said_first noted g) × IsCause g (header_over s names)
+    (g : Front) × (f ≡ said_first noted g) × IsFault g (header_over s names)
 
 -- members that break no rule
 pub record AreMembers (found : Bound) (s : Source) (gs : List Given) (owner : Spot) : Type 0 where
@@ -40,9 +40,8 @@ pub record AreMembers (found : Bound) (s : Source) (gs : List Given) (owner : Sp
 
 abbrev pub FindsMembers : Result Bound Front → Source → List Given → Spot → Type 0
 FindsMembers (Ok found) s gs owner = AreMembers found s gs owner
-FindsMembers (Err f) s gs owner =
-    IsCause f (members_found s (around_of s gs owner) (actor_given s gs owner) true)
-    ⊎ IsCycleIn f s.file (members_of s.actor) (actor_given s gs owner)
+FindsMembers (Err f) s gs owner = IsFault f (heads_found s (around_of s gs owner).names)
+    ⊎ ((heads_found s (around_of s gs owner).names ≡ []) × FindsInside (Err f) s gs owner)
 
 -- where something isn't constant in the variables, or they break nothing
 abbrev pub Settles : Option Place → Bound → Result Bound Front → Type 0

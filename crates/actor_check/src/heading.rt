@@ -1,13 +1,16 @@
 //! The header of an actor.
 
 ghost use Rattle.std.specs.Prelude.{◌≡◌};
+ghost use Rattle.const_eval.specs.Counting.{names_view};
 ghost use Rattle.const_eval.specs.Held.{names_in};
 ghost use Rattle.actor_check.specs.Members.{TellsHeader};
 ghost use Rattle.actor_check.specs.Phases.{FindsHeader};
+ghost use Rattle.actor_check.specs.Sifting.{SiftsHeader};
 ghost use Rattle.actor_check.specs.Sources.{source_in};
 
 use crate::fault::in_file;
 use crate::said::said_first;
+use crate::sifting::header_fault;
 use cal_check::what_breaks_no_rule_is_sound;
 use cal_imports::Scope;
 use const_eval::{Env, Names};
@@ -16,14 +19,24 @@ use std::alloc::Global;
 use variable_check::{Header, header_ports};
 
 /// The ports of an actor, over the names that its header sees.
-fn header_of(alloc: Global, seen: &Env, scope: &Scope) -> Result<Header, Front>
-    ensures { FindsHeader result (source_in scope.now) (names_in seen.now) }
+fn first_header(names: &Names, scope: &Scope) -> Result<Header, Front>
+    ensures { FindsHeader result (source_in scope.now) (names_view names.now) }
 {
     what_breaks_no_rule_is_sound();
-    let names = Names::outermost(alloc, seen);
-    match header_ports(&names, &scope.actor.ins, &scope.actor.outs, scope.actor.at) {
+    match header_ports(names, &scope.actor.ins, &scope.actor.outs, scope.actor.at) {
         Ok(header) => Ok(header),
         Err(fault) => Err(in_file(scope.file, fault)),
+    }
+}
+
+/// The same. What isn't constant there is a fault only if the header breaks nothing else.
+fn header_of(alloc: Global, seen: &Env, scope: &Scope) -> Result<Header, Front>
+    ensures { SiftsHeader result (source_in scope.now) (names_in seen.now) }
+{
+    let names = Names::outermost(alloc, seen);
+    match first_header(&names, scope) {
+        Ok(header) => Ok(header),
+        Err(fault) => Err(header_fault(&names, scope, fault)),
     }
 }
 

@@ -12,6 +12,7 @@ mod keeping;
 mod routines;
 mod said;
 mod scalars;
+mod sifting;
 mod values;
 mod whole;
 

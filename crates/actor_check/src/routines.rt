@@ -7,11 +7,13 @@ ghost use Rattle.const_eval.specs.Counting.{names_view};
 ghost use Rattle.seen_names.specs.Known.{fun_decls};
 ghost use Rattle.variable_check.specs.Valuing.{Finds};
 ghost use Rattle.actor_check.specs.Phases.{FindsHeads, FindsProcs, procs_found, routines_found};
+ghost use Rattle.actor_check.specs.Sifting.{SiftsHeads};
 ghost use Rattle.actor_check.specs.Sources.{source_in};
 
 use crate::bodies::check_bodies;
 use crate::built::{functions, procedures};
 use crate::fault::in_file;
+use crate::sifting::routines_fault;
 use cal_imports::Scope;
 use cal_model::{BoundFun, BoundProc};
 use const_eval::Names;
@@ -37,17 +39,29 @@ fn procedures_of(names: &Names, scope: &Scope) -> Result<Vec<BoundProc>, Front>
 }
 
 /// The functions and procedures of an actor, whose heads break no rule.
-pub(crate) fn routines_of(
-    names: &Names,
-    funs: &[DeclaredFun],
-    scope: &Scope,
-) -> Result<Routines, Front>
+fn first_routines(names: &Names, funs: &[DeclaredFun], scope: &Scope) -> Result<Routines, Front>
     requires { fun_decls funs.now ≡ all_funs (source_in scope.now) }
     ensures { FindsHeads result (source_in scope.now) (names_view names.now) }
 {
     let found = functions(names, funs)?;
     let procs = procedures_of(names, scope)?;
     Ok(Routines { funs: found, procs })
+}
+
+/// The functions and procedures of an actor, whose heads break no rule. What isn't constant there is a fault only if
+/// heads break nothing else.
+pub(crate) fn routines_of(
+    names: &Names,
+    funs: &[DeclaredFun],
+    scope: &Scope,
+) -> Result<Routines, Front>
+    requires { fun_decls funs.now ≡ all_funs (source_in scope.now) }
+    ensures { SiftsHeads result (source_in scope.now) (names_view names.now) }
+{
+    match first_routines(names, funs, scope) {
+        Ok(found) => Ok(found),
+        Err(fault) => Err(routines_fault(names, funs, scope, fault)),
+    }
 }
 
 /// What is inside procedures.

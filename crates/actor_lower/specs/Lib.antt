@@ -6,3 +6,5 @@ pub mod Standing
 pub mod Fitting
 pub mod RoutineWords
 pub mod Leaves
+pub mod May
+pub mod ClearedBodies

@@ -14,6 +14,7 @@ pub mod Feeding
 pub mod Fed
 pub mod Firings
 pub mod Roomy
+pub mod Untaken
 pub mod Standstill
 pub mod Bursting
 pub mod Grown
@@ -23,3 +24,4 @@ pub mod Surveying
 pub mod Shared
 pub mod Alone
 pub mod Arriving
+pub mod Noted

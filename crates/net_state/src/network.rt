@@ -8,6 +8,7 @@ ghost use Rattle.net_state.specs.Beginning.{AreLawfulIn};
 ghost use Rattle.net_state.specs.Fed.{AllArriveOn, DueForOn, FillsOn, IsFullOn, KeepsRest};
 ghost use Rattle.net_state.specs.Filling.{IsInputLink};
 ghost use Rattle.net_state.specs.Held.{AreCounted, CanWork, capacity_of, room_of, seen};
+ghost use Rattle.net_state.specs.Reopening.{FitWaited, OpensAgain};
 ghost use Rattle.net_state.specs.Moving.{IsFromCell, IsOutput, SameActors, SameMarks, carried_on};
 ghost use Rattle.net_state.specs.Sharing.{AreFresh, AreShares, HaveArrived, WorkEach, share_of};
 ghost use Rattle.net_state.specs.Surveyed.{AreSettled, AreUntrapped, IsOutlook, NamesFound, NamesLink, StallsAt, StillStand, Tells};
@@ -21,6 +22,7 @@ use crate::growing::grow_link;
 use crate::lacking::lowest_lacking;
 use crate::made::Bursts;
 use crate::outlook::{Outlook, Survey, with_look};
+use crate::reopening::open_again;
 use crate::sharing::{Crew, Part, Shares, burst_part};
 use crate::tables::{first_capacities, room_table, zeros};
 use crate::working::{burst_at, look_at, try_at};
@@ -363,6 +365,35 @@ impl<A: Firing> NetState<A> {
             &self.capacities,
             &mut self.waited,
             &mut self.rooms,
+        );
+    }
+
+    /// Notes for each link how many tokens waited at its reading end after the last delivery.
+    pub fn note_waited(&self, noted: &mut [u32])
+        requires as_many { length noted.old ≡ length self.now.links }
+        ensures noted { noted.new ≡ self.now.waited }
+        ensures fit { FitWaited (seen A.cell self.now) }
+    {
+        noted.copy_from_slice(&self.waited);
+    }
+
+    /// Fixes the rooms of output ports as a delivery left them that was made before the last one, after which so many
+    /// tokens waited at the reading end of each link. The network is at rest.
+    pub fn reopen(&mut self, noted: &[u32])
+        requires rest { IsAtRest (seen A.cell self.old) }
+        requires as_many { length noted.now ≡ length self.old.links }
+        ensures states { OpensAgain noted.now (seen A.cell self.old) (seen A.cell self.new) }
+        ensures cells { self.new.cells ≡ self.old.cells }
+        ensures links { self.new.links ≡ self.old.links }
+        ensures capacities { self.new.capacities ≡ self.old.capacities }
+    {
+        open_again(
+            &self.cells,
+            &self.links,
+            &self.capacities,
+            &mut self.waited,
+            &mut self.rooms,
+            noted,
         );
     }
 }

@@ -235,6 +235,7 @@ reading_there readings l kind at =
   where
     some_kind : (a b : Scalar) → Some a ≡ Some b → a ≡ b
     some_kind a b e = cc
+
     by_reader : (reader : Option Reading) → slice_get readings l ≡ Some reader → kind_read reader ≡ Some kind → (reading : Reading) × (slice_get readings l ≡ Some (Some reading)) × (reading.kind ≡ kind)
     by_reader None there is = cc
     by_reader (Some reading) there is = (reading, there, some_kind reading.kind kind is)

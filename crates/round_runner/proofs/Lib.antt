@@ -2,4 +2,3 @@ mod Written
 mod UpTo
 mod Marks
 mod Sharing
-mod Arrived

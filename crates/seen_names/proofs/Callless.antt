@@ -16,18 +16,18 @@ use Rattle.seen_names.specs.Calls.{StartsAreSame, TypesAreSame, calls_any}
 use Rattle.seen_names.specs.Known.{names_alone}
 use Rattle.seen_names.proofs.SameKinds.{FunsSame, constant-same, kind-same, on, type-same}
 
-abbrev Never : List ℕ → Type 0
+abbrev pub Never : List ℕ → Type 0
 Never name = ⊥
 
-or_left : (a b : Bool) → (a || b) ≡ false → a ≡ false
+pub or_left : (a b : Bool) → (a || b) ≡ false → a ≡ false
 or_left true b h = h
 or_left false b h = refl
 
-or_right : (a b : Bool) → (a || b) ≡ false → b ≡ false
+pub or_right : (a b : Bool) → (a || b) ≡ false → b ≡ false
 or_right true b h = cc
 or_right false b h = h
 
-none_called : (t : Tree) → calls_any t ≡ false → EachCall Never Never t
+pub none_called : (t : Tree) → calls_any t ≡ false → EachCall Never Never t
 none_called (tree.number n at) h = tt
 none_called (tree.truth b at) h = tt
 none_called (tree.variable name at) h = tt
@@ -60,7 +60,7 @@ none_called (tree.value_arg name value) h = none_called value h
 none_called other h = cc
 
 -- whatever functions there are, those that are never called are the same
-any_same : (a b : List Fun) → FunsSame Never a b
+pub any_same : (a b : List Fun) → FunsSame Never a b
 any_same a b = record { named = λ name p. absurd p; given = λ globals name p args left. absurd p }
 
 -- all functions that are seen over names

@@ -3,3 +3,4 @@ mod Rounds
 mod SameCalls
 mod SameKinds
 mod Callless
+mod OneRound

@@ -15,7 +15,7 @@ use Rattle.cal_model.specs.Kinding.{Judged, Fine, Broken, Known, Names, OfShape,
 use Rattle.cal_model.specs.Sound.{EachCall}
 use Rattle.seen_names.proofs.SameCalls.{CallsSame, eval-same}
 
-and-same : {A B : Type 0} (o p : Judged A) (f g : A → Judged B) → o ≡ p → ((a : A) → f a ≡ g a) → and_so o f ≡ and_so p g
+pub and-same : {A B : Type 0} (o p : Judged A) (f g : A → Judged B) → o ≡ p → ((a : A) → f a ≡ g a) → and_so o f ≡ and_so p g
 and-same {A} {B} o p f g e h = ap (λ j. and_so j f) e ∙ go p
   where
     go : (p : Judged A) → and_so p f ≡ and_so p g
@@ -31,7 +31,7 @@ pub record FunsSame (P : List ℕ → Type 0) (a b : List Fun) : Type 0 where
   pub named : (name : List ℕ) → P name → fun_named name a ≡ fun_named name b
   pub given : (globals : List Var) → CallsSame P (calls_of a) (calls_of b) globals
 
-counters-on : (gens : Tree) (a : List Fun) (names : Names) → with_counters gens (on a names) ≡ on a (with_counters gens names)
+pub counters-on : (gens : Tree) (a : List Fun) (names : Names) → with_counters gens (on a names) ≡ on a (with_counters gens names)
 counters-on (tree.cons (tree.gen shape (tree.ident name place) from to at) gens) a names = counters-on gens a (with_known (counter name) names)
 counters-on other a names = refl
 
@@ -49,7 +49,7 @@ module _ (P Q : List ℕ → Type 0) (a b : List Fun) (f : FunsSame P a b) where
       eval-same P Q (constant_calls (on a n)) (constant_calls (on b n)) e (record { globals = constants (n.locals ++ n.globals); locals = [] }) max_turns
       (λ name p args left. f.given (constants n.globals) name p args left) r
 
-  number-same : (e : Tree) (n : Names) → kind e (on a n) ≡ kind e (on b n) → EachCall P Q e → constant_number (kind e (on a n)) e (on a n) ≡ constant_number (kind e (on b n)) e (on b n)
+  pub number-same : (e : Tree) (n : Names) → kind e (on a n) ≡ kind e (on b n) → EachCall P Q e → constant_number (kind e (on a n)) e (on a n) ≡ constant_number (kind e (on b n)) e (on b n)
   number-same e n k r = ap (λ j. constant_number j e (on a n)) k ∙ go (kind e (on b n))
     where
       go : (j : Judged Kind) → constant_number j e (on a n) ≡ constant_number j e (on b n)

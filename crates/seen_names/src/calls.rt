@@ -58,7 +58,7 @@ fn any_calls(exprs: &[Expr]) -> bool
 
 /// Whether one of several generators does.
 #[cycle(calls)]
-fn any_gen_calls(gens: &[Gen]) -> bool
+pub(crate) fn any_gen_calls(gens: &[Gen]) -> bool
     ensures { result ≡ calls_any (listed (map gen_tree gens.now)) }
 {
     let mut rest = gens;

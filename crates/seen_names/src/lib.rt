@@ -6,6 +6,7 @@
 //! it is judged. `cal_check` says which names those are (ISO/IEC 23001-4, RVC-CAL: state variables and functions).
 #![tactic(auto)]
 
+mod bounds;
 mod calls;
 mod declared;
 mod known;

@@ -8,8 +8,10 @@ ghost use Rattle.cal_check.specs.Variables.{seen};
 ghost use Rattle.const_eval.specs.Constants.{has_fun};
 ghost use Rattle.const_eval.specs.Counting.{names_view};
 ghost use Rattle.const_eval.specs.Held.{globals_of, held, last_first, names_in};
+ghost use Rattle.seen_names.specs.Bounds.{AreEnough};
 ghost use Rattle.seen_names.specs.Known.{all_known, fun_decls, known_at, names_differ};
 
+use crate::bounds::some_calls;
 use crate::declared::DeclaredFun;
 use crate::known::{KnownName, names_without};
 use cal_model::types_are_kept;
@@ -54,7 +56,19 @@ fn round(
     Ok(next)
 }
 
-/// The names with all functions. A head may call functions in its sizes, so there are as many rounds as functions.
+/// How many rounds find all functions: one, if no size and no bound in them calls a function, and else as many as there are
+/// functions.
+#[tactic(auto, using(crate::proofs::OneRound::all_rounds, crate::proofs::OneRound::one_round))]
+fn rounds_needed(funs: &[DeclaredFun]) -> usize
+    ensures { AreEnough result (fun_decls funs.now) }
+{
+    if some_calls(funs) || funs.is_empty() {
+        return funs.len();
+    }
+    1
+}
+
+/// The names with all functions. A head may call functions in its sizes, so there may be as many rounds as functions.
 fn with_funs(
     alloc: Global,
     at_rest: bool,
@@ -66,8 +80,9 @@ fn with_funs(
         ≡ seen (fun_decls funs.now) (last_first (known_at at_rest) known.now [])) }
 {
     let mut env = names_without(alloc, at_rest, known)?;
+    let needed = rounds_needed(funs);
     let mut rounds = 0usize;
-    'rounds: while rounds < funs.len() {
+    'rounds: while rounds < needed {
         env = round(alloc, at_rest, known, funs, &env)?;
         rounds += 1;
     }

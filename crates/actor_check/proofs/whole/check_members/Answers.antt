@@ -25,7 +25,7 @@ returns-in-Err c =
     let whole : c.args.values.whole ≡ true = search rules in
     subst (λ f. IsRefused f s gs owner) (sym c.said_first.ensures)
     (members_refuse c.in-Err.fault c.first_broken-noted.result c.args.values.broken.items s gs owner c.first_broken-noted.ensures c.requires.values.breaks
-    c.requires.header.fine (sym c.requires.values.whole ∙ whole) c.in-Err.ensures)
+    c.requires.given c.requires.header.fine (sym c.requires.values.whole ∙ whole) c.in-Err.ensures)
 
 pub returns-in-Ok : goal.returns-in-Ok
 returns-in-Ok c =

@@ -1,9 +1,9 @@
 use Rattle.std.proofs.Common.{◌≡◌, Err, sym, ap, subst, ◌∙◌, rules}
 use Rattle.seen_names.specs.Known.{names_differ}
-use Rattle.variable_check.specs.Causes.{IsCause}
 use Rattle.variable_check.specs.Views.{all_given, spot_of}
 use Rattle.actor_check.specs.Checked.{IsChecked}
 use Rattle.actor_check.specs.Phases.{header_over}
+use Rattle.actor_check.specs.Sifting.{IsFault}
 use Rattle.actor_check.specs.Sources.{source_in}
 use Rattle.actor_check.proofs.Naming.{names_of_funs_differ, names_of_vars_differ}
 use Rattle.actor_check.proofs.Telling.{early_refuses, given_refuses, header_refuses}
@@ -49,4 +49,4 @@ returns-in_err-header c =
     let told = c.in_err-header.ensures in
     subst (λ r. IsChecked r s gs owner) (sym same)
     (header_refuses f told.0 c.first_broken-noted.result c.in_ok-early.early.values.broken.items s gs owner c.first_broken-noted.ensures c.in_ok-early.ensures.values.breaks
-    told.1 (subst (λ n. IsCause told.0 (header_over s n)) c.in_ok-early.ensures.header told.2))
+    told.1 c.in_ok-check_given.ensures.found (subst (λ n. IsFault told.0 (header_over s n)) c.in_ok-early.ensures.header told.2))

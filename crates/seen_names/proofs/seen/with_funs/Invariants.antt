@@ -1,4 +1,4 @@
-use Rattle.std.proofs.Common.{◌-◌, ◌≤◌, [], length}
+use Rattle.std.proofs.Common.{◌-◌, ◌≤◌, []}
 use Rattle.const_eval.specs.Held.{last_first}
 use Rattle.seen_names.specs.Known.{fun_decls, known_at}
 use Rattle.seen_names.proofs.Rounds.{AreRounds}
@@ -6,9 +6,9 @@ use Rattle.seen_names.proofs.seen.with_funs.Given as goal
 
 abbrev pub invariant-rounds : goal.invariant-rounds
 invariant-rounds l = record {
-  few : l.rounds ≤ length l.funs;
+  few : l.rounds ≤ l.needed;
   made : AreRounds l.rounds (fun_decls l.funs) (last_first (known_at l.at_rest) l.known []) l.env;
 }
 
 abbrev pub decreases-rounds : goal.decreases-rounds
-decreases-rounds l = length l.funs - l.rounds
+decreases-rounds l = l.needed - l.rounds

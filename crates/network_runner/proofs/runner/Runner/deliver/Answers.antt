@@ -35,7 +35,7 @@ invariant_of-self g c =
           (c.deliver_all.ensures.links ∙ c.self.invariant.0.links_are) (as_many_cells g.A.Firing.cell c.deliver_all.new.net.cells c.self.inside.net.cells c.deliver_all.ensures.same_actors.count)
           (ap (λ fs. length fs) came_back ∙ (c.deliver_all.ensures.still_as_many ∙ ap (λ fs. length fs) c.deref_mut-2.ensures.value)) refl
           (ap (map is_some) back ∙ (c.deliver_all.ensures.still_there ∙ ap (map is_some) c.deref_mut.ensures.value))
-    (ap (map kind_read) back ∙ (c.deliver_all.ensures.same_kinds ∙ ap (map kind_read) c.deref_mut.ensures.value)) refl refl refl refl
+          (ap (map kind_read) back ∙ (c.deliver_all.ensures.same_kinds ∙ ap (map kind_read) c.deref_mut.ensures.value)) refl refl refl refl
           refl refl refl c.self.invariant.0,
       λ going. going_delivered (seen_run g.A.Firing.cell view) (seen_run g.A.Firing.cell new) (length c.self.inside.marks.items) (g.P.Policy.rounds c.self.inside.policy) (g.P.Policy.instances c.self.inside.policy)
           c.deliver_all.ensures.same_actors c.deliver_all.ensures.same_marks c.deliver_all.ensures.links c.deliver_all.ensures.capacities refl refl refl refl refl (c.self.invariant.1 going),
@@ -96,7 +96,7 @@ invariant_of-self-2 g c =
           (c.deliver_all.ensures.links ∙ c.self.invariant.0.links_are) (as_many_cells g.A.Firing.cell c.deliver_all.new.net.cells c.self.inside.net.cells c.deliver_all.ensures.same_actors.count)
           (ap (λ fs. length fs) came_back ∙ (c.deliver_all.ensures.still_as_many ∙ ap (λ fs. length fs) c.deref_mut-2.ensures.value)) refl
           (ap (map is_some) back ∙ (c.deliver_all.ensures.still_there ∙ ap (map is_some) c.deref_mut.ensures.value))
-    (ap (map kind_read) back ∙ (c.deliver_all.ensures.same_kinds ∙ ap (map kind_read) c.deref_mut.ensures.value)) refl refl refl refl
+          (ap (map kind_read) back ∙ (c.deliver_all.ensures.same_kinds ∙ ap (map kind_read) c.deref_mut.ensures.value)) refl refl refl refl
           (ap (λ ns. length ns) arrived_is ∙ arrived_long c.deref-2.result.now c.self.inside.counts.arrived.items) (ap (λ ns. length ns) rests_is ∙ rests_long c.deref-2.result.now c.self.inside.counts.rests.items) refl c.self.invariant.0,
       λ going. going_delivered (seen_run g.A.Firing.cell view) (seen_run g.A.Firing.cell new) (length c.self.inside.marks.items) (g.P.Policy.rounds c.self.inside.policy) (g.P.Policy.instances c.self.inside.policy)
           c.deliver_all.ensures.same_actors c.deliver_all.ensures.same_marks c.deliver_all.ensures.links c.deliver_all.ensures.capacities refl refl refl refl refl (c.self.invariant.1 going),
