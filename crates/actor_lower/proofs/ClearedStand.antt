@@ -244,26 +244,35 @@ module _ (l : coded.Actor) where
 
       -- no call stands there
       quiet : ((i : Instr) (r : ℕ) → slice_get instrs to ≡ Some i → called i ≡ Some r → ⊥) → Top begin (to + 1)
-      quiet none = (n, wider begin to n h (λ p i r low less e is.
-          ⊎_elim (λ (before : p < to). h.above p i r low before e is) (λ (same : p ≡ to). absurd (none i r (ap (slice_get instrs) (sym same) ∙ e) is)) (split p less)))
+      quiet none = (
+        n,
+        wider begin to n h (λ p i r low less e is.
+            ⊎_elim (λ (before : p < to). h.above p i r low before e is) (λ (same : p ≡ to). absurd (none i r (ap (slice_get instrs) (sym same) ∙ e) is)) (split p less)),
+      )
 
       -- one does
       loud : (i : Instr) (r : ℕ) → slice_get instrs to ≡ Some i → called i ≡ Some r → (r < n) ⊎ (n ≤ r) → Top begin (to + 1)
-      loud i r e is (inl low) = (n, wider begin to n h (λ p x q from' less f g.
-          ⊎_elim (λ (before : p < to). h.above p x q from' before f g)
-          (λ (same : p ≡ to).
-          let one : i ≡ x = same-some (sym e ∙ (ap (slice_get instrs) (sym same) ∙ f)) in
-          let two : r ≡ q = let k : called i ≡ Some q = ap called one ∙ g in cc in
-          subst (λ k. k < n) two low) (split p less)))
-      loud i r e is (inr high) = (r + 1, record {
-        above = λ p x q from' less f g.
-            ⊎_elim (λ (before : p < to). let one = h.above p x q from' before f g in omega (arith, one, high))
+      loud i r e is (inl low) = (
+        n,
+        wider begin to n h (λ p x q from' less f g.
+            ⊎_elim (λ (before : p < to). h.above p x q from' before f g)
             (λ (same : p ≡ to).
             let one : i ≡ x = same-some (sym e ∙ (ap (slice_get instrs) (sym same) ∙ f)) in
             let two : r ≡ q = let k : called i ≡ Some q = ap called one ∙ g in cc in
-            omega (arith, two)) (split p less);
-        least = inr (to, i, r, from, omega arith, e, is, refl);
-      })
+            subst (λ k. k < n) two low) (split p less)),
+      )
+      loud i r e is (inr high) = (
+        r + 1,
+        record {
+          above = λ p x q from' less f g.
+              ⊎_elim (λ (before : p < to). let one = h.above p x q from' before f g in omega (arith, one, high))
+              (λ (same : p ≡ to).
+              let one : i ≡ x = same-some (sym e ∙ (ap (slice_get instrs) (sym same) ∙ f)) in
+              let two : r ≡ q = let k : called i ≡ Some q = ap called one ∙ g in cc in
+              omega (arith, two)) (split p less);
+          least = inr (to, i, r, from, omega arith, e, is, refl);
+        },
+      )
 
       by-call : (i : Instr) → slice_get instrs to ≡ Some i → (o : Option ℕ) → called i ≡ o → Top begin (to + 1)
       by-call i e None is = quiet (λ x r f g. let one : i ≡ x = same-some (sym e ∙ f) in let no : called i ≡ Some r = ap called one ∙ g in absurd (cc))
