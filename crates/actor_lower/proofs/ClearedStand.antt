@@ -141,15 +141,16 @@ place-in : (instrs : List Instr) (base : ℕ) (code : List Instr) (end : Instr) 
 place-in instrs base [] end p i stands from to e =
     let same : p ≡ base = omega (arith, from, to) in
     inr (omega (arith, same), same-some (sym e ∙ (ap (slice_get instrs) same ∙ stands.0)))
-place-in instrs base (x ∷ code) end p i stands from to e = by (cases_lt base p)
+place-in instrs base (x ∷ code) end p i stands from to e =
+    by (λ past. place-in instrs (base + 1) code end p i stands.1 (omega (arith, past)) (omega (arith, to)) e) (cases_lt base p)
   where
     later : Placed code (base + 1) end p i → Placed (x ∷ code) base end p i
     later (inl h) = inl (suc h.0, (let at = h.1 in omega (arith, at)), h.2)
     later (inr h) = inr ((let at = h.0 in omega (arith, at)), h.1)
 
-    by : (base < p) ⊎ (p ≤ base) → Placed (x ∷ code) base end p i
-    by (inl past) = later (place-in instrs (base + 1) code end p i stands.1 (omega (arith, past)) (omega (arith, to)) e)
-    by (inr le) =
+    by : (base < p → Placed code (base + 1) end p i) → (base < p) ⊎ (p ≤ base) → Placed (x ∷ code) base end p i
+    by behind (inl past) = later (behind past)
+    by behind (inr le) =
         let same : p ≡ base = omega (arith, from, le) in
         inl (0, omega (arith, same), sym stands.0 ∙ (ap (slice_get instrs) (sym same) ∙ e))
 
