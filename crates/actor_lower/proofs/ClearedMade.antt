@@ -200,12 +200,14 @@ module _ (b : Bound) (a : ℕ) (low : a < length b.actions.items) where
   guards-from rs clears kept es old new is served added k entry e =
       let there = action-there b a low in
       let one = (subst (λ c. AddsGuards c rs.functions (actor_of b) a es old new) is added) there.0 there.1 in
-      let found = guards-cleared {rs = rs} one.has (omega arith) k entry e in
-      (found.0, record {
-        below = found.1;
-        body = λ whole more goes.
-            found.2 whole (has-behind (actor_of b) rs old new whole more one.code served one.is one.routines goes) (stood-in whole old.instrs.items new.instrs.items one.code more one.is goes.0);
-      })
+      let found = guards-cleared {rs = rs} one.has (omega arith) k entry e in (
+        found.0,
+        record {
+          below = found.1;
+          body = λ whole more goes.
+              found.2 whole (has-behind (actor_of b) rs old new whole more one.code served one.is one.routines goes) (stood-in whole old.instrs.items new.instrs.items one.code more one.is goes.0);
+        },
+      )
 
 -- ---- firings
 
