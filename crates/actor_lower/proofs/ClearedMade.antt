@@ -41,12 +41,12 @@ use Rattle.actor_lower.proofs.Rowed.{has-behind, second-sized, stood-in}
 -- ---- routines
 
 body-of : (whole : Code) (begin number : ℕ) (places : List ℕ) → AreBodies whole begin number places → (k p : ℕ) → slice_get places k ≡ Some p → (end : ℕ) × IsBody whole (number + k) p end
-body-of whole begin number [] (no_body n number e) k p at = absurd (cc)
-body-of whole begin number (q ∷ places) (body_more b end n others one rest) zero p at =
-    let same : q ≡ p = cc in
+body-of whole _ _ _ (no_body n number e) k p at = absurd (cc)
+body-of whole _ _ _ (body_more begin end number places one rest) zero p at =
+    let same : begin ≡ p = cc in
     let still : number ≡ number + 0 = omega arith in
     (end, subst (λ m. IsBody whole m p end) still (subst (λ x. IsBody whole number x end) same one))
-body-of whole begin number (q ∷ places) (body_more b end n others one rest) (suc k) p at =
+body-of whole _ _ _ (body_more begin end number places one rest) (suc k) p at =
     let more = body-of whole (end + 1) (number + 1) places rest k p at in
     let count : number + 1 + k ≡ number + suc k = omega arith in
     (more.0, subst (λ m. IsBody whole m p more.0) count more.1)

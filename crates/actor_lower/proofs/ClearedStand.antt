@@ -289,20 +289,14 @@ module _ (l : coded.Actor) where
       let next : begin + n + 1 ≡ begin + suc n = omega arith in
       subst (Top begin) next (top-more begin (begin + n) (omega arith) (top-up begin n))
 
+  -- what is between two numbers
+  the-gap : (a b : ℕ) → a ≤ b → (n : ℕ) × (a + n ≡ b)
+  the-gap zero b h = (b, omega arith)
+  the-gap (suc a) zero h = absurd (omega (arith, h))
+  the-gap (suc a) (suc b) h = let g = the-gap a b (omega (arith, h)) in (g.0, let e = g.1 in omega (arith, e))
+
   top-to : (begin to : ℕ) → begin ≤ to → Top begin to
-  top-to begin to le = by (cases_lt begin to)
-    where
-      rest : (n : ℕ) → begin + n ≡ to → Top begin to
-      rest n e = subst (Top begin) e (top-up begin n)
-
-      by : (begin < to) ⊎ (to ≤ begin) → Top begin to
-      by (inl low) = let gap = the-gap begin to le in rest gap.0 gap.1
-      by (inr high) = rest 0 (omega (arith, le, high))
-
-      the-gap : (a b : ℕ) → a ≤ b → (n : ℕ) × (a + n ≡ b)
-      the-gap zero b h = (b, omega arith)
-      the-gap (suc a) zero h = absurd (omega (arith, h))
-      the-gap (suc a) (suc b) h = let g = the-gap a b (omega (arith, h)) in (g.0, let e = g.1 in omega (arith, e))
+  top-to begin to le = let gap = the-gap begin to le in subst (Top begin) gap.1 (top-up begin gap.0)
 
   -- ---- guards and firings
 
