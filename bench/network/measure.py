@@ -37,9 +37,12 @@ def run_words(program, top, tokens, folder):
     return [program, 'run', top, 'In=in', 'Out=out', '--trace', 'trace', '--budget', '1000000000']
 
 
-def rvc_time(program, top, tokens, folder, rounds):
+def rvc_times(program, top, tokens, folder, rounds):
+    """The times of a run, and of the replay of the trace that it wrote."""
     words = run_words(program, top, tokens, folder)
-    return least(rounds, lambda: timed(words, folder))
+    run = least(rounds, lambda: timed(words, folder))
+    replay = least(rounds, lambda: timed([program, 'replay', top, 'In=in', '--trace', 'trace'], folder))
+    return run, replay
 
 
 def printed(words):
@@ -49,6 +52,10 @@ def printed(words):
 
 def slope(short, long, tokens):
     return (long - short) / (2 * tokens)
+
+
+def show_replay(name, each, run_each, firings_each):
+    print('replay of %s: %.1f ns a firing; ratio to the run %.2f' % (name, each * 1e9 / firings_each, each / run_each), flush=True)
 
 
 def show(name, each, firings_each, others):
@@ -62,8 +69,9 @@ def rows(program, plain, gnuradio, folder, rounds):
     for count in (1, 10, 100, 1000):
         tokens = FIRINGS // count
         write(folder, 'Row.xdf', row(count).encode())
-        short = rvc_time(program, 'Row.xdf', tokens, folder, rounds)
-        long = rvc_time(program, 'Row.xdf', 3 * tokens, folder, rounds)
+        short = rvc_times(program, 'Row.xdf', tokens, folder, rounds)
+        long = rvc_times(program, 'Row.xdf', 3 * tokens, folder, rounds)
+        run, replay = slope(short[0], long[0], tokens), slope(short[1], long[1], tokens)
         others = []
         for name, words in (('plain', [plain]), ('GNU Radio', ['/usr/bin/python3', gnuradio])):
             # GNU Radio moves whole buffers and begins a thread for each block, so its runs are longer.
@@ -71,14 +79,17 @@ def rows(program, plain, gnuradio, folder, rounds):
             times = [[printed(words + [str(count), str(n)]) for n in (many, 3 * many)] for _ in range(rounds)]
             if all(t is not None for pair in times for t in pair):
                 others.append((name, max(slope(min(t[0] for t in times), min(t[1] for t in times), many), 1e-12)))
-        show('row of %d' % count, slope(short, long, tokens), count, others)
+        show('row of %d' % count, run, count, others)
+        show_replay('row of %d' % count, replay, run, count)
 
 
 def one(program, name, text, tokens, firings_each, folder, rounds):
     write(folder, name + '.xdf', text.encode())
-    short = rvc_time(program, name + '.xdf', tokens, folder, rounds)
-    long = rvc_time(program, name + '.xdf', 3 * tokens, folder, rounds)
-    show(name.lower(), slope(short, long, tokens), firings_each, [])
+    short = rvc_times(program, name + '.xdf', tokens, folder, rounds)
+    long = rvc_times(program, name + '.xdf', 3 * tokens, folder, rounds)
+    run, replay = slope(short[0], long[0], tokens), slope(short[1], long[1], tokens)
+    show(name.lower(), run, firings_each, [])
+    show_replay(name.lower(), replay, run, firings_each)
 
 
 def loading(program, folder, rounds):

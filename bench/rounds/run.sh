@@ -12,7 +12,7 @@ trap 'rm -rf -- "$work"' EXIT
 
 # The driver is a program over crates of the checkout. What the checkout has proved already isn't proved again.
 below=(rvc_base rvc_io trace_text code_ir schedule_fsm priority_order action_machine token_ring lowered_actor guard_select
-    net_model net_state channel_writer port_files claim_board round_plan round_runner network_runner actor_cell runner_rows)
+    net_model net_state channel_writer port_files round_plan round_runner network_runner actor_cell runner_rows)
 for name in "${below[@]}"; do
     mkdir -p "$work/crates/$name"
     cp -r "$top/crates/$name/src" "$top/crates/$name/specs" "$top/crates/$name/proofs" "$work/crates/$name/"

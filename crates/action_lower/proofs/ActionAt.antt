@@ -1,5 +1,5 @@
 -- An action of a `Bound`, as its actor has it, and the code of its guards.
-use Rattle.std.proofs.Common.{◌≡◌, ℕ, ◌<◌, ◌≤◌, List, length, slice_index_or, sym, ap, subst, ◌∙◌, None, Some}
+use Rattle.std.proofs.Common.{◌≡◌, ℕ, ◌<◌, ◌≤◌, List, length, slice_index_or, sym, ap, subst, ◌∙◌, Option, None, Some}
 use Rattle.std.specs.Prelude.{option_map, slice_get}
 use Rattle.std.proofs.lemmas.Option.{slice_get-map, slice_get-get_or}
 use Rattle.cal_ast.specs.Tree.{Tree}
@@ -33,12 +33,12 @@ module _ (b : Bound) (a n : ℕ) (act : BoundAction) (same : n ≡ a) (there : a
       subst (λ k. k ≤ max_rate) e (sound.takes a port)
 
   module _ (fs : List Function) (ns : List Name) (gs : List Tree) (names : ns ≡ seen_seats (actor_of b) (action_view act)) (guards : gs ≡ (action_view act).guards) where
-    pub adds-guards : (es : List ℕ) (old new : Draft) → Adds (AreGuards fs ns gs es) old new → AddsGuards fs (actor_of b) a es old new
-    adds-guards es old new added other e =
+    pub adds-guards : (clears : Option ℕ) (es : List ℕ) (old new : Draft) → Adds (AreGuards clears fs ns gs es) old new → AddsGuards clears fs (actor_of b) a es old new
+    adds-guards clears es old new added other e =
         let one : action_view act ≡ other = let f = at-place in cc in
-        subst (λ x. Adds (AreGuards fs (seen_seats (actor_of b) x) x.guards es) old new) one
-        (subst (λ hs. Adds (AreGuards fs (seen_seats (actor_of b) (action_view act)) hs es) old new) guards
-        (subst (λ ms. Adds (AreGuards fs ms gs es) old new) names added))
+        subst (λ x. Adds (AreGuards clears fs (seen_seats (actor_of b) x) x.guards es) old new) one
+        (subst (λ hs. Adds (AreGuards clears fs (seen_seats (actor_of b) (action_view act)) hs es) old new) guards
+        (subst (λ ms. Adds (AreGuards clears fs ms gs es) old new) names added))
 
     pub left-out : left_out_action fs (actor_of b) a ≡ left_out_guards fs ns gs
     left-out =

@@ -1,5 +1,5 @@
 -- Code of guards answers as the guards do.
-use Rattle.std.proofs.Common.{◌≡◌, ℕ, zero, suc, ◌+◌, ◌<◌, ◌≤◌, inl, inr, Bool, true, ℤ, List, [], ◌∷◌, ◌++◌, length, take, refl, sym, ap, subst, ◌∙◌, Some, arith, append_assoc, length-append}
+use Rattle.std.proofs.Common.{◌≡◌, ℕ, zero, suc, ◌+◌, ◌<◌, ◌≤◌, inl, inr, Bool, true, ℤ, List, [], ◌∷◌, ◌++◌, length, take, refl, sym, ap, subst, ◌∙◌, Option, Some, arith, append_assoc, length-append}
 use Rattle.std.specs.Prelude.{if◌then◌else◌, slice_get}
 use Rattle.rvc_base.specs.Arithmetic.{is_true, truth}
 use Rattle.rvc_base.specs.Turns.{max_turns}
@@ -19,12 +19,13 @@ use Rattle.code_ir.specs.declared.instr.Instr.{Instr}
 use Rattle.code_ir.specs.declared.instr.Instr.TheVariants as op
 use Rattle.code_ir.specs.declared.outcome.Outcome.TheVariants as outcome
 use Rattle.code_ir.specs.Code.{Code}
+use Rattle.code_ir.specs.Effect.{zeroed}
 use Rattle.code_ir.specs.Running.{Ends, Over, step, stop}
 use Rattle.code_ir.proofs.Ends.{one-end}
 use Rattle.expr_lower.specs.declared.draft.Draft.{Draft}
 use Rattle.expr_lower.specs.Following.{CutsOff, Follows, MayUse, Pushes}
 use Rattle.expr_lower.specs.Callees.{Function}
-use Rattle.expr_lower.specs.Calling.{Prepared}
+use Rattle.expr_lower.specs.Calling.{IsLoweredWith, Prepared}
 use Rattle.expr_lower.specs.Held.{Keeps}
 use Rattle.expr_lower.specs.Lowered.{Adds}
 use Rattle.expr_lower.specs.Names.{Name}
@@ -32,8 +33,10 @@ use Rattle.expr_lower.specs.Placed.{StandsAt, World, state}
 use Rattle.expr_lower.proofs.Effects.{same_number, true_again}
 use Rattle.expr_lower.proofs.Runs.{ends_join, obeys, stands_left, stands_right}
 use Rattle.action_lower.specs.FiringCode.{globals_of, round}
-use Rattle.action_lower.specs.Guarding.{AnswerAs, AnswersAs, AreGuards, AreGuardsOf, HasFunctionsOf, IsGuardCode, IsGuardOf, guard_more, no_guard}
+use Rattle.action_lower.specs.GuardWords.{ClearsBehind}
+use Rattle.action_lower.specs.Guarding.{AnswerAs, AnswersAs, AreGuards, AreGuardsOf, HasFunctionsOf, IsGuardCode, IsGuardOf, IsHead, clearing, guard_more, no_guard, no_head}
 use Rattle.action_lower.specs.Seats.{HoldVars, seen_seats, state_cells, taken}
+use Rattle.action_lower.proofs.ClearedCells.{runs-on, runs-so, take-zeroed, zeroed-size}
 use Rattle.action_lower.proofs.BelowState.{each-below, seen-below, vars-below}
 use Rattle.action_lower.proofs.Holding.{get-after, seen-is-held, state-held}
 use Rattle.action_lower.proofs.StateSeats.{below-apart, globals-held, globals-laid}
@@ -109,7 +112,7 @@ module _ (w : World) (kept n m base : ℕ) (body : List Instr) (cells : List ℤ
 
 -- ---- the guards of an action
 
-pub guards-grow : {fs : List Function} {names : List Name} {gs : List Tree} {es : List ℕ} {base n m : ℕ} {code : List Instr} → AreGuards fs names gs es base n code m → n ≤ m
+pub guards-grow : {clears : Option ℕ} {fs : List Function} {names : List Name} {gs : List Tree} {es : List ℕ} {base n m : ℕ} {code : List Instr} → AreGuards clears fs names gs es base n code m → n ≤ m
 guards-grow (no_guard base n) = omega arith
 guards-grow (guard_more g gs es base n k m a b first rest) = let le = first.lowered.cells in let ge = guards-grow rest in omega (arith, le, ge)
 
@@ -143,27 +146,79 @@ module _ (fs : List Function) (actor : Actor) (a : ℕ) (act : Action) (code : C
       let own = functions.own in
       (inr (omega (arith, before, from)), omega (arith, own, to))
 
-  guard-answers : (g : Tree) (base n m : ℕ) (part : List Instr) → IsGuardCode fs (seen_seats actor act) g base n part m → StandsAt code.instrs base part → state_cells actor ≤ n → first ≤ n → m ≤ last
+  -- code of a guard that begins at once
+  pub guard-answers : (g : Tree) (base n m : ℕ) (part : List Instr) → IsLoweredWith fs (seen_seats actor act) g base n part m → StandsAt code.instrs base (part ++ op.Answer ∷ []) → state_cells actor ≤ n → first ≤ n → m ≤ last
       → IsTruth g → IsGuardOf actor a act code x u cells g base
-  guard-answers g base n m part is stands le from to good =
-      let there : StandsAt code.instrs base (is.body ++ op.Answer ∷ []) = subst (StandsAt code.instrs base) is.is stands in
-      answers w (state_cells actor) n m base is.body cells le functions.behind there (eval g (calls_of actor.funs) env max_turns) good
-      (is.lowered.evaluates.goes w (globals_of actor) env [] [] cells max_turns (stands_left code.instrs base is.body (op.Answer ∷ []) there) functions.serve (prepared n le) (usable n m from to))
+  guard-answers g base n m part is there le from to good =
+      answers w (state_cells actor) n m base part cells le functions.behind there (eval g (calls_of actor.funs) env max_turns) good
+      (is.evaluates.goes w (globals_of actor) env [] [] cells max_turns (stands_left code.instrs base part (op.Answer ∷ []) there) functions.serve (prepared n le) (usable n m from to))
 
-  guards-answer : {gs : List Tree} {es : List ℕ} {base n m : ℕ} {part : List Instr} → AreGuards fs (seen_seats actor act) gs es base n part m → StandsAt code.instrs base part → state_cells actor ≤ n → first ≤ n → m ≤ last
-      → ((k : ℕ) (g : Tree) → slice_get gs k ≡ Some g → IsTruth g) → AreGuardsOf actor a act code x u cells gs es
-  guards-answer (no_guard base n) stands le from to good = tt
-  guards-answer (guard_more g gs es base n k m one more head rest) stands le from to good =
+-- ---- cells that are cleared first
+
+module _ (fs : List Function) (actor : Actor) (a : ℕ) (act : Action) (code : Code) (sound : IsSound actor) (is_act : slice_get actor.actions a ≡ Some act)
+    (x : ActorState) (u : List (List ℤ)) (cells : List ℤ) (first last : ℕ) (functions : HasFunctionsOf actor a fs code first last u cells) (in_state : IsActorState actor x) (of_ports : AreTokensOf actor u)
+    (has : has_its_tokens actor u a ≡ true) (hold : HoldVars actor x cells) where
+  -- what is asked of cells holds of them once those behind the state cells are cleared
+  functions-cleared : (k n : ℕ) → HasFunctionsOf actor a fs code first last u (zeroed k n cells)
+  functions-cleared k n =
+      let size = zeroed-size n k cells in
+      record {
+        low = functions.low;
+        high = functions.high;
+        serve = functions.serve;
+        behind = functions.behind;
+        before = functions.before;
+        room = λ some. let le = functions.room some in omega (arith, le, size);
+        own = let le = functions.own in omega (arith, le, size);
+      }
+
+  hold-cleared : (n : ℕ) → HoldVars actor x (zeroed (state_cells actor) n cells)
+  hold-cleared n = take-zeroed n (state_cells actor) (state_cells actor) cells (omega arith) ∙ hold
+
+  abbrev is-truth : Tree → Type 0
+  is-truth g = GivesOrTraps (HasKind BoolKind) (eval g (calls_of actor.funs) (seen_by actor x u act) max_turns)
+
+  -- a guard answers behind an instruction that clears the cells
+  answers-behind : (g : Tree) (base n : ℕ) → slice_get code.instrs base ≡ Some (op.Zero (state_cells actor) n) → state_cells actor + n ≤ length cells
+      → IsGuardOf actor a act code x u (zeroed (state_cells actor) n cells) g (base + 1) → IsGuardOf actor a act code x u cells g base
+  answers-behind g base n there room after = record {
+    outcome = after.outcome;
+    said = after.said;
+    left = after.left;
+    ends = runs-on code (taken actor u a) base (state_cells actor) n cells there room after.outcome after.left after.ends;
+    size = after.size ∙ zeroed-size n (state_cells actor) cells;
+    keeps = after.keeps ∙ take-zeroed n (state_cells actor) (state_cells actor) cells (omega arith);
+    only = λ o last r. after.only o last (runs-so code (taken actor u a) base (state_cells actor) n cells there room o last refl r);
+  }
+
+  -- code of a guard, whatever it begins with
+  headed : {clears : Option ℕ} {head : List Instr} (g : Tree) (base n m : ℕ) (body : List Instr) → ClearsBehind actor clears → IsHead clears m head → IsLoweredWith fs (seen_seats actor act) g (base + length head) n body m
+      → StandsAt code.instrs base (head ++ (body ++ op.Answer ∷ [])) → state_cells actor ≤ n → first ≤ n → m ≤ last → is-truth g → IsGuardOf actor a act code x u cells g base
+  headed g base n _ body behind (no_head m) lowered stands le from to good =
+      let here : base + 0 ≡ base = omega arith in
+      guard-answers fs actor a act code sound is_act x u cells first last functions in_state of_ports has hold g base n m body (subst (λ p. IsLoweredWith fs (seen_seats actor act) g p n body m) here lowered) stands le from to good
+  headed g base n _ body behind (clearing kept count m is) lowered stands le from to good =
+      let same : kept ≡ state_cells actor = behind kept refl in
+      let low = state_cells actor in
+      let there : slice_get code.instrs base ≡ Some (op.Zero low count) = subst (λ k. slice_get code.instrs base ≡ Some (op.Zero k count)) same stands.0 in
+      let room : low + count ≤ length cells = let own = functions.own in omega (arith, is, same, to, own) in
+      answers-behind g base count there room
+      (guard-answers fs actor a act code sound is_act x u (zeroed low count cells) first last (functions-cleared low count) in_state of_ports has (hold-cleared count) g (base + 1) n m body lowered stands.1 le from to good)
+
+  guards-answer : {clears : Option ℕ} {gs : List Tree} {es : List ℕ} {base n m : ℕ} {part : List Instr} → ClearsBehind actor clears → AreGuards clears fs (seen_seats actor act) gs es base n part m → StandsAt code.instrs base part → state_cells actor ≤ n → first ≤ n → m ≤ last
+      → ((k : ℕ) (g : Tree) → slice_get gs k ≡ Some g → is-truth g) → AreGuardsOf actor a act code x u cells gs es
+  guards-answer behind (no_guard base n) stands le from to good = tt
+  guards-answer behind (guard_more g gs es base n k m one more head rest) stands le from to good =
       let up = head.lowered.cells in
       let grown = guards-grow rest in (
-        guard-answers g base n k one head (stands_left code.instrs base one more stands) le from (omega (arith, grown, to)) (good 0 g refl),
-        guards-answer rest (stands_right code.instrs base one more stands) (omega (arith, le, up)) (omega (arith, from, up)) to (λ j h e. good (suc j) h e),
+        headed g base n k head.body behind head.begins head.lowered (subst (StandsAt code.instrs base) head.is (stands_left code.instrs base one more stands)) le from (omega (arith, grown, to)) (good 0 g refl),
+        guards-answer behind rest (stands_right code.instrs base one more stands) (omega (arith, le, up)) (omega (arith, from, up)) to (λ j h e. good (suc j) h e),
       )
 
 pub answer-as-guards : GuardsAreTruths → (fs : List Function) (actor : Actor) (a : ℕ) (act : Action) (code : Code) (es : List ℕ) (more : List Instr) (old new : Draft) → IsSound actor → slice_get actor.actions a ≡ Some act
-    → state_cells actor ≤ old.cells → Adds (AreGuards fs (seen_seats actor act) act.guards es) old new → code.instrs ≡ new.instrs.items ++ more → AnswerAs actor a act fs code old.cells new.cells es
-answer-as-guards law fs actor a act code es more old new sound is_act le added whole x u cells functions in_state of_ports has hold =
+    → state_cells actor ≤ old.cells → (clears : Option ℕ) → ClearsBehind actor clears → Adds (AreGuards clears fs (seen_seats actor act) act.guards es) old new → code.instrs ≡ new.instrs.items ++ more → AnswerAs actor a act fs code old.cells new.cells es
+answer-as-guards law fs actor a act code es more old new sound is_act le clears behind added whole x u cells functions in_state of_ports has hold =
     let all : code.instrs ≡ old.instrs.items ++ (added.code ++ more) = whole ∙ ap (λ is. is ++ more) added.is ∙ append_assoc old.instrs.items added.code more in
-    guards-answer fs actor a act code sound is_act x u cells old.cells new.cells functions in_state of_ports has hold added.has
+    guards-answer fs actor a act code sound is_act x u cells old.cells new.cells functions in_state of_ports has hold behind added.has
     (subst (λ all. StandsAt all (length old.instrs.items) added.code) (sym all) (stands-in old.instrs.items added.code more)) le (omega arith) (omega arith)
     (λ k g e. law actor x u a k max_turns act g sound in_state of_ports is_act e)

@@ -1,3 +1,4 @@
+pub mod ClearedCells
 pub mod PatternRates
 pub mod Holding
 pub mod BelowState

@@ -27,7 +27,7 @@ use Rattle.expr_lower.specs.Parted.{sized}
 use Rattle.list_lower.specs.Filling.{AreFills, IsFill}
 use Rattle.list_lower.specs.LeftOut.{left_out_fill, left_out_fills}
 use Rattle.action_lower.specs.declared.turns.Area.{Area}
-use Rattle.stmt_lower.specs.declared.starts.Row.{Row}
+use Rattle.list_lower.specs.declared.starts.Row.{Row}
 use Rattle.stmt_lower.specs.StartWords.{HasTakenList}
 use Rattle.action_lower.specs.SendWords.{AddsOutput, AddsOutputs, AddsSent, HasArea, HasTaken, IsSendFault, left_out_output, left_out_outputs, left_out_repeated, left_out_values}
 use Rattle.action_lower.specs.Sending.{AreOutputs, AreStored, IsListOutput, IsOutputCode, IsRepeated, IsSentList, IsStored, in_turns, items_of_any, list_output_more, no_output, no_value, one_list, output_more, turn_stores, value_more}

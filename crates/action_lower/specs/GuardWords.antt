@@ -1,6 +1,6 @@
 -- The words of the contracts of calls that lower guards.
 -- Trusted: part of what a promise means.
-use Rattle.std.specs.Prelude.{◌≡◌, ℕ, List, [], ◌∷◌, ◌++◌, length, map, Option, None, Some, slice_get}
+use Rattle.std.specs.Prelude.{◌≡◌, ℕ, ◌-◌, ◌≤◌, List, [], ◌∷◌, ◌++◌, length, map, Option, None, Some, slice_get}
 use Rattle.cal_ast.specs.declared.expr.Expr.{Expr}
 use Rattle.cal_ast.specs.Tree.{Tree}
 use Rattle.cal_ast.specs.View.{expr_tree}
@@ -8,6 +8,7 @@ use Rattle.cal_model.specs.declared.bound.Bound.{Bound}
 use Rattle.cal_model.specs.Actor.{Action, Actor}
 use Rattle.cal_model.specs.View.{actor_of}
 use Rattle.code_ir.specs.declared.instr.Instr.{Instr}
+use Rattle.code_ir.specs.declared.instr.Instr.TheVariants as op
 use Rattle.code_ir.specs.Code.{Code}
 use Rattle.expr_lower.specs.declared.callees.Callee.{Callee}
 use Rattle.expr_lower.specs.declared.draft.Draft.{Draft}
@@ -18,7 +19,7 @@ use Rattle.expr_lower.specs.Growing.{IsFault, left_out_in, ◌or_else◌}
 use Rattle.expr_lower.specs.Lowered.{Adds}
 use Rattle.expr_lower.specs.Names.{Name, names_view}
 use Rattle.action_lower.specs.Guarding.{AnswerAs, AreGuards, IsGuardCode}
-use Rattle.action_lower.specs.Seats.{seen_seats}
+use Rattle.action_lower.specs.Seats.{seen_seats, state_cells}
 
 -- the place of the first part of guards for which no code is made
 abbrev pub left_out_guards : List Function → List Name → List Tree → Option ℕ
@@ -32,14 +33,28 @@ left_out_action fs actor a = elim (slice_get actor.actions a)
     [ None ↦ None | Some act ↦ left_out_guards fs (seen_seats actor act) act.guards ]
 
 -- the code of a guard was added to a draft, and begins at its entry
-abbrev pub AddsGuard : List Function → List Name → Tree → ℕ → Draft → Draft → Type 0
-AddsGuard fs names g entry old new = (entry ≡ length old.instrs.items)
-    × Adds (IsGuardCode fs names g) old new
+abbrev pub AddsGuard : Option ℕ → List Function → List Name → Tree → ℕ → Draft → Draft → Type 0
+AddsGuard clears fs names g entry old new = (entry ≡ length old.instrs.items)
+    × Adds (IsGuardCode clears fs names g) old new
 
 -- the code of an action's guards was added to a draft, with these entries
-abbrev pub AddsGuards : List Function → Actor → ℕ → List ℕ → Draft → Draft → Type 0
-AddsGuards fs actor a entries old new = (act : Action) → slice_get actor.actions a ≡ Some act
-    → Adds (AreGuards fs (seen_seats actor act) act.guards entries) old new
+abbrev pub AddsGuards : Option ℕ → List Function → Actor → ℕ → List ℕ → Draft → Draft → Type 0
+AddsGuards clears fs actor a entries old new = (act : Action)
+    → slice_get actor.actions a ≡ Some act
+    → Adds (AreGuards clears fs (seen_seats actor act) act.guards entries) old new
+
+-- cells are cleared behind the state cells, if they are
+abbrev pub ClearsBehind : Actor → Option ℕ → Type 0
+ClearsBehind actor clears = (kept : ℕ) → clears ≡ Some kept → kept ≡ state_cells actor
+
+-- .. and there are so many cells
+abbrev pub ClearsWithin : Draft → Option ℕ → Type 0
+ClearsWithin draft clears = (kept : ℕ) → clears ≡ Some kept → kept ≤ draft.cells
+
+-- the instruction at a place clears all cells from kept on, up to a number of cells
+abbrev pub SetsZero : List Instr → List Instr → ℕ → ℕ → ℕ → Type 0
+SetsZero old new place kept cells = (before rest : List Instr) (i : Instr) → old ≡ before ++ i ∷ rest
+    → place ≡ length before → new ≡ before ++ op.Zero kept (cells - kept) ∷ rest
 
 -- whatever is written behind the draft, the code at these entries answers as the guards of the action
 abbrev pub AnswerAsGuards : List Function → Actor → ℕ → List ℕ → Draft → Draft → Type 0
@@ -50,15 +65,20 @@ AnswerAsGuards fs actor a entries old new = (act : Action) (code : Code) (more :
 -- ---- over names, functions and guards as the code has them
 
 -- the code of a guard was added, which begins at its entry
-abbrev pub AddsGuardOver : List Callee → List Named → Expr → ℕ → Draft → Draft → Type 0
-AddsGuardOver callees names guard entry old new =
-    AddsGuard (functions_view callees) (names_view names) (expr_tree guard) entry old new
+abbrev pub AddsGuardOver : Option ℕ → List Callee → List Named → Expr → ℕ → Draft → Draft → Type 0
+AddsGuardOver clears callees names guard entry old new =
+    AddsGuard clears (functions_view callees) (names_view names) (expr_tree guard) entry old new
+
+-- .. wherever it begins
+abbrev pub AddsGuardCode : Option ℕ → List Callee → List Named → Expr → Draft → Draft → Type 0
+AddsGuardCode clears callees names guard old new =
+    Adds (IsGuardCode clears (functions_view callees) (names_view names) (expr_tree guard)) old new
 
 -- .. of guards, with these entries
-abbrev pub AddsGuardsOver : List Callee → List Named → List Expr → List ℕ → Draft → Draft → Type 0
-AddsGuardsOver callees names guards entries old new =
-    Adds (AreGuards (functions_view callees) (names_view names) (map expr_tree guards) entries)
-    old new
+abbrev pub AddsGuardsOver : Option ℕ → List Callee → List Named → List Expr → List ℕ → Draft → Draft → Type 0
+AddsGuardsOver clears callees names guards entries old new =
+    Adds (AreGuards clears (functions_view callees) (names_view names) (map expr_tree guards)
+    entries) old new
 
 -- no part of them is left out
 abbrev pub AreWholeGuards : List Callee → List Named → List Expr → Type 0

@@ -24,20 +24,28 @@ use Rattle.action_lower.specs.Seats.{HoldVars, state_cells, taken}
 
 -- ---- code
 
--- code of a guard: that of its expression, which may call functions, and an answer
-pub record IsGuardCode (fs : List Function) (names : List Name) (g : Tree) (base n : ℕ) (code : List Instr) (m : ℕ) : Type 0 where
+-- What code begins with that may clear cells first: nothing, or an instruction that clears all cells from a number of
+-- state cells on, up to one that there is.
+pub data IsHead : Option ℕ → ℕ → List Instr → Type 0 where
+  no_head : (m : ℕ) → IsHead None m []
+  clearing : (kept n m : ℕ) → kept + n ≡ m → IsHead (Some kept) m (op.Zero kept n ∷ [])
+
+-- code of a guard: that of its expression, which may call functions, and an answer; cells may be cleared before it
+pub record IsGuardCode (clears : Option ℕ) (fs : List Function) (names : List Name) (g : Tree) (base n : ℕ) (code : List Instr) (m : ℕ) : Type 0 where
+  pub head : List Instr
   pub body : List Instr
-  pub is : code ≡ body ++ op.Answer ∷ []
-  pub lowered : IsLoweredWith fs names g base n body m
+  pub is : code ≡ head ++ (body ++ op.Answer ∷ [])
+  pub begins : IsHead clears m head
+  pub lowered : IsLoweredWith fs names g (base + length head) n body m
 
 -- code of guards, one after the other, and the entries of each, where its code begins
-pub data AreGuards (fs : List Function) (names : List Name) :
+pub data AreGuards (clears : Option ℕ) (fs : List Function) (names : List Name) :
     List Tree → List ℕ → ℕ → ℕ → List Instr → ℕ → Type 0 where
-  no_guard : (base n : ℕ) → AreGuards fs names [] [] base n [] n
+  no_guard : (base n : ℕ) → AreGuards clears fs names [] [] base n [] n
   guard_more : (g : Tree) (guards : List Tree) (entries : List ℕ) (base n k m : ℕ)
-      (a b : List Instr) → IsGuardCode fs names g base n a k
-      → AreGuards fs names guards entries (base + length a) k b m
-      → AreGuards fs names (g ∷ guards) (base ∷ entries) base n (a ++ b) m
+      (a b : List Instr) → IsGuardCode clears fs names g base n a k
+      → AreGuards clears fs names guards entries (base + length a) k b m
+      → AreGuards clears fs names (g ∷ guards) (base ∷ entries) base n (a ++ b) m
 
 -- ---- answers
 

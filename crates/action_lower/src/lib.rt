@@ -19,7 +19,7 @@ mod turns;
 
 pub use firing::{Firing, lower_firing};
 pub use first::first_cells;
-pub use guards::lower_guards;
+pub use guards::{clear_at, lower_guards};
 pub use locals::lower_locals;
 pub use outputs::lower_outputs;
 pub use seats::global_names;

@@ -26,8 +26,8 @@ use Rattle.std.proofs.lemmas.List.{length-map}
 use Rattle.action_lower.specs.FiringCode.{globals_of}
 use Rattle.actor_lower.specs.Drafted.{AddsFunction, AddsProcedure, FunctionsSoFar, HasFunctionAt, HasProcedureAt, HoldsFunctions, HoldsProcedures, IsLeft, IsServed, starts, NoFunctionMore, NoProcedureMore, ProceduresSoFar}
 use Rattle.actor_lower.specs.declared.fault.ActorFault.{ActorFault}
-use Rattle.actor_lower.specs.declared.fault.ActorFault.TheVariants.{Memory, NotLowered, NotSeen, TooLarge}
-use Rattle.actor_lower.specs.Faults.{AreWhole, IsActorFault, HasCode, IsCodeFault, IsFaultOfMany, IsLeftOut, IsPartsFault, IsRoutineFault, IsWhole, IsWhyAction, IsWhyActions, actor_fault}
+use Rattle.actor_lower.specs.declared.fault.ActorFault.TheVariants.{Memory, NotLowered, NotSeen}
+use Rattle.actor_lower.specs.Faults.{AreWhole, IsActorFault, IsLeftOut, IsPartsFault, IsWhole, IsWhyAction, IsWhyActions, OnlyMemory, actor_fault}
 use Rattle.lowered_actor.specs.declared.parts.ActionCode.{ActionCode}
 use Rattle.actor_lower.specs.Settled.{AllFunctions, AllProcedures, AreFunctions, AreProcedures, AreSettled, HasFunction, HasProcedure, IsFunction, IsProcedure, calling, function_more, no_function, no_procedure, procedure_more}
 use Rattle.actor_lower.proofs.Likeness.{mapped}
@@ -158,8 +158,8 @@ numbers-more xs now k is count each = (
 
 pub why-actions : (rs : Routines) (b : Bound) (n : ℕ) (fault : LowerFault) (mine : ActorFault) → mine ≡ actor_fault fault → n < length b.actions.items → AreWhole rs b n → IsWhyAction rs b n fault → IsWhyActions rs b mine
 why-actions rs b n lowering.Memory mine is low before why = subst (IsWhyActions rs b) (sym is) tt
-why-actions rs b n lowering.TooLong mine is low before why = subst (IsWhyActions rs b) (sym is) (omega (arith, low))
-why-actions rs b n lowering.TooManyCells mine is low before why = subst (IsWhyActions rs b) (sym is) (omega (arith, low))
+why-actions rs b n lowering.TooLong mine is low before why = subst (IsWhyActions rs b) (sym is) tt
+why-actions rs b n lowering.TooManyCells mine is low before why = subst (IsWhyActions rs b) (sym is) tt
 why-actions rs b n (lowering.NotLowered at) mine is low before why = subst (IsWhyActions rs b) (sym is) (record { action = n; there = low; before = before; part = why })
 
 pub why-err : {T E : Type 0} (r : Result T E) (P Q : E → Type 0) → IsErrAnd r P → ((e : E) → P e → Q e) → IfErr r Q
@@ -208,98 +208,29 @@ is-whole b cs ds ps qs same also settled whole = record {
   actions = subst (λ rs. AreWhole rs b (length b.actions.items)) (routines-same ds cs qs ps same also) whole;
 }
 
-pub whole-why : (b : Bound) (cs ds : List Callee) (ps qs : List ProcCallee) → ds ≡ cs → qs ≡ ps → AreSettled (actor_of b) (routines_of cs ps) → (e : ActorFault) → IsWhyActions (routines_of ds qs) b e → IsActorFault b e
+pub whole-why : (b : Bound) (cs ds : List Callee) (ps qs : List ProcCallee) → ds ≡ cs → qs ≡ ps → AreSettled (actor_of b) (routines_of cs ps) → (e : ActorFault) → IsWhyActions (routines_of ds qs) b e → IsPartsFault b e
 whole-why b cs ds ps qs same also settled Memory h = tt
 whole-why b cs ds ps qs same also settled (NotLowered at) h = record {
   routines = routines_of cs ps;
   settled = settled;
   part = subst (λ rs. IsLeftOut rs b at) (routines-same ds cs qs ps same also) h;
 }
-whole-why b cs ds ps qs same also settled TooLarge h = omega (arith, h)
 whole-why b cs ds ps qs same also settled NotSeen h = absurd h
 
-some-or-none : {A : Type 0} (xs : List A) → (0 < length xs) ⊎ (xs ≡ [])
-some-or-none [] = inr refl
-some-or-none (x ∷ xs) = inl (omega arith)
+-- out of memory is such a fault
+pub parts-why : (b : Bound) (e : ActorFault) → OnlyMemory e → IsPartsFault b e
+parts-why b Memory h = tt
+parts-why b (NotLowered at) h = absurd h
+parts-why b NotSeen h = absurd h
 
-none-without : {A : Type 0} (xs : List A) (k : ℕ) (x : A) → xs ≡ [] → slice_get xs k ≡ Some x → ⊥
-none-without xs k x none e = let h = below xs k x e in let n = ap length none in omega (arith, h, n)
+-- a fault of the parts is one of the actor
+pub actor-why : (b : Bound) (e : ActorFault) → IsPartsFault b e → IsActorFault b e
+actor-why b Memory h = tt
+actor-why b (NotLowered at) h = h
+actor-why b NotSeen h = absurd h
 
-no-functions-of : (actor : Actor) (fs : List Function) → actor.funs ≡ [] → AreFunctions actor fs → length fs ≡ 0
-no-functions-of actor fs none no_function = refl
-no-functions-of actor fs none (function_more gs k f g are there is whole) = absurd (none-without actor.funs k f none there)
-
-no-procedures-of : (actor : Actor) (fs : List Function) (ps : List Procedure) → actor.procs ≡ [] → AreProcedures actor fs ps → length ps ≡ 0
-no-procedures-of actor fs ps none no_procedure = refl
-no-procedures-of actor fs ps none (procedure_more qs k p g are there is whole) = absurd (none-without actor.procs k p none there)
-
-no-rows : (whole : Code) (places : List ℕ) → AreBodies whole 0 0 places → places ≡ [] → length whole.instrs ≡ 0
-no-rows whole places (no_body n k e) none = sym e
-no-rows whole places (body_more b e k others body rest) none = let n : length places ≡ 0 = ap length none in absurd (omega (arith, n))
-
--- an actor without members has no code
-no-code : (b : Bound) (cs : List Callee) (ps : List ProcCallee) (actions : List ActionCode) (draft : Draft) → b.funs.items ≡ [] → b.procs.items ≡ [] → b.actions.items ≡ [] → AreSettled (actor_of b) (routines_of cs ps)
-    → length draft.routines.items ≡ length cs + length ps → length actions ≡ length b.actions.items → AreBodiesOf actions draft → (length draft.instrs.items ≡ 0) × (length draft.routines.items ≡ 0)
-no-code b cs ps actions draft funs procs acts settled count many bodies =
-    let f = no-functions-of (actor_of b) (functions_view cs) (ap (map fun_view) funs) settled.functions in
-    let p = no-procedures-of (actor_of b) (functions_view cs) (procedures_view ps) (ap (map proc_view) procs) settled.procedures in
-    let fs = length-map cs function_view in
-    let gs = length-map ps procedure_view in
-    let none : length draft.routines.items ≡ 0 = omega (arith, f, p, fs, gs, count) in
-    let empty : draft.routines.items ≡ [] = ⊎_elim (λ (some : 0 < length draft.routines.items). absurd (omega (arith, some, none))) (λ (e : draft.routines.items ≡ []). e) (some-or-none draft.routines.items) in
-    let idle : actions ≡ [] = let n = ap length acts in ⊎_elim (λ (some : 0 < length actions). absurd (omega (arith, some, many, n))) (λ (e : actions ≡ []). e) (some-or-none actions) in
-    let whole : Code = record { instrs = draft.instrs.items; routines = draft.routines.items; entries = []; cells = draft.cells } in
-    (no-rows whole (starts draft ++ all_entries actions) (bodies whole refl refl refl) (ap (λ rs. map (λ r. r.start) rs ++ all_entries actions) empty ∙ ap all_entries idle), none)
-
-has-code : (b : Bound) (cs : List Callee) (ps : List ProcCallee) (actions : List ActionCode) (draft : Draft) → AreSettled (actor_of b) (routines_of cs ps) → length draft.routines.items ≡ length cs + length ps
-    → length actions ≡ length b.actions.items → AreBodiesOf actions draft → (2 ^ 32 ≤ length draft.instrs.items) ⊎ (2 ^ 32 ≤ length draft.routines.items) → HasCode b
-has-code b cs ps actions draft settled count many bodies large =
-    ⊎_elim (λ (f : 0 < length b.funs.items). omega (arith, f)) (λ (no-f : b.funs.items ≡ []).
-    ⊎_elim (λ (p : 0 < length b.procs.items). omega (arith, p)) (λ (no-p : b.procs.items ≡ []).
-    ⊎_elim (λ (a : 0 < length b.actions.items). omega (arith, a)) (λ (no-a : b.actions.items ≡ []).
-    let none = no-code b cs ps actions draft no-f no-p no-a settled count many bodies in
-    let i = none.0 in
-    let r = none.1 in
-    ⊎_elim (λ (h : 2 ^ 32 ≤ length draft.instrs.items). absurd (omega (arith, h, i))) (λ (h : 2 ^ 32 ≤ length draft.routines.items). absurd (omega (arith, h, r))) large)
-    (some-or-none b.actions.items)) (some-or-none b.procs.items)) (some-or-none b.funs.items)
-
-pub code-why : (b : Bound) (cs : List Callee) (ps : List ProcCallee) (actions : List ActionCode) (draft : Draft) → AreSettled (actor_of b) (routines_of cs ps) → length draft.routines.items ≡ length cs + length ps
-    → length actions ≡ length b.actions.items → AreBodiesOf actions draft → (e : ActorFault) → IsCodeFault draft e → IsActorFault b e
-code-why b cs ps actions draft settled count many bodies Memory h = tt
-code-why b cs ps actions draft settled count many bodies (NotLowered at) h = absurd h
-code-why b cs ps actions draft settled count many bodies TooLarge h = has-code b cs ps actions draft settled count many bodies h
-code-why b cs ps actions draft settled count many bodies NotSeen h = absurd h
-
--- code that isn't few has too many instructions or routines
-pub not-few : (code : Code) → ¬ AreFew code → (2 ^ 32 ≤ length code.instrs) ⊎ (2 ^ 32 ≤ length code.routines)
-not-few code large =
-    ⊎_elim (λ (i : length code.instrs < 2 ^ 32).
-    ⊎_elim (λ (r : length code.routines < 2 ^ 32). absurd (large (record { instrs = i; routines = r }))) (λ (h : 2 ^ 32 ≤ length code.routines). inr h) (cases_lt (length code.routines) (2 ^ 32)))
-    (λ (h : 2 ^ 32 ≤ length code.instrs). inl h) (cases_lt (length code.instrs) (2 ^ 32))
-
-pub many-why : (n : ℕ) → 0 < n → (e : ActorFault) → IsRoutineFault e → IsFaultOfMany n e
-many-why n some Memory h = tt
-many-why n some (NotLowered at) h = absurd h
-many-why n some TooLarge h = some
-many-why n some NotSeen h = absurd h
-
-pub more-why : (n m : ℕ) → n ≤ m → (e : ActorFault) → IsFaultOfMany n e → IsFaultOfMany m e
-more-why n m le Memory h = tt
-more-why n m le (NotLowered at) h = absurd h
-more-why n m le TooLarge h = omega (arith, h, le)
-more-why n m le NotSeen h = absurd h
-
-pub parts-why : (b : Bound) (actions : List ActionCode) → IsWhole b → length actions ≡ length b.actions.items → (e : ActorFault) → IsPartsFault actions e → IsActorFault b e
-parts-why b actions whole many Memory h = tt
-parts-why b actions whole many (NotLowered at) h = absurd h
-parts-why b actions whole many TooLarge h = absurd h
-parts-why b actions whole many NotSeen h = (whole, omega (arith, h, many))
-
-pub routine-why : (b : Bound) (e : ActorFault) → IsFaultOfMany (length b.funs.items + length b.procs.items) e → IsActorFault b e
-routine-why b Memory h = tt
-routine-why b (NotLowered at) h = absurd h
-routine-why b TooLarge h = omega (arith, h)
-routine-why b NotSeen h = absurd h
+pub memory-why : (b : Bound) (e : ActorFault) → OnlyMemory e → IsActorFault b e
+memory-why b e h = actor-why b e (parts-why b e h)
 
 pub if-ok : {T E : Type 0} (r : Result T E) (P : Type 0) → P → OnOk r P
 if-ok (Ok v) P h = h

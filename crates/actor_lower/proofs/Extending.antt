@@ -1,5 +1,5 @@
 -- Code that stands in a draft stands there still once more is written behind it.
-use Rattle.std.proofs.Common.{◌≡◌, ℕ, ◌≤◌, true, ℤ, List, [], ◌++◌, length, sym, ap, subst, ◌∙◌, Some, arith, append_assoc}
+use Rattle.std.proofs.Common.{◌≡◌, ℕ, ◌≤◌, true, ℤ, List, [], ◌++◌, length, sym, ap, subst, ◌∙◌, Option, Some, arith, append_assoc}
 use Rattle.std.specs.Prelude.{slice_get}
 use Rattle.cal_model.specs.Actor.{Action, Actor}
 use Rattle.code_ir.specs.declared.instr.Instr.{Instr}
@@ -39,8 +39,8 @@ more-again one two three f g = record {
   cells = let le = f.cells in let ge = g.cells in omega (arith, le, ge);
 }
 
-pub guards-added : (fs : List Function) (actor : Actor) (a : ℕ) (act : Action) (es : List ℕ) (old new : Draft) → slice_get actor.actions a ≡ Some act → AddsGuards fs actor a es old new → IsMore old new
-guards-added fs actor a act es old new is added =
+pub guards-added : (clears : Option ℕ) (fs : List Function) (actor : Actor) (a : ℕ) (act : Action) (es : List ℕ) (old new : Draft) → slice_get actor.actions a ≡ Some act → AddsGuards clears fs actor a es old new → IsMore old new
+guards-added clears fs actor a act es old new is added =
     let one = added act is in
     record { code = one.code; is = one.is; routines = one.routines; cells = guards-grow one.has }
 

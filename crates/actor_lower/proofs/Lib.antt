@@ -10,4 +10,6 @@ pub mod Routined
 pub mod Chosen
 pub mod Cleared
 pub mod Inside
+pub mod ClearedStand
+pub mod ClearedMade
 pub mod Together

@@ -1,5 +1,5 @@
 -- Actions of a `Bound` at a place, and what is added to a draft for them.
-use Rattle.std.proofs.Common.{◌≡◌, ℕ, zero, suc, ◌+◌, ◌<◌, ◌≤◌, ◌⊎◌, inl, inr, List, [], ◌∷◌, ◌++◌, map, length, refl, sym, ap, subst, ◌∙◌, None, Some, arith, ⊎_elim}
+use Rattle.std.proofs.Common.{◌≡◌, ℕ, zero, suc, ◌+◌, ◌<◌, ◌≤◌, ◌⊎◌, inl, inr, List, [], ◌∷◌, ◌++◌, map, length, refl, sym, ap, subst, ◌∙◌, Option, None, Some, arith, ⊎_elim}
 use Rattle.std.specs.Prelude.{slice_get, slice_index_or}
 use Rattle.std.specs.List.{range_with_len}
 use Rattle.std.proofs.lemmas.Bool.{cases_lt}
@@ -33,14 +33,14 @@ module _ (b : Bound) (a : ℕ) (low : a < length b.actions.items) where
   pub action-there : (act : Action) × (slice_get (actor_of b).actions a ≡ Some act)
   action-there = there (actor_of b).actions a (let e = length-map b.actions.items action_view in omega (arith, low, e))
 
-  pub guards-grown : (fs : List Function) (es : List ℕ) (old new : Draft) → AddsGuards fs (actor_of b) a es old new → IsMore old new
-  guards-grown fs es old new added = guards-added fs (actor_of b) a action-there.0 es old new action-there.1 added
+  pub guards-grown : (clears : Option ℕ) (fs : List Function) (es : List ℕ) (old new : Draft) → AddsGuards clears fs (actor_of b) a es old new → IsMore old new
+  guards-grown clears fs es old new added = guards-added clears fs (actor_of b) a action-there.0 es old new action-there.1 added
 
   pub firing-grown : (rs : Routines) (entry : ℕ) (firsts : List ℕ) (old new : Draft) → AddsFiring rs (actor_of b) a entry firsts old new → IsMore old new
   firing-grown rs entry firsts old new added = firing-added rs (actor_of b) a action-there.0 entry firsts old new action-there.1 added
 
-  pub guards-alone : (rs : Routines) (es : List ℕ) (old new : Draft) → IsServed (actor_of b) rs old → AddsGuards rs.functions (actor_of b) a es old new → AddsBodies es old new
-  guards-alone rs es old new served added = guards-bodies (actor_of b) a action-there.0 rs es old new served action-there.1 added
+  pub guards-alone : (clears : Option ℕ) (rs : Routines) (es : List ℕ) (old new : Draft) → IsServed (actor_of b) rs old → AddsGuards clears rs.functions (actor_of b) a es old new → AddsBodies es old new
+  guards-alone clears rs es old new served added = guards-bodies clears (actor_of b) a action-there.0 rs es old new served action-there.1 added
 
   pub firing-alone : (rs : Routines) (entry : ℕ) (firsts : List ℕ) (old new : Draft) → IsSound (actor_of b) → IsServed (actor_of b) rs old → AddsFiring rs (actor_of b) a entry firsts old new → AddsBodies (entry ∷ []) old new
   firing-alone rs entry firsts old new sound served added = firing-bodies (actor_of b) a action-there.0 rs entry firsts old new sound served action-there.1 added
@@ -60,7 +60,7 @@ sends-are b a n act same low is outs firsts cells sends ports o f p e other at =
 
 -- ---- one action more
 
-last-or-before : {A : Type 0} (xs : List A) (y : A) (k : ℕ) (x : A) → slice_get (xs ++ y ∷ []) k ≡ Some x → (slice_get xs k ≡ Some x) ⊎ ((k ≡ length xs) × (y ≡ x))
+pub last-or-before : {A : Type 0} (xs : List A) (y : A) (k : ℕ) (x : A) → slice_get (xs ++ y ∷ []) k ≡ Some x → (slice_get xs k ≡ Some x) ⊎ ((k ≡ length xs) × (y ≡ x))
 last-or-before [] y zero x e = inr (refl, cc)
 last-or-before [] y (suc k) x e = absurd (cc)
 last-or-before (z ∷ xs) y zero x e = inl e

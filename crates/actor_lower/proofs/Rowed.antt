@@ -1,5 +1,5 @@
 -- The code of actions is a row of bodies.
-use Rattle.std.proofs.Common.{◌≡◌, ℕ, zero, suc, ◌+◌, ◌<◌, ◌≤◌, ⊎_elim, Bool, true, false, List, [], ◌∷◌, ◌++◌, length, map, take, refl, sym, ap, subst, ◌∙◌, Some, arith, append_assoc, length-append}
+use Rattle.std.proofs.Common.{◌≡◌, ℕ, zero, suc, ◌+◌, ◌<◌, ◌≤◌, ⊎_elim, Bool, true, false, List, [], ◌∷◌, ◌++◌, length, map, take, refl, sym, ap, subst, ◌∙◌, Option, Some, arith, append_assoc, length-append}
 use Rattle.std.specs.Prelude.{slice_get, ◌==◌, ◌||◌}
 use Rattle.std.proofs.lemmas.Bool.{eq-eqb, eqb-true}
 use Rattle.std.proofs.lemmas.List.{append-nil}
@@ -19,13 +19,14 @@ use Rattle.expr_lower.specs.Held.{AreBelow}
 use Rattle.expr_lower.specs.Names.{Name}
 use Rattle.expr_lower.specs.Placed.{StandsAt}
 use Rattle.expr_lower.specs.Routining.{LocalsSized}
+use Rattle.expr_lower.proofs.Fitted.{Plain, fits_one, plain_then}
 use Rattle.expr_lower.proofs.Runs.{stands_left, stands_right}
 use Rattle.stmt_lower.specs.Calls.{HasRunRoutines}
 use Rattle.stmt_lower.specs.Procedures.{Routines}
 use Rattle.lowered_actor.specs.declared.parts.ActionCode.{ActionCode}
 use Rattle.action_lower.specs.FiringCode.{IsFiringCode}
 use Rattle.action_lower.specs.FiringWords.{AddsFiring}
-use Rattle.action_lower.specs.Guarding.{AreGuards, guard_more, no_guard}
+use Rattle.action_lower.specs.Guarding.{AreGuards, IsHead, clearing, guard_more, no_guard, no_head}
 use Rattle.action_lower.specs.GuardWords.{AddsGuards}
 use Rattle.action_lower.specs.Seats.{state_cells}
 use Rattle.action_lower.proofs.Answering.{stands-in}
@@ -40,37 +41,51 @@ use Rattle.actor_lower.proofs.FiringFits.{firing-fits, fits-more, has-more}
 
 -- ---- guards and firings
 
-guards-rows : {rs : Routines} {names : List Name} {gs : List Tree} {es : List ℕ} {base n m : ℕ} {part : List Instr} → AreGuards rs.functions names gs es base n part m → (whole : Code)
+guards-rows : {clears : Option ℕ} {rs : Routines} {names : List Name} {gs : List Tree} {es : List ℕ} {base n m : ℕ} {part : List Instr} → AreGuards clears rs.functions names gs es base n part m → (whole : Code)
     → HasRunRoutines whole (length whole.routines) n rs → StandsAt whole.instrs base part → m ≤ whole.cells
     → (number : ℕ) → length whole.routines ≤ number → (rest : List ℕ) → AreBodies whole (base + length part) (number + length es) rest → AreBodies whole base number (es ++ rest)
 guards-rows (no_guard base n) whole called stands le number behind rest rows =
     let none : base + 0 ≡ base = omega arith in
     let still : number + 0 ≡ number = omega arith in
     subst (λ p. AreBodies whole p number rest) none (subst (λ k. AreBodies whole (base + 0) k rest) still rows)
-guards-rows {rs} (guard_more g gs es base n k m a b first others) whole called stands le number behind rest rows =
+guards-rows {rs = rs} (guard_more g gs es base n k m a b first others) whole called stands le number behind rest rows =
     let wide : HasRunRoutines whole (length whole.routines) k rs = has-more whole (length whole.routines) n k rs first.lowered.cells called in
     let more = guards-grow others in
-    let here : StandsAt whole.instrs base (first.body ++ op.Answer ∷ []) = subst (StandsAt whole.instrs base) first.is (stands_left whole.instrs base a b stands) in
-    let size : length a ≡ length first.body + 1 = ap length first.is ∙ length-append first.body (op.Answer ∷ []) in
+    let body = first.head ++ first.body in
+    let here : StandsAt whole.instrs base (first.head ++ (first.body ++ op.Answer ∷ [])) = subst (StandsAt whole.instrs base) first.is (stands_left whole.instrs base a b stands) in
+    let all : StandsAt whole.instrs base (body ++ op.Answer ∷ []) = subst (StandsAt whole.instrs base) (sym (append_assoc first.head first.body (op.Answer ∷ []))) here in
+    let inner : StandsAt whole.instrs (base + length first.head) first.body =
+    stands_left whole.instrs (base + length first.head) first.body (op.Answer ∷ []) (stands_right whole.instrs base first.head (first.body ++ op.Answer ∷ []) here) in
+    let size : length a ≡ length body + 1 = ap length first.is ∙ ap length (sym (append_assoc first.head first.body (op.Answer ∷ []))) ∙ length-append body (op.Answer ∷ []) in
     let split : base + length (a ++ b) ≡ base + length a + length b = let s = length-append a b in omega (arith, s) in
     let count : number + suc (length es) ≡ number + 1 + length es = omega arith in
     let later : AreBodies whole (base + length a) (number + 1) (es ++ rest) =
     guards-rows {rs = rs} others whole wide (stands_right whole.instrs base a b stands) le (number + 1) (omega (arith, behind)) rest
     (subst (λ k. AreBodies whole (base + length a + length b) k rest) count (subst (λ p. AreBodies whole p (number + suc (length es)) rest) split rows)) in
-    let next : base + length a ≡ base + length first.body + 1 = omega (arith, size) in
-    body_more base (base + length first.body) number (es ++ rest) (record {
+    let next : base + length a ≡ base + length body + 1 = omega (arith, size) in
+    let fits : Plain whole (length whole.routines) whole.cells (base + length first.head) 0 first.body 1 =
+    fits-more whole (length whole.routines) k whole.cells (base + length first.head) 0 first.body 1 (base + length first.head + length first.body) 1 (omega (arith, more, le)) (first.lowered.fits whole (length whole.routines) 0 wide.functions inner) in
+    body_more base (base + length body) number (es ++ rest) (record {
       callable = length whole.routines;
       before = behind;
       routines = omega arith;
-      instrs = first.body;
+      instrs = body;
       left = 1;
       last = op.Answer;
       at_end = refl;
-      stands = stands_left whole.instrs base first.body (op.Answer ∷ []) here;
-      fits = fits-more whole (length whole.routines) k whole.cells base 0 first.body 1 (base + length first.body) 1 (omega (arith, more, le)) (first.lowered.fits whole (length whole.routines) 0 wide.functions (stands_left whole.instrs base first.body (op.Answer ∷ []) here));
-      ends = (stands_right whole.instrs base first.body (op.Answer ∷ []) here).0;
+      stands = stands_left whole.instrs base body (op.Answer ∷ []) all;
+      fits = headed whole base first.body first.begins (omega (arith, more, le)) fits;
+      ends = (stands_right whole.instrs base body (op.Answer ∷ []) all).0;
       is_end = (behind, refl);
     }) (subst (λ p. AreBodies whole p (number + 1) (es ++ rest)) next later)
+  where
+    -- a head fits in front of what fits
+    headed : {clears : Option ℕ} {k : ℕ} {head : List Instr} (whole : Code) (base : ℕ) (body : List Instr) → IsHead clears k head → k ≤ whole.cells → Plain whole (length whole.routines) whole.cells (base + length head) 0 body 1
+        → Plain whole (length whole.routines) whole.cells base 0 (head ++ body) 1
+    headed whole base body (no_head k) le fits = let here : base + 0 ≡ base = omega arith in subst (λ p. Plain whole (length whole.routines) whole.cells p 0 body 1) here fits
+    headed whole base body (clearing kept n k is) le fits =
+        plain_then whole (length whole.routines) whole.cells base 0 0 1 (op.Zero kept n ∷ []) body
+        (fits_one whole (length whole.routines) whole.cells base 0 0 (op.Zero kept n) (omega arith) (omega arith) refl (omega (arith, is, le)) tt tt tt) fits
 
 firing-rows : {rs : Routines} {names : List Name} {ports : List Port} {act : Action} {firsts : List ℕ} {base n m : ℕ} {code : List Instr} → IsFiringCode rs names ports act firsts base n code m → AreBelow n names → LocalsSized act.locals
     → ((port : ℕ) → IsSize (kind_of_port ports port)) → (whole : Code) → HasRunRoutines whole (length whole.routines) n rs → StandsAt whole.instrs base code → m ≤ whole.cells
@@ -102,14 +117,14 @@ stood-in whole old new code more is all =
     subst (λ xs. StandsAt xs (length old) code) (sym placed) (stands-in old code more)
 
 -- code that goes on behind what was added to a draft has the routines of the draft
-has-behind : (actor : Actor) (rs : Routines) (old new : Draft) (whole : Code) (more code : List Instr) → IsServed actor rs old → new.instrs.items ≡ old.instrs.items ++ code → new.routines.items ≡ old.routines.items → GoesOn new whole more
+pub has-behind : (actor : Actor) (rs : Routines) (old new : Draft) (whole : Code) (more code : List Instr) → IsServed actor rs old → new.instrs.items ≡ old.instrs.items ++ code → new.routines.items ≡ old.routines.items → GoesOn new whole more
     → HasRunRoutines whole (length whole.routines) old.cells rs
 has-behind actor rs old new whole more code served is routines goes =
     let before : GoesOn old whole (code ++ more) = (goes.0 ∙ ap (λ xs. xs ++ more) is ∙ append_assoc old.instrs.items code more, goes.1 ∙ routines) in
     subst (λ k. HasRunRoutines whole k old.cells rs) (sym (ap length before.1)) (has-more whole (length old.routines.items) served.high old.cells rs served.below (served.called whole (code ++ more) before))
 
-pub guards-bodies : (actor : Actor) (a : ℕ) (act : Action) (rs : Routines) (es : List ℕ) (old new : Draft) → IsServed actor rs old → slice_get actor.actions a ≡ Some act → AddsGuards rs.functions actor a es old new → AddsBodies es old new
-guards-bodies actor a act rs es old new served e added whole more number rest goes room behind rows =
+pub guards-bodies : (clears : Option ℕ) (actor : Actor) (a : ℕ) (act : Action) (rs : Routines) (es : List ℕ) (old new : Draft) → IsServed actor rs old → slice_get actor.actions a ≡ Some act → AddsGuards clears rs.functions actor a es old new → AddsBodies es old new
+guards-bodies clears actor a act rs es old new served e added whole more number rest goes room behind rows =
     let one = added act e in
     let is = goes.0 in
     let has = has-behind actor rs old new whole more one.code served one.is one.routines goes in

@@ -1,9 +1,8 @@
 -- Drafts that begin with the routines of functions and procedures.
 -- Not trusted: no promise is read with it.
-use Rattle.std.specs.Prelude.{◌≡◌, ℕ, ◌+◌, ◌-◌, ◌≤◌, ◌⊎◌, List, [], ◌∷◌, ◌++◌, length, map, None, Some, slice_get}
+use Rattle.std.specs.Prelude.{◌≡◌, ℕ, ◌+◌, ◌≤◌, ◌⊎◌, List, [], ◌∷◌, ◌++◌, length, map, None, Some, slice_get}
 use Rattle.cal_model.specs.Actor.{Actor, Fun, Proc}
 use Rattle.code_ir.specs.declared.instr.Instr.{Instr}
-use Rattle.code_ir.specs.declared.instr.Instr.TheVariants as op
 use Rattle.code_ir.specs.declared.instr.Routine.{Routine}
 use Rattle.code_ir.specs.Code.{Code}
 use Rattle.expr_lower.specs.declared.draft.Draft.{Draft}
@@ -140,8 +139,3 @@ pub record IsServed (actor : Actor) (rs : Routines) (draft : Draft) : Type 0 whe
       rs.functions rs.procedures high
   pub called : (whole : Code) (more : List Instr) → GoesOn draft whole more
       → HasRunRoutines whole (length draft.routines.items) high rs
-
--- the instruction at a place clears all cells from kept on, up to a number of cells
-abbrev pub SetsZero : List Instr → List Instr → ℕ → ℕ → ℕ → Type 0
-SetsZero old new place kept cells = (before rest : List Instr) (i : Instr) → old ≡ before ++ i ∷ rest
-    → place ≡ length before → new ≡ before ++ op.Zero kept (cells - kept) ∷ rest

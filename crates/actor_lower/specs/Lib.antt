@@ -5,3 +5,5 @@ pub mod Settled
 pub mod Standing
 pub mod Fitting
 pub mod RoutineWords
+pub mod May
+pub mod ClearedBodies

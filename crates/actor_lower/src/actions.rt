@@ -1,12 +1,13 @@
 //! The actions of an actor as code.
 
-ghost use Rattle.std.specs.Prelude.{◌≡◌, ◌<◌, ◌≤◌, ◌++◌, ◌∷◌, [], IfErr, IfOk, None, OnOk, length};
+ghost use Rattle.std.specs.Prelude.{◌≡◌, ℕ, ◌<◌, ◌≤◌, ◌++◌, ◌∷◌, [], IfErr, IfOk, None, OnOk, Some, length, true};
 ghost use Rattle.cal_model.specs.Sound.{IsSound};
 ghost use Rattle.cal_model.specs.View.{actor_of};
 ghost use Rattle.stmt_lower.specs.Procedures.{routines_of};
 ghost use Rattle.action_lower.specs.Seats.{state_cells};
 ghost use Rattle.actor_tables.specs.Tables.{AreRates, AreRatesOf};
 ghost use Rattle.actor_lower.specs.Coded.{AddsBodies, AnswersFrom, AreCodedActions, FiresFrom, IsCodedAction, IsMore, SendsInside, all_entries, entries_of};
+ghost use Rattle.actor_lower.specs.ClearedBodies.{ClearedFiring, ClearedGuards, ClearsAction, ClearsActions};
 ghost use Rattle.actor_lower.specs.Drafted.{IsServed};
 ghost use Rattle.actor_lower.specs.Faults.{AreWhole, IsWhyAction, IsWhyActions, left_out_at};
 
@@ -30,13 +31,15 @@ struct Entries {
     firsts: Vec<u32>,
 }
 
-/// Appends the code of each action, one after the other.
+/// Appends the code of each action, one after the other. If that is wanted, each guard and each firing clears the cells
+/// behind the `kept` state cells before anything else.
 pub(crate) fn lower_actions(
     alloc: Global,
     b: &Bound,
     callees: &[Callee],
     procedures: &[ProcCallee],
     kept: u32,
+    clear: bool,
     rates: &[Rates],
     draft: &mut Draft,
 ) -> Result<Vec<ActionCode>, ActorFault>
@@ -48,6 +51,8 @@ pub(crate) fn lower_actions(
         (length b.now.actions.items) actions.items draft.new) }
     ensures bodies { IfOk result
         (λ actions. AddsBodies (all_entries actions.items) draft.old draft.new) }
+    ensures cleared { IfOk result (λ actions. ClearsActions clear (actor_of b.now)
+        (state_cells (actor_of b.now)) draft.old.cells actions.items draft.new) }
     ensures more { OnOk result (IsMore draft.old draft.new) }
     ensures whole { OnOk result (AreWhole (routines_of callees.now procedures.now) b.now
         (length b.now.actions.items)) }
@@ -62,6 +67,7 @@ pub(crate) fn lower_actions(
             callees,
             procedures,
             kept,
+            clear,
             action,
             &rates[usize::from(action)],
             draft,
@@ -78,6 +84,7 @@ fn lower_action(
     callees: &[Callee],
     procedures: &[ProcCallee],
     kept: u32,
+    clear: bool,
     action: u16,
     rates: &Rates,
     draft: &mut Draft,
@@ -90,13 +97,15 @@ fn lower_action(
         rates.now.gives.items }
     ensures coded { IfOk result (λ coded. IsCodedAction (actor_of b.now) action coded draft.new) }
     ensures bodies { IfOk result (λ coded. AddsBodies (entries_of coded) draft.old draft.new) }
+    ensures cleared { IfOk result (λ coded. ClearsAction clear (actor_of b.now) action
+        (state_cells (actor_of b.now)) draft.old.cells coded draft.new) }
     ensures more { OnOk result (IsMore draft.old draft.new) }
     ensures whole { OnOk result
         (left_out_at (routines_of callees.now procedures.now) b.now action ≡ None) }
     ensures fault { IfErr result
         (IsWhyAction (routines_of callees.now procedures.now) b.now action) }
 {
-    let entries = lower_entries(alloc, b, callees, procedures, kept, action, draft)?;
+    let entries = lower_entries(alloc, b, callees, procedures, kept, clear, action, draft)?;
     let outputs = &b.actions[usize::from(action)].outputs;
     let sends = sends_of(alloc, outputs, &entries.firsts, b.outs.len() as u32)?;
     Ok(ActionCode {
@@ -115,6 +124,7 @@ fn lower_entries(
     callees: &[Callee],
     procedures: &[ProcCallee],
     kept: u32,
+    clear: bool,
     action: u16,
     draft: &mut Draft,
 ) -> Result<Entries, LowerFault>
@@ -128,6 +138,12 @@ fn lower_entries(
         AddsBodies (entries.guards.items ++ entries.fire ∷ []) draft.old draft.new) }
     ensures fires { IfOk result (λ entries. FiresFrom (actor_of b.now) action entries.fire
         entries.firsts.items draft.new) }
+    ensures guards_cleared { IfOk result (λ entries. clear ≡ true
+        → ClearedGuards (state_cells (actor_of b.now)) draft.old.cells entries.guards.items
+        draft.new) }
+    ensures firing_cleared { IfOk result (λ entries. clear ≡ true
+        → ClearedFiring (actor_of b.now) action (state_cells (actor_of b.now)) draft.old.cells
+        entries.fire entries.firsts.items draft.new) }
     ensures inside { IfOk result (λ entries. SendsInside (actor_of b.now) action
         entries.firsts.items draft.new) }
     ensures more { OnOk result (IsMore draft.old draft.new) }
@@ -136,11 +152,20 @@ fn lower_entries(
     ensures fault { IfErr result
         (IsWhyAction (routines_of callees.now procedures.now) b.now action) }
 {
-    let guards = lower_guards(alloc, b, action, callees, draft)?;
-    let firing = put_firing(alloc, b, callees, procedures, kept, action, draft)?;
+    let clears = clears_behind(clear, kept);
+    let guards = lower_guards(alloc, b, action, callees, clears, draft)?;
+    let firing = put_firing(alloc, b, callees, procedures, kept, clear, action, draft)?;
     Ok(Entries {
         guards,
         fire: firing.entry,
         firsts: firing.firsts,
     })
+}
+
+/// Behind how many cells guards clear the others, if they are to.
+fn clears_behind(clear: bool, kept: u32) -> Option<u32>
+    ensures some { clear ≡ true → result ≡ Some kept }
+    ensures behind { (n : ℕ) → result ≡ Some n → n ≡ kept }
+{
+    if clear { Some(kept) } else { None }
 }

@@ -1,13 +1,15 @@
 //! From an actor to a lowered one.
 
-ghost use Rattle.std.specs.Prelude.{IfErr, IfOk, OnOk};
+ghost use Rattle.std.specs.Prelude.{◌≡◌, IfErr, IfOk, OnOk, true};
 ghost use Rattle.cal_model.specs.Sound.{IsSound};
 ghost use Rattle.cal_model.specs.View.{actor_of};
+ghost use Rattle.kept_facts.specs.Clearing.{AllStand};
 ghost use Rattle.lowered_actor.specs.Actor.{actor_of as parts_view};
-ghost use Rattle.lowered_actor.specs.Facts.{FitTogether};
+ghost use Rattle.lowered_actor.specs.Facts.{FitTogether, RunRight};
 ghost use Rattle.actor_lower.specs.Coded.{IsMadeOf};
-ghost use Rattle.actor_lower.specs.Faults.{IsActorFault, IsPartsFault, IsWhole};
-ghost use Rattle.actor_lower.specs.Standing.{StandsForActor};
+ghost use Rattle.actor_lower.specs.Faults.{IsActorFault, IsPartsFault, IsWhole, OnlyMemory};
+ghost use Rattle.actor_lower.specs.May.{AllMay};
+ghost use Rattle.actor_lower.specs.Standing.{ArePartsOf, StandsForActor};
 
 use crate::actions::lower_actions;
 use crate::code::{admitted, first_numbers};
@@ -17,26 +19,63 @@ use actor_tables::laws::{lowered_actors_behave_as_meant, runs_suffice, tables_ar
 use actor_tables::lower_tables;
 use cal_model::Bound;
 use expr_lower::Draft;
-use kept_facts::keep_facts;
+use kept_facts::{keep_facts, stand};
 use lowered_actor::{Lowered, Parts};
 use std::alloc::Global;
 
 /// The lowered actor that stands for a sound actor: it has the actor's schedule, priorities and rates, its state cells
 /// hold the actor's variables from cell 0 on, scalar by scalar, and it behaves as the actor does (`stands_for`).
 ///
+/// Its guards and firings keep cells of their own behind the state cells. If it isn't seen that nothing depends on what
+/// these held before, all code is made once more, and each guard and each firing clears them before anything else.
+///
 /// # Errors
 ///
-/// `Memory` if memory runs out. All other answers say what can't be lowered yet (`fault`): `NotLowered` with the offset
+/// `Memory` if memory runs out, or if the code has 2 to the power of 32 instructions or routines or its cells can't be
+/// counted, which would take 60 gigabytes or more. All other answers say what can't be lowered yet (`fault`): `NotLowered` with the offset
 /// of the first part of a guard or a firing for which no code is made, in the first action that has one, as
 /// [`lower_guards`](action_lower::lower_guards) and [`lower_firing`](action_lower::lower_firing) say. A guard calls each
-/// function of which no part is left out, and a firing such a procedure too: a call of another one is such a part. `TooLarge` if the code has 2 to the power of 32 instructions or routines or its cells can't be counted, and
-/// never if there are no functions, procedures and actions. `NotSeen` if code was made of all parts, but it isn't seen
-/// that it keeps the facts of a lowered actor, and never if there are no actions. The code is always admitted.
+/// function of which no part is left out, and a firing such a procedure too: a call of another one is such a part.
+/// `NotSeen` if code was made of all parts, but an instruction of a guard or a firing, or of a routine that it may call,
+/// may not stand there: it writes a state cell that a firing, or a guard, may not change, or reads a token behind those
+/// that the action takes. So it never comes if there are no actions. The code is always admitted.
 pub fn lower(alloc: Global, b: &Bound) -> Result<Lowered, ActorFault>
     requires sound { IsSound (actor_of b.now) }
     ensures stands_for { IfOk result (StandsForActor (actor_of b.now)) }
     ensures whole { OnOk result (IsWhole b.now) }
     ensures fault { IfErr result (IsActorFault b.now) }
+{
+    let parts = parts_of(alloc, b, false)?;
+    let keep = keep_facts(alloc, &parts)?;
+    if keep {
+        return of_parts(alloc, parts);
+    }
+    lower_cleared(alloc, b)
+}
+
+/// The same, of code that clears its cells before anything else.
+fn lower_cleared(alloc: Global, b: &Bound) -> Result<Lowered, ActorFault>
+    requires sound { IsSound (actor_of b.now) }
+    ensures stands_for { IfOk result (StandsForActor (actor_of b.now)) }
+    ensures whole { OnOk result (IsWhole b.now) }
+    ensures fault { IfErr result (IsActorFault b.now) }
+{
+    let parts = parts_of(alloc, b, true)?;
+    if !stand(&parts) {
+        return Err(ActorFault::NotSeen);
+    }
+    of_parts(alloc, parts)
+}
+
+/// The parts of a lowered actor that stands for an actor, if they keep the facts of one. If its guards and firings clear
+/// their cells before anything else, it depends on their instructions alone whether they do.
+fn parts_of(alloc: Global, b: &Bound, clear: bool) -> Result<Parts, ActorFault>
+    requires sound { IsSound (actor_of b.now) }
+    ensures parts { IfOk result (ArePartsOf (actor_of b.now)) }
+    ensures stand { IfOk result (λ parts. clear ≡ true → AllMay (parts_view parts)
+        → AllStand (parts_view parts)) }
+    ensures whole { OnOk result (IsWhole b.now) }
+    ensures fault { IfErr result (IsPartsFault b.now) }
 {
     // they tell that the tables, the guards and the firings make the behaviour, and what the firings send
     tables_are_meant();
@@ -55,12 +94,13 @@ pub fn lower(alloc: Global, b: &Bound) -> Result<Lowered, ActorFault>
         &called.callees,
         &called.procedures,
         tables.kept,
+        clear,
         &tables.rates,
         &mut draft,
     )?;
     let code = admitted(alloc, draft, &actions)?;
     let first = first_numbers(alloc, b, code.cells())?;
-    let parts = Parts {
+    Ok(Parts {
         code,
         fsm: tables.fsm,
         order: tables.order,
@@ -71,20 +111,16 @@ pub fn lower(alloc: Global, b: &Bound) -> Result<Lowered, ActorFault>
         saved: tables.saved,
         ins: tables.ins,
         outs: tables.outs,
-    };
-    of_parts(alloc, parts)
+    })
 }
 
-/// The lowered actor of parts that fit together, if they are seen to keep the facts.
+/// The lowered actor of parts that fit together and keep the facts.
 fn of_parts(alloc: Global, parts: Parts) -> Result<Lowered, ActorFault>
     requires fits { FitTogether (parts_view parts) }
+    requires right { RunRight (parts_view parts) }
     ensures made { IfOk result (IsMadeOf parts) }
-    ensures fault { IfErr result (IsPartsFault parts.actions.items) }
+    ensures fault { IfErr result OnlyMemory }
 {
-    let keep = keep_facts(alloc, &parts)?;
-    if !keep {
-        return Err(ActorFault::NotSeen);
-    }
     let lowered = Lowered::new(alloc, parts)?;
     // it tells that the facts are kept
     let _code = lowered.code();

@@ -6,7 +6,7 @@ ghost use Rattle.cal_model.specs.Sound.{IsSound};
 ghost use Rattle.cal_model.specs.View.{actor_of};
 ghost use Rattle.action_lower.specs.Seats.{numbers_of_vars, state_cells};
 ghost use Rattle.actor_lower.specs.Coded.{AreBodiesOf, IsCodeOf, all_entries};
-ghost use Rattle.actor_lower.specs.Faults.{IsCodeFault};
+ghost use Rattle.actor_lower.specs.Faults.{OnlyMemory};
 
 use crate::fault::ActorFault;
 use crate::laws::bodies_are_admitted;
@@ -27,7 +27,7 @@ pub(crate) fn admitted(
     requires bodies { AreBodiesOf actions.now draft }
     ensures code { IfOk result (IsCodeOf draft) }
     ensures entries { IfOk result (λ code. code.entries ≡ all_entries actions.now) }
-    ensures fault { IfErr result (IsCodeFault draft) }
+    ensures fault { IfErr result OnlyMemory }
 {
     // it tells that such bodies are admitted
     bodies_are_admitted();
@@ -39,7 +39,7 @@ pub(crate) fn admitted(
         cells: draft.cells,
     };
     if !are_few(&code) {
-        return Err(ActorFault::TooLarge);
+        return Err(ActorFault::Memory);
     }
     match admit(alloc, code) {
         Ok(code) => Ok(code),

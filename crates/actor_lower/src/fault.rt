@@ -7,14 +7,13 @@ use std::alloc::{AllocError, AllocFailed};
 /// Why an actor isn't lowered. All but `Memory` say what the lowering can't do yet.
 #[derive(Clone, Copy, Debug, PartialEq, Eq)]
 pub enum ActorFault {
-    /// An allocation was refused.
+    /// Memory ran out: an allocation was refused, or the code has so many instructions or cells that 32 bits don't count
+    /// them, which would take 60 gigabytes or more.
     Memory,
     /// No code is made for the form of the part at this offset.
     NotLowered { at: u32 },
-    /// The code has so many instructions or cells that 32 bits don't count them.
-    TooLarge,
-    /// Code was made of all parts, but it isn't seen that it keeps the facts of a lowered actor
-    /// ([`keep_facts`](kept_facts::keep_facts)).
+    /// Code was made of all parts, but an instruction of it may not stand where it does, so it doesn't keep the facts of
+    /// a lowered actor ([`stand`](kept_facts::stand)).
     NotSeen,
 }
 
@@ -27,8 +26,8 @@ impl From<LowerFault> for ActorFault {
     fn from(fault: LowerFault) -> ActorFault {
         match fault {
             LowerFault::Memory => ActorFault::Memory,
-            LowerFault::TooLong => ActorFault::TooLarge,
-            LowerFault::TooManyCells => ActorFault::TooLarge,
+            LowerFault::TooLong => ActorFault::Memory,
+            LowerFault::TooManyCells => ActorFault::Memory,
             LowerFault::NotLowered { at } => ActorFault::NotLowered { at },
         }
     }

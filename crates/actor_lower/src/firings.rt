@@ -1,6 +1,6 @@
 //! The firing of an action as code, with cells that are cleared before it if that is needed.
 
-ghost use Rattle.std.specs.Prelude.{◌≡◌, ◌<◌, ◌≤◌, ◌∷◌, [], IfErr, IfOk, None, OnOk, length};
+ghost use Rattle.std.specs.Prelude.{◌≡◌, ◌<◌, ◌≤◌, ◌∷◌, [], IfErr, IfOk, None, OnOk, length, true};
 ghost use Rattle.cal_model.specs.Sound.{IsSound};
 ghost use Rattle.cal_model.specs.View.{actor_of};
 ghost use Rattle.expr_lower.specs.declared.fault.LowerFault.TheVariants.{Memory};
@@ -8,9 +8,10 @@ ghost use Rattle.stmt_lower.specs.Procedures.{routines_of};
 ghost use Rattle.action_lower.specs.FiringWords.{IsFiringFaultAt, left_out_of};
 ghost use Rattle.action_lower.specs.Seats.{state_cells};
 ghost use Rattle.actor_lower.specs.Coded.{IsMore, PutsFiring};
-ghost use Rattle.actor_lower.specs.Drafted.{IsServed, SetsZero};
+ghost use Rattle.actor_lower.specs.ClearedBodies.{ClearedFiring};
+ghost use Rattle.actor_lower.specs.Drafted.{IsServed};
 
-use action_lower::{Firing, lower_firing};
+use action_lower::{Firing, clear_at, lower_firing};
 use cal_model::Bound;
 use code_ir::Instr;
 use expr_lower::{Callee, Draft, LowerFault, next_place, put};
@@ -19,14 +20,15 @@ use stmt_lower::ProcCallee;
 
 /// Appends the code of the firing of an action.
 ///
-/// If it may fill a list item by item, all cells behind the `kept` state cells are cleared first: so it is seen that
-/// nothing depends on what they held before.
+/// If that is wanted, or if it may fill a list item by item, all cells behind the `kept` state cells are cleared first:
+/// so nothing depends on what they held before.
 pub(crate) fn put_firing(
     alloc: Global,
     b: &Bound,
     callees: &[Callee],
     procedures: &[ProcCallee],
     kept: u32,
+    clear: bool,
     action: u16,
     draft: &mut Draft,
 ) -> Result<Firing, LowerFault>
@@ -34,6 +36,8 @@ pub(crate) fn put_firing(
     requires action { action < length b.now.actions.items }
     requires kept { kept ≡ state_cells (actor_of b.now) }
     requires served { IsServed (actor_of b.now) (routines_of callees.now procedures.now) draft.old }
+    ensures cleared { IfOk result (λ f. clear ≡ true → ClearedFiring (actor_of b.now) action
+        (state_cells (actor_of b.now)) draft.old.cells f.entry f.firsts.items draft.new) }
     ensures puts { IfOk result (λ f. PutsFiring (actor_of b.now) action f draft.old draft.new) }
     ensures more { OnOk result (IsMore draft.old draft.new) }
     ensures whole { OnOk result
@@ -41,6 +45,9 @@ pub(crate) fn put_firing(
     ensures fault { IfErr result
         (IsFiringFaultAt callees.now procedures.now b.now action draft.new) }
 {
+    if clear {
+        return put_cleared(alloc, b, callees, procedures, kept, action, draft);
+    }
     let fills = may_fill(alloc, b, callees, procedures, kept, action, draft)?;
     if fills {
         return put_cleared(alloc, b, callees, procedures, kept, action, draft);
@@ -85,6 +92,8 @@ fn put_cleared(
     requires action { action < length b.now.actions.items }
     requires kept { kept ≡ state_cells (actor_of b.now) }
     requires served { IsServed (actor_of b.now) (routines_of callees.now procedures.now) draft.old }
+    ensures cleared { IfOk result (λ f. ClearedFiring (actor_of b.now) action
+        (state_cells (actor_of b.now)) draft.old.cells f.entry f.firsts.items draft.new) }
     ensures puts { IfOk result (λ f. PutsFiring (actor_of b.now) action f draft.old draft.new) }
     ensures more { OnOk result (IsMore draft.old draft.new) }
     ensures whole { OnOk result
@@ -100,19 +109,6 @@ fn put_cleared(
         entry,
         firsts: firing.firsts,
     })
-}
-
-/// The instruction at a place clears all cells behind so many.
-fn clear_at(draft: &mut Draft, place: usize, kept: u32)
-    requires inside { place < length draft.old.instrs.items }
-    requires cells { kept ≤ draft.old.cells }
-    ensures clears { SetsZero draft.old.instrs.items draft.new.instrs.items place kept
-        draft.old.cells }
-    ensures routines { draft.new.routines.items ≡ draft.old.routines.items }
-    ensures cells { draft.new.cells ≡ draft.old.cells }
-{
-    let count = draft.cells - kept;
-    draft.instrs[place] = Instr::Zero(kept, count);
 }
 
 /// Whether the firing of an action, or a routine, may fill a list item by item in cells behind the state cells.

@@ -7,7 +7,7 @@ ghost use Rattle.expr_lower.specs.Callees.{functions_view};
 ghost use Rattle.expr_lower.specs.Names.{names_view};
 ghost use Rattle.action_lower.specs.FiringCode.{globals_of};
 ghost use Rattle.actor_lower.specs.Drafted.{HoldsFunctions};
-ghost use Rattle.actor_lower.specs.Faults.{IsFaultOfMany, IsRoutineFault};
+ghost use Rattle.actor_lower.specs.Faults.{OnlyMemory};
 ghost use Rattle.actor_lower.specs.RoutineWords.{AddsFun, IsNextFunction, IsPartialFun, IsPartialFunAt, IsWholeFun};
 ghost use Rattle.actor_lower.specs.RoutineWords.{IsWholeFunAt, MadeFunctions, NoFunctionLeft};
 ghost use Rattle.actor_lower.specs.Settled.{AllFunctions, AreFunctions};
@@ -34,7 +34,7 @@ pub(crate) fn lower_functions(
         AreFunctions (actor_of b.now) (functions_view callees.items)) }
     ensures all { IfOk result (λ callees.
         AllFunctions (actor_of b.now) (functions_view callees.items)) }
-    ensures fault { IfErr result (IsFaultOfMany (length b.now.funs.items)) }
+    ensures fault { IfErr result OnlyMemory }
 {
     let mut callees = Vec::new(alloc);
     if b.funs.len() == 0 {
@@ -73,7 +73,7 @@ fn lower_left(
         (MadeFunctions b.now callees.new.items left.new.items draft.new) }
     ensures none { OnOk result
         (NoFunctionLeft b.now callees.new.items left.new.items) }
-    ensures fault { IfErr result IsRoutineFault }
+    ensures fault { IfErr result OnlyMemory }
 {
     let found = first_whole(alloc, b, names, callees, left)?;
     match found {
@@ -98,7 +98,7 @@ fn first_whole(
         → IsNextFunction b.now callees.now left.now place) }
     ensures none { IfOk result (λ found. found ≡ None
         → NoFunctionLeft b.now callees.now left.now) }
-    ensures fault { IfErr result IsRoutineFault }
+    ensures fault { IfErr result OnlyMemory }
 {
     for place in 0..left.len() {
         let whole = is_whole_at(alloc, b, names, callees, left[place])?;
@@ -122,7 +122,7 @@ fn is_whole_at(
         → IsWholeFunAt b.now callees.now k) }
     ensures no { IfOk result (λ whole. whole ≡ false
         → IsPartialFunAt b.now callees.now k) }
-    ensures fault { IfErr result IsRoutineFault }
+    ensures fault { IfErr result OnlyMemory }
 {
     match b.funs.get(k) {
         Some(f) => is_whole(alloc, names, callees, f),
@@ -141,7 +141,7 @@ fn is_whole(
         → IsWholeFun names.now callees.now f.now) }
     ensures no { IfOk result (λ whole. whole ≡ false
         → IsPartialFun names.now callees.now f.now) }
-    ensures fault { IfErr result IsRoutineFault }
+    ensures fault { IfErr result OnlyMemory }
 {
     let mut trial = Draft {
         instrs: Vec::new(alloc),
@@ -152,8 +152,8 @@ fn is_whole(
         Ok(_callee) => Ok(true),
         Err(LowerFault::NotLowered { at: _ }) => Ok(false),
         Err(LowerFault::Memory) => Err(ActorFault::Memory),
-        Err(LowerFault::TooLong) => Err(ActorFault::TooLarge),
-        Err(LowerFault::TooManyCells) => Err(ActorFault::TooLarge),
+        Err(LowerFault::TooLong) => Err(ActorFault::Memory),
+        Err(LowerFault::TooManyCells) => Err(ActorFault::Memory),
     }
 }
 
@@ -174,7 +174,7 @@ fn lower_at(
     ensures so_far { OnOk result
         (MadeFunctions b.now callees.new.items left.new.items draft.new) }
     ensures fewer { OnOk result (length left.new.items < length left.old.items) }
-    ensures fault { IfErr result IsRoutineFault }
+    ensures fault { IfErr result OnlyMemory }
 {
     let k = left.remove(place);
     add_function(alloc, names, callees, &b.funs[k], draft)
@@ -191,10 +191,10 @@ fn add_function(
     requires whole { IsWholeFun names.now callees.old.items f.now }
     ensures added { OnOk result (AddsFun names.now f.now callees.old.items callees.new.items
         draft.old draft.new) }
-    ensures fault { IfErr result IsRoutineFault }
+    ensures fault { IfErr result OnlyMemory }
 {
     if draft.routines.len() >= u32::MAX as usize {
-        return Err(ActorFault::TooLarge);
+        return Err(ActorFault::Memory);
     }
     let callee = lower_function(alloc, names, callees, f, draft)?;
     callees.push(callee)?;

@@ -7,7 +7,7 @@ ghost use Rattle.expr_lower.specs.Callees.{functions_view};
 ghost use Rattle.expr_lower.specs.Names.{names_view};
 ghost use Rattle.action_lower.specs.FiringCode.{globals_of};
 ghost use Rattle.actor_lower.specs.Drafted.{HoldsProcedures};
-ghost use Rattle.actor_lower.specs.Faults.{IsFaultOfMany, IsRoutineFault};
+ghost use Rattle.actor_lower.specs.Faults.{OnlyMemory};
 ghost use Rattle.actor_lower.specs.RoutineWords.{AddsProc, AreAllProcedures, AreInOrder, HoldsRoutinesOf, IsNextProcedure};
 ghost use Rattle.actor_lower.specs.RoutineWords.{IsPartialProc, IsPartialProcAt, IsWholeProc, IsWholeProcAt};
 ghost use Rattle.actor_lower.specs.RoutineWords.{MadeProcedures, NoProcedureLeft};
@@ -36,7 +36,7 @@ pub(crate) fn lower_procedures(
         AreInOrder b.now callees.now procedures.items) }
     ensures all { IfOk result (λ procedures.
         AreAllProcedures b.now callees.now procedures.items) }
-    ensures fault { IfErr result (IsFaultOfMany (length b.now.procs.items)) }
+    ensures fault { IfErr result OnlyMemory }
 {
     let mut procedures = Vec::new(alloc);
     if b.procs.len() == 0 {
@@ -65,7 +65,7 @@ fn lower_left(
         (MadeProcedures b.now callees.now procedures.new.items left.new.items draft.new) }
     ensures none { OnOk result
         (NoProcedureLeft b.now callees.now procedures.new.items left.new.items) }
-    ensures fault { IfErr result IsRoutineFault }
+    ensures fault { IfErr result OnlyMemory }
 {
     let found = first_whole(alloc, b, names, callees, procedures, left)?;
     match found {
@@ -91,7 +91,7 @@ fn first_whole(
         → IsNextProcedure b.now callees.now procedures.now left.now place) }
     ensures none { IfOk result (λ found. found ≡ None
         → NoProcedureLeft b.now callees.now procedures.now left.now) }
-    ensures fault { IfErr result IsRoutineFault }
+    ensures fault { IfErr result OnlyMemory }
 {
     for place in 0..left.len() {
         let whole = is_whole_at(alloc, b, names, callees, procedures, left[place])?;
@@ -116,7 +116,7 @@ fn is_whole_at(
         → IsWholeProcAt b.now callees.now procedures.now k) }
     ensures no { IfOk result (λ whole. whole ≡ false
         → IsPartialProcAt b.now callees.now procedures.now k) }
-    ensures fault { IfErr result IsRoutineFault }
+    ensures fault { IfErr result OnlyMemory }
 {
     match b.procs.get(k) {
         Some(p) => is_whole(alloc, names, callees, procedures, p),
@@ -136,7 +136,7 @@ fn is_whole(
         → IsWholeProc names.now callees.now procedures.now p.now) }
     ensures no { IfOk result (λ whole. whole ≡ false
         → IsPartialProc names.now callees.now procedures.now p.now) }
-    ensures fault { IfErr result IsRoutineFault }
+    ensures fault { IfErr result OnlyMemory }
 {
     let mut trial = Draft {
         instrs: Vec::new(alloc),
@@ -147,8 +147,8 @@ fn is_whole(
         Ok(_callee) => Ok(true),
         Err(LowerFault::NotLowered { at: _ }) => Ok(false),
         Err(LowerFault::Memory) => Err(ActorFault::Memory),
-        Err(LowerFault::TooLong) => Err(ActorFault::TooLarge),
-        Err(LowerFault::TooManyCells) => Err(ActorFault::TooLarge),
+        Err(LowerFault::TooLong) => Err(ActorFault::Memory),
+        Err(LowerFault::TooManyCells) => Err(ActorFault::Memory),
     }
 }
 
@@ -172,7 +172,7 @@ fn lower_at(
     ensures so_far { OnOk result
         (MadeProcedures b.now callees.now procedures.new.items left.new.items draft.new) }
     ensures fewer { OnOk result (length left.new.items < length left.old.items) }
-    ensures fault { IfErr result IsRoutineFault }
+    ensures fault { IfErr result OnlyMemory }
 {
     let k = left.remove(place);
     add_procedure(alloc, names, callees, procedures, &b.procs[k], draft)
@@ -190,10 +190,10 @@ fn add_procedure(
     requires whole { IsWholeProc names.now callees.now procedures.old.items p.now }
     ensures added { OnOk result (AddsProc names.now callees.now p.now procedures.old.items
         procedures.new.items draft.old draft.new) }
-    ensures fault { IfErr result IsRoutineFault }
+    ensures fault { IfErr result OnlyMemory }
 {
     if draft.routines.len() >= u32::MAX as usize {
-        return Err(ActorFault::TooLarge);
+        return Err(ActorFault::Memory);
     }
     let callee = lower_procedure(alloc, names, callees, procedures, p, draft)?;
     procedures.push(callee)?;

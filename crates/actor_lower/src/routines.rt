@@ -6,7 +6,7 @@ ghost use Rattle.cal_model.specs.View.{actor_of};
 ghost use Rattle.stmt_lower.specs.Procedures.{routines_of};
 ghost use Rattle.action_lower.specs.Seats.{state_cells};
 ghost use Rattle.actor_lower.specs.Drafted.{HoldsRoutines, IsServed};
-ghost use Rattle.actor_lower.specs.Faults.{IsFaultOfMany};
+ghost use Rattle.actor_lower.specs.Faults.{OnlyMemory};
 ghost use Rattle.actor_lower.specs.Settled.{AreSettled};
 
 use crate::fault::ActorFault;
@@ -43,8 +43,7 @@ pub(crate) fn lower_routines(
     ensures bodies { IfOk result (λ called. HoldsRoutines draft.new) }
     ensures count { IfOk result (λ called. length draft.new.routines.items
         ≡ length called.callees.items + length called.procedures.items) }
-    ensures fault { IfErr result
-        (IsFaultOfMany (length b.now.funs.items + length b.now.procs.items)) }
+    ensures fault { IfErr result OnlyMemory }
 {
     let names = global_names(alloc, b)?;
     let callees = lower_functions(alloc, b, &names, draft)?;

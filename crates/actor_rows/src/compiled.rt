@@ -144,7 +144,7 @@ fn hold_row(rt: &impl Abort, alloc: Global, row: &str) -> Result<(), Fail> {
 
 /// Stops unless all cells do what is told. A table is one text: each row begins with `# ` and what it shows, and has a
 /// source, a line `> ` with the tokens, and a line `= ` with what comes of them.
-fn hold(rt: &impl Abort, alloc: Global, table: &str) -> Result<(), Fail> {
+pub(crate) fn hold(rt: &impl Abort, alloc: Global, table: &str) -> Result<(), Fail> {
     for row in table.split("\n# ") {
         if !row.is_empty() {
             hold_row(rt, alloc, row)?;
@@ -267,6 +267,25 @@ actor Ask() uint(size=8) In ==> uint(size=8) Out :
   action In:[x] ==> Out:[2] guard [3, 0][x] <= 1 end end
 > 0 1 0 2
 = fires 0 1 0, sends 1 2 1, traps in 0 by IndexRange, 1 left
+# An item of a list that a generator makes, in guards.
+actor Sift() uint(size=8) In ==> uint(size=8) Out :
+  action In:[x, i] ==> Out:[x] guard [x * k : for int k in 1 .. 3][i] > 10 end
+  action In:[x, i] ==> Out:[0] guard [x * k : for int k in 1 .. 3][i] <= 10 end end
+> 4 2 4 1 6 0 1 3
+= fires 0 1 1, sends 4 0 0, traps in 0 by IndexRange, 2 left
+# In a function that guards call.
+actor Above() uint(size=8) In ==> uint(size=8) Out :
+  function above(int v, int i) --> bool : [v + k : for int k in 0 .. 3][i] > 9 end
+  action In:[x] ==> Out:[x] guard above(x, 3) end
+  action In:[x] ==> Out:[0] guard not above(x, 3) end end
+> 7 6 200
+= fires 0 1 0, sends 7 0 200, waits, 0 left
+# Cells that are cleared before a guard aren't those of the state.
+actor Kept() uint(size=8) In ==> uint(size=8) Out : uint(size=8) n := 5;
+  action In:[x] ==> Out:[n] guard [n + k : for int k in 0 .. 1][x] > 5 do n := n + 1; end
+  action In:[x] ==> Out:[0] guard [n + k : for int k in 0 .. 1][x] <= 5 end end
+> 0 1 0
+= fires 1 0 0, sends 0 6 7, waits, 0 left
 # The list comes before the index, and both before the test.
 actor Order() uint(size=8) In ==> uint(size=8) Out :
   action In:[x, i] ==> Out:[[1, 6 / x][9 / i]] end end

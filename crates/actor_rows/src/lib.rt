@@ -16,3 +16,5 @@ pub use doubling::double;
 mod compiled;
 #[cfg(test)]
 mod firing;
+#[cfg(test)]
+mod functions;

@@ -13,15 +13,15 @@ use Rattle.net_model.specs.declared.wiring.End.TheVariants.{Leaf as AtLeaf, Net 
 use Rattle.net_model.specs.declared.wiring.Link.{Link}
 use Rattle.net_model.specs.Network.{Leaf, Network}
 use Rattle.net_model.specs.State.{Flow, State, effect_at}
-use Rattle.net_model.specs.Ends.{Grows, IsSettled}
+use Rattle.net_model.specs.Ends.{Grows}
 use Rattle.net_model.specs.Trace.{FitFlows, PlaysFrom, TrapFits, counted_flows, goes, opened_by, with_given}
 use Rattle.net_model.specs.Paced.{HasRoomIn, PassesLink, PassesOn, PassesRoom}
 use Rattle.net_model.specs.Alike.{Allowed, AreAlike, EffectsAlike, LeavesAlike, StatesAlike}
 use Rattle.net_model.proofs.Twins.{StepToo, TwinNets, Twins, each_same, twin, twin_effect, twin_give, twin_net}
-use Rattle.net_model.proofs.LikeLines.{between_back, goes_too, line_too, plays_too, quiet_back, stalled_back, stuck_back}
+use Rattle.net_model.proofs.LikeLines.{between_back, goes_too, grows_too, line_too, plays_too, quiet_back, stalled_back, stuck_back}
 use Rattle.network_cells.proofs.Lawlike.{carried, keep_alike, nets, texts_alike, twins_of}
 use Rattle.alike_traces.specs.Traces.{trial}
-use Rattle.trace_replay.specs.Events.{IsUnjudged}
+use Rattle.trace_replay.specs.Events.{IsUnfedGrowth}
 use Rattle.trace_replay.specs.Judging.{AreOfTable, AtEnd, AtEvents, AtFirst, AtInstance, EventFails, FiringFails, IsNotRun, IsOver, IsTrace, LacksRoomIn, Lead, LeadsOn, LineFails, MayCome, Reached, RestFails, BeginsNone, IsOfNoTable, MayNotCome, IsBehindEnd, IsCutOff, GoesPast, EndsPast, TrapComes, Trial, after_line, due, first_line, instance_text, is_end}
 use Rattle.trace_replay.specs.declared.why.Why.{Why}
 
@@ -385,20 +385,18 @@ module _ {X Y : Type 0} (related : ℕ → X → Y → Type 0) (allowed : Allowe
         fails = rest_fails_too told.reached lead.that told.rest told.longer why lead.fellows told.fails;
       }
 
-  -- a growth that isn't judged isn't judged there either
-  settled_too : (s : State X) (those : List Y) → IsSettled t.net s → IsSettled (twin_net t.net others) (twin s those)
-  settled_too s those settled = record { untrapped = settled.untrapped; arrived = settled.arrived }
-
+  -- a growth where more is to come is one there too
   record EventsToo (opened s : State X) (that : Reached Y) : Type 0 where
     first : List Y
     those : List Y
     is : that ≡ AtEvents (twin opened first) (twin s those)
+    twins : Fit s those
 
   events_only : (opened s : State X) (that : Reached Y) → Fellows (AtEvents opened s) that → EventsToo opened s that
-  events_only opened s that (events _ _ first those twins) = record { first = first; those = those; is = refl }
+  events_only opened s that (events _ _ first those twins) = record { first = first; those = those; is = refl; twins = twins }
 
-  unjudged_too : (text : List ℕ) (n : ℕ) (why : Why) → IsUnjudged t text n why → IsUnjudged fellow text n why
-  unjudged_too text n why told =
+  unfed_growth_too : (text : List ℕ) (n : ℕ) (why : Why) → IsUnfedGrowth t text n why → IsUnfedGrowth fellow text n why
+  unfed_growth_too text n why told =
       let lead = lead_too told.texts AtFirst (AtEvents told.opened told.s) AtFirst firsts told.lead in
       let at = events_only told.opened told.s lead.that lead.fellows in
       record {
@@ -410,10 +408,14 @@ module _ {X Y : Type 0} (related : ℕ → X → Y → Type 0) (allowed : Allowe
         s = twin told.s at.those;
         is_text = told.is_text;
         lead = subst (λ r. Lead fellow AtFirst told.texts r) at.is lead.lead;
-        late = told.late;
-        settled = settled_too told.s at.those told.settled;
+        growth = record {
+          l = told.growth.l;
+          capacity = told.growth.capacity;
+          line_is = told.growth.line_is;
+          grows = grows_too related allowed t.net others twins_there t.grow told.s at.those told.growth.l told.growth.capacity at.twins told.growth.grows;
+          unfed = told.growth.unfed;
+        };
         spells = told.spells;
-        growth = told.growth;
         of_table = told.of_table;
         number = told.number;
         why_is = told.why_is;
@@ -437,10 +439,10 @@ module _ {X Y : Type 0} (related : ℕ → X → Y → Type 0) (allowed : Allowe
       carried related allowed net other alike (λ m w. IsNotRun (trial m grow w) text n why) s that states
       (not_run_too related allowed (trial net grow s) other.leaves that.actors (nets related allowed net other alike) (twins_of related allowed net other alike s that states) text n why told)
 
-  pub unjudged_alike : (text : List ℕ) (n : ℕ) (why : Why) → IsUnjudged (trial net grow s) text n why → IsUnjudged (trial other grow that) text n why
-  unjudged_alike text n why told =
-      carried related allowed net other alike (λ m w. IsUnjudged (trial m grow w) text n why) s that states
-      (unjudged_too related allowed (trial net grow s) other.leaves that.actors (nets related allowed net other alike) (twins_of related allowed net other alike s that states) text n why told)
+  pub unfed_growth_alike : (text : List ℕ) (n : ℕ) (why : Why) → IsUnfedGrowth (trial net grow s) text n why → IsUnfedGrowth (trial other grow that) text n why
+  unfed_growth_alike text n why told =
+      carried related allowed net other alike (λ m w. IsUnfedGrowth (trial m grow w) text n why) s that states
+      (unfed_growth_too related allowed (trial net grow s) other.leaves that.actors (nets related allowed net other alike) (twins_of related allowed net other alike s that states) text n why told)
 
   pub trace_alike : (text : List ℕ) (lines : List Line) (end : Line) (last : State X) → IsTrace (trial net grow s) text lines end last
       → (there : State Y) × IsTrace (trial other grow that) text lines end there × StatesAlike related allowed net last there

@@ -2,15 +2,15 @@
 //!
 //! The law is the contract of a function that does nothing: it is proved with the crate, and can be cited.
 
-ghost use Rattle.alike_traces.specs.Traces.{NoRunsAlike, TracesAlike, UnjudgedAlike};
+ghost use Rattle.alike_traces.specs.Traces.{NoRunsAlike, TracesAlike, UnfedGrowthsAlike};
 
 use net_model::Likeness;
 
 /// Networks that are alike have the same traces from states that are alike. A trace of the one leads there to states that
 /// are alike (`traces`); of a text that is none, what is told over the one may be told over the other: the line that no run
-/// has, and why (`no_runs`), or that a growth isn't judged (`unjudged`).
+/// has, and why (`no_runs`), or the growth at which replay stops since more is to come from outside (`unfed_growths`).
 pub fn traces_are_alike<K: Likeness>()
     ensures traces { TracesAlike K.related K.allowed }
     ensures no_runs { NoRunsAlike K.related K.allowed }
-    ensures unjudged { UnjudgedAlike K.related K.allowed }
+    ensures unfed_growths { UnfedGrowthsAlike K.related K.allowed }
 {}

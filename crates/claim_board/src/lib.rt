@@ -12,8 +12,6 @@ mod pass;
 mod piece;
 mod rule;
 mod slot;
-#[cfg(test)]
-mod tests;
 mod view;
 
 pub use board::{Board, NoBoard};

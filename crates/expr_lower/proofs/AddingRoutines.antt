@@ -1,9 +1,8 @@
 -- Code of functions that was added to a draft, part by part.
-use Rattle.std.proofs.Common.{◌≡◌, ℕ, ◌+◌, List, [], ◌∷◌, ◌++◌, length, map, sym, ap, ◌∙◌, refl, subst, Option, None, Some, arith, append_assoc, append-nil, length-append}
+use Rattle.std.proofs.Common.{◌≡◌, ℕ, ◌+◌, List, [], ◌∷◌, ◌++◌, length, map, sym, ap, ◌∙◌, refl, subst, Option, None, Some, arith, append_assoc, append-nil}
 use Rattle.rvc_base.specs.declared.scalar.Scalar.{Scalar}
 use Rattle.rvc_base.specs.declared.scalar.Scalar.TheVariants as scalar
 use Rattle.cal_ast.specs.Tree.{Tree}
-use Rattle.cal_ast.specs.View.{optional}
 use Rattle.cal_model.specs.Value.{Shape, Single, Many}
 use Rattle.cal_model.specs.Actor.{Local, Fun}
 use Rattle.expr_lower.specs.Callees.{Function}
@@ -14,12 +13,12 @@ use Rattle.expr_lower.specs.declared.draft.Draft.{Draft}
 use Rattle.expr_lower.specs.Growing.{◌or_else◌}
 use Rattle.expr_lower.specs.Listed.{single_of}
 use Rattle.expr_lower.specs.Lowered.{Adds, IsPut}
-use Rattle.expr_lower.specs.Names.{local, Name}
+use Rattle.expr_lower.specs.Names.{local, local_of, Name}
 use Rattle.expr_lower.specs.RoutineWords.{HasFormalCells}
-use Rattle.expr_lower.specs.Routining.{IsBody, StandForFormals, behind_formals, left_out_body, left_out_formals, left_out_fun, no_more_locals, one_more_local, return_code, some_formal}
-use Rattle.expr_lower.specs.Starting.{IsStart, left_out_start}
+use Rattle.expr_lower.specs.Routining.{IsBody, StandForFormals, behind_formals, left_out_body, left_out_formals, left_out_fun, no_more_locals, return_code, some_formal}
+use Rattle.expr_lower.specs.Starting.{left_out_local}
 use Rattle.expr_lower.specs.Taking.{HasOneMore}
-use Rattle.expr_lower.proofs.Erased.{erase, out_erased, start_erased}
+use Rattle.expr_lower.proofs.Erased.{both_same, erase, local_erased, out_erased}
 
 -- a type of single values
 pub single_is : (s : Shape) (t : Scalar) → single_of s ≡ Some t → s ≡ Single t
@@ -39,47 +38,18 @@ return_adds {fs = fs} names t e c old d1 d2 new taken f p =
           (subst (λ q. IsCode fs names e q (n + 1) f.code d2.cells) (ap length taken.instrs) (subst (λ x. IsCode fs names e (length d1.instrs.items) x f.code d2.cells) taken.cells f.has)));
     }
 
-pub local_adds : {fs : List Function} (names : List Name) (t : Scalar) (e : Tree) (x : Local) (xs : List Local) (kind : Scalar) (c : ℕ) (old d1 d2 new : Draft) → single_of x.shape ≡ Some kind → HasOneMore old d1 c
-    → Adds (IsStart fs names kind c (optional x.start)) d1 d2 → Adds (IsBody fs t e (local x.name kind c ∷ names) xs) d2 new → Adds (IsBody fs t e names (x ∷ xs)) old new
-local_adds {fs = fs} names t e x xs kind c old d1 d2 new shape taken f g =
-    let n : ℕ = old.cells in
-    let base : ℕ = length old.instrs.items in
-    let f1 : Adds (IsStart fs names kind n (optional x.start)) d1 d2 = subst (λ y. Adds (IsStart fs names kind y (optional x.start)) d1 d2) taken.is f in
-    let g1 : Adds (IsBody fs t e (local x.name kind n ∷ names) xs) d2 new = subst (λ y. Adds (IsBody fs t e (local x.name kind y ∷ names) xs) d2 new) taken.is g in
-    let e2 : d2.instrs.items ≡ old.instrs.items ++ f1.code = f1.is ∙ ap (λ ys. ys ++ f1.code) taken.instrs in
-    let s2 : length d2.instrs.items ≡ base + length f1.code = ap length e2 ∙ length-append old.instrs.items f1.code in
-    record {
-      code = f1.code ++ g1.code;
-      is = g1.is ∙ ap (λ ys. ys ++ g1.code) e2 ∙ append_assoc old.instrs.items f1.code g1.code;
-      routines = g1.routines ∙ f1.routines ∙ taken.routines;
-      has = one_more_local names x xs kind base n d2.cells new.cells f1.code g1.code (single_is x.shape kind shape)
-          (subst (λ p. IsStart fs names kind n (optional x.start) p (n + 1) f1.code d2.cells) (ap length taken.instrs) (subst (λ y. IsStart fs names kind n (optional x.start) (length d1.instrs.items) y f1.code d2.cells) taken.cells f1.has))
-          (subst (λ p. IsBody fs t e (local x.name kind n ∷ names) xs p d2.cells g1.code new.cells) s2 g1.has);
-    }
-
 -- ---- which cells names have doesn't matter
-
-abbrev each_kind : Option Scalar → (Scalar → Option ℕ) → Option ℕ
-each_kind o f = elim o [ None ↦ Some 0 | Some t ↦ f t ]
 
 body_erased : (fs : List Function) (names : List Name) (xs : List Local) (e : Tree) → left_out_body fs (map erase names) xs e ≡ left_out_body fs names xs e
 body_erased fs names [] e = out_erased fs names e
-body_erased fs names (x ∷ xs) e = go (single_of x.shape) (λ t. body_erased fs (local x.name t 0 ∷ names) xs e)
-  where
-    go : (o : Option Scalar) → ((t : Scalar) → left_out_body fs (local x.name t 0 ∷ map erase names) xs e ≡ left_out_body fs (local x.name t 0 ∷ names) xs e)
-        → each_kind o (λ t. left_out_start fs (map erase names) (optional x.start) or_else left_out_body fs (local x.name t 0 ∷ map erase names) xs e)
-        ≡ each_kind o (λ t. left_out_start fs names (optional x.start) or_else left_out_body fs (local x.name t 0 ∷ names) xs e)
-    go None later = refl
-    go (Some t) later =
-        ap (λ y. y or_else left_out_body fs (local x.name t 0 ∷ map erase names) xs e) (start_erased fs names (optional x.start)) ∙ ap (λ y. left_out_start fs names (optional x.start) or_else y) (later t)
+body_erased fs names (x ∷ xs) e = both_same (local_erased fs names x) (body_erased fs (local_of x.name x.shape 0 ∷ names) xs e)
 
 -- behind a local, once its start leaves out nothing
-pub local_open : (fs : List Function) (names : List Name) (x : Local) (xs : List Local) (e : Tree) (kind : Scalar) (c : ℕ) → single_of x.shape ≡ Some kind → left_out_start fs names (optional x.start) ≡ None
-    → left_out_body fs names (x ∷ xs) e ≡ left_out_body fs (local x.name kind c ∷ names) xs e
-local_open fs names x xs e kind c shape start =
-    ap (λ o. each_kind o (λ t. left_out_start fs names (optional x.start) or_else left_out_body fs (local x.name t 0 ∷ names) xs e)) shape
-    ∙ ap (λ y. y or_else left_out_body fs (local x.name kind 0 ∷ names) xs e) start
-    ∙ sym (body_erased fs (local x.name kind 0 ∷ names) xs e) ∙ body_erased fs (local x.name kind c ∷ names) xs e
+pub local_open : (fs : List Function) (names : List Name) (x : Local) (xs : List Local) (e : Tree) (c : ℕ) → left_out_local fs names x ≡ None
+    → left_out_body fs names (x ∷ xs) e ≡ left_out_body fs (local_of x.name x.shape c ∷ names) xs e
+local_open fs names x xs e c none =
+    ap (λ y. y or_else left_out_body fs (local_of x.name x.shape 0 ∷ names) xs e) none
+    ∙ sym (body_erased fs (local_of x.name x.shape 0 ∷ names) xs e) ∙ body_erased fs (local_of x.name x.shape c ∷ names) xs e
 
 -- formals in other cells
 pub formals_erased : (xs : List Local) (ys : List Formal) (names others : List Name) → StandForFormals xs ys → map erase names ≡ map erase others → map erase (behind_formals xs ys names) ≡ map erase (behind_formals xs (map some_formal xs) others)

@@ -32,6 +32,7 @@ use Rattle.expr_lower.specs.Callees.{Function}
 use Rattle.expr_lower.specs.Coding.{AreArgs, IsCode, IsOffset, IsTest, in_another_way, no_arg, arg_more, call, number, too_great, negative, truth, variable, paren, prefix, binary, both, either, if_code, tested, both_tested, seat_instr, item, deep_item, whole, row}
 use Rattle.expr_lower.proofs.Called.{DoesArgs, does_arg_more, does_call, does_no_arg}
 use Rattle.expr_lower.proofs.Finding.{is_found}
+pub use Rattle.expr_lower.proofs.Generated.{negative_num}
 pub use Rattle.expr_lower.proofs.Grown.{grows, grows_args, grows_offset, grows_test}
 use Rattle.expr_lower.proofs.GivenKinds.{kinds_in}
 use Rattle.expr_lower.proofs.Singles.{OnlySingles, singles_in}
@@ -39,14 +40,13 @@ use Rattle.expr_lower.proofs.Items.{does_item}
 use Rattle.expr_lower.proofs.Rowed.{DoesOffset, does_deep, does_row, does_whole}
 use Rattle.expr_lower.proofs.Listing.{single_flat}
 use Rattle.expr_lower.proofs.Runs.{ends_back, obeys}
+use Rattle.expr_lower.proofs.Sorted.{gives, knows}
 use Rattle.expr_lower.proofs.Keeping.{keeps_all}
-use Rattle.expr_lower.proofs.Doing.{IsStraight, Does, Tests, acts_after, does_const, does_prefix, does_binary, does_both, does_either, does_if, may_use, prepared, tests_value, tests_both}
+use Rattle.expr_lower.specs.declared.sorts.Sort.TheVariants as sort
+use Rattle.expr_lower.specs.Truths.{is_truth}
+use Rattle.expr_lower.proofs.Doing.{IsStraight, Does, Tests, Truthy, acts_after, does_const, does_prefix, does_binary, does_both, does_either, does_if, may_use, prepared, tests_value, tests_both}
 
 -- ---- literals
-
-pub negative_num : (k : ℕ) → is_num (pos k) ≡ true → is_num (neg_ℤ (pos k)) ≡ true
-negative_num zero h = h
-negative_num (suc j) h = grind (arith, nat_tests)
 
 -- ---- variables
 
@@ -108,6 +108,10 @@ module _ (fs : List Function) (globals names : List Name) (w : World) (serves : 
       (acts_after w n n base base stack stack frames cells cells left left (seat_instr x.seat) (Gives h.value left) (seat_straight x.seat) stands.0 here (keeps_all n n w.low w.high cells)
       (record { same = refl; number = one.0; is = one.1; leaves = seat_leaves x.seat w.tokens stack cells one.0 stand }))
 
+  truthy : (l : Tree) (n : ℕ) → is_truth fs names l ≡ true → Truthy fs globals names w env frames floor ceiling l n
+  truthy l n seen cells left below apart holds =
+      gives w.calls fs sort.Truths 0 l names env left seen (knows names w.tokens cells env holds.0) (kinds_in fs globals w serves env.globals n cells below.1 apart.1 holds.1 holds.2)
+
   mutual
     pub does_in : {e : Tree} {base n m : ℕ} {code : List Instr} → IsCode fs names e base n code m → m ≤ ceiling → Does fs globals names w env frames floor ceiling e base n code m
     does_in (in_another_way e base n m code h) up = λ stack cells left stands below apart holds.
@@ -128,10 +132,10 @@ module _ (fs : List Function) (globals names : List Name) (w : World) (serves : 
     does_in (deep_item e place at base n m code l g h) up = does_deep fs globals names w env frames floor ceiling (tree.index e place at) base n m code l g (offsets h up)
     does_in (both l r at base n k m far end a b t h g e f) up =
         let y = grows g in
-        does_both fs globals names w env frames floor ceiling l r at base n k m far end a b t (grows_test h) y e f (tests_in h (omega (arith, y, up))) (does_in g up)
+        does_both fs globals names w env frames floor ceiling l r at base n k m far end a b (truthy l n t) (grows_test h) y e f (tests_in h (omega (arith, y, up))) (does_in g up)
     does_in (either l r at base n k m right end a b t h g e f) up =
         let y = grows g in
-        does_either fs globals names w env frames floor ceiling l r at base n k m right end a b t (grows_test h) y e f (tests_in h (omega (arith, y, up))) (does_in g up)
+        does_either fs globals names w env frames floor ceiling l r at base n k m right end a b (truthy l n t) (grows_test h) y e f (tests_in h (omega (arith, y, up))) (does_in g up)
     does_in (if_code test first other at base n k j m else_at end a b c h g d e f) up =
         let y = grows g in let z = grows d in
         does_if fs globals names w env frames floor ceiling test first other at base n k j m else_at end a b c (grows_test h) y z e f (tests_in h (omega (arith, y, z, up))) (does_in g (omega (arith, z, up))) (does_in d up)
@@ -154,7 +158,7 @@ module _ (fs : List Function) (globals names : List Name) (w : World) (serves : 
     tests_in (tested e base n m far code h) up = tests_value fs globals names w env frames floor ceiling e base n m far code (does_in h up)
     tests_in (both_tested l r at base n k m far a b t h g) up =
         let y = grows_test g in
-        tests_both fs globals names w env frames floor ceiling l r at base n k m far a b t (grows_test h) y (tests_in h (omega (arith, y, up))) (tests_in g up)
+        tests_both fs globals names w env frames floor ceiling l r at base n k m far a b (truthy l n t) (grows_test h) y (tests_in h (omega (arith, y, up))) (tests_in g up)
 
 -- ---- and no other end
 

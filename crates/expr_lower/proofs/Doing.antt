@@ -25,10 +25,9 @@ use Rattle.expr_lower.specs.Following.{Follows, MayUse, Pushes, Chooses, CutsOff
 use Rattle.expr_lower.specs.Coding.{prefix_instr, binary_instr}
 use Rattle.expr_lower.specs.Callees.{Function}
 use Rattle.expr_lower.specs.Calling.{HasRoom, Prepared, outside}
-use Rattle.expr_lower.specs.Truths.{is_truth}
 use Rattle.expr_lower.proofs.Runs.{reaches_join, ends_join, obeys, follows_then, follows_more, follows_both, stands_left, stands_right}
 use Rattle.expr_lower.proofs.Keeping.{keeps_all, keeps_wider, keeps_join, holds_still, below_more, apart_first, apart_last}
-use Rattle.expr_lower.proofs.Truthful.{IsTruth, truths}
+use Rattle.expr_lower.proofs.Truthful.{IsTruth, OnlyTruths}
 use Rattle.expr_lower.proofs.Effects.{Left, Acts, same_number, true_again, prefix_acts, binary_acts, goes_right}
 
 -- an instruction that goes on to the next place
@@ -201,6 +200,10 @@ module _ (fs : List Function) (globals names : List Name) (w : World) (env : Env
   Tests e base n out code m = (stack cells : List ℤ) (left : ℕ) → StandsAt w.code.instrs base code → Below n → Apart → Held cells
       → Follows (eval e w.calls env left) (Chooses w n m (state base stack frames cells left) (base + length code) out) (CutsOff w n m (state base stack frames cells left))
 
+  -- what evaluating gives, if anything, is a truth value
+  abbrev pub Truthy : Tree → ℕ → Type 0
+  Truthy e n = (cells : List ℤ) (left : ℕ) → Below n → Apart → Held cells → OnlyTruths (eval e w.calls env left)
+
   pub at_end : (o : Out Value) (n m p q : ℕ) (s : State) → p ≡ q → Follows o (Pushes w n m s p) (CutsOff w n m s) → Follows o (Pushes w n m s q) (CutsOff w n m s)
   at_end o n m p q s e h = subst (λ x. Follows o (Pushes w n m s x) (CutsOff w n m s)) e h
 
@@ -307,12 +310,12 @@ module _ (fs : List Function) (globals names : List Name) (w : World) (env : Env
       (both_choose n k m base (base + length a) (base + length a + length b) out stack cells c.cells left j u h le ge reached c.keeps q))
       (λ d q. cut_after w n k m s (state (base + length a) stack frames c.cells j) d le ge reached c.keeps q)
 
-  pub tests_both : (l r : Tree) (at base n k m out : ℕ) (a b : List Instr) → is_truth fs names l ≡ true → n ≤ k → k ≤ m
+  pub tests_both : (l r : Tree) (at base n k m out : ℕ) (a b : List Instr) → Truthy l n → n ≤ k → k ≤ m
       → Tests l base n out a k → Tests r (base + length a) k out b m → Tests (tree.binary binaries.And l r at) base n out (a ++ b) m
   tests_both l r at base n k m out a b e le ge first second stack cells left stands below apart holds =
       let s : State = state base stack frames cells left in
       follows_then (eval l w.calls env left) (λ v j. with_right binaries.And v (λ i. eval r w.calls env i) j) (λ v j. Chooses w n k s (base + length a) out v j × IsTruth v) (λ c. CutsOff w n k s c × Unit {0}) (Chooses w n m s (base + length (a ++ b)) out) (CutsOff w n m s)
-      (follows_both (eval l w.calls env left) (Chooses w n k s (base + length a) out) (CutsOff w n k s) (λ v j. IsTruth v) (λ c. Unit {0}) (first stack cells left (stands_left w.code.instrs base a b stands) below apart holds) (truths fs w.calls l names w.tokens cells env left e holds.0))
+      (follows_both (eval l w.calls env left) (Chooses w n k s (base + length a) out) (CutsOff w n k s) (λ v j. IsTruth v) (λ c. Unit {0}) (first stack cells left (stands_left w.code.instrs base a b stands) below apart holds) (e cells left below apart holds))
       (λ v j p. both_tests l r base n k m out a b stack cells left v j le ge second (stands_right w.code.instrs base a b stands) below apart holds p.1 p.0)
       (λ c t. cut_wider w n k m s c ge t.0)
 
@@ -345,7 +348,7 @@ module _ (fs : List Function) (globals names : List Name) (w : World) (env : Env
       (λ u h p. right_of_both n m base (base + length a + length b) end stack cells left u h jump p)
       (λ d q. q)
 
-  pub does_both : (l r : Tree) (at base n k m out end : ℕ) (a b : List Instr) → is_truth fs names l ≡ true → n ≤ k → k ≤ m
+  pub does_both : (l r : Tree) (at base n k m out end : ℕ) (a b : List Instr) → Truthy l n → n ≤ k → k ≤ m
       → out ≡ base + length a + length b + 1 → end ≡ out + 1
       → Tests l base n out a k → Does r (base + length a) k b m → Does (tree.binary binaries.And l r at) base n (a ++ (b ++ op.Jump end ∷ op.Const (pos 0) ∷ [])) m
   does_both l r at base n k m out end a b e le ge out_is end_is first second stack cells left stands below apart holds =
@@ -357,7 +360,7 @@ module _ (fs : List Function) (globals names : List Name) (w : World) (env : Env
       let finish : end ≡ base + length (a ++ (b ++ tail)) = omega (arith, length-append a (b ++ tail), length-append b tail) in
       at_end (eval (tree.binary binaries.And l r at) w.calls env left) n m end (base + length (a ++ (b ++ tail))) s finish
       (follows_then (eval l w.calls env left) (λ v j. with_right binaries.And v (λ i. eval r w.calls env i) j) (λ v j. Chooses w n k s (base + length a) out v j × IsTruth v) (λ c. CutsOff w n k s c × Unit {0}) (Pushes w n m s end) (CutsOff w n m s)
-      (follows_both (eval l w.calls env left) (Chooses w n k s (base + length a) out) (CutsOff w n k s) (λ v j. IsTruth v) (λ c. Unit {0}) (first stack cells left (stands_left w.code.instrs base a (b ++ tail) stands) below apart holds) (truths fs w.calls l names w.tokens cells env left e holds.0))
+      (follows_both (eval l w.calls env left) (Chooses w n k s (base + length a) out) (CutsOff w n k s) (λ v j. IsTruth v) (λ c. Unit {0}) (first stack cells left (stands_left w.code.instrs base a (b ++ tail) stands) below apart holds) (e cells left below apart holds))
       (λ v j p. both_goes r base n k m out end a b stack cells left v j le ge end_is second (stands_left w.code.instrs (base + length a) b tail rest) last.0 const below apart holds p.1 p.0)
       (λ c t. cut_wider w n k m s c ge t.0))
 
@@ -388,7 +391,7 @@ module _ (fs : List Function) (globals names : List Name) (w : World) (env : Env
       (λ u h p. right_of_either n m base end stack cells left u h p)
       (λ d q. q)
 
-  pub does_either : (l r : Tree) (at base n k m right end : ℕ) (a b : List Instr) → is_truth fs names l ≡ true → n ≤ k → k ≤ m
+  pub does_either : (l r : Tree) (at base n k m right end : ℕ) (a b : List Instr) → Truthy l n → n ≤ k → k ≤ m
       → right ≡ base + length a + 2 → end ≡ right + length b
       → Tests l base n right a k → Does r right k b m → Does (tree.binary binaries.Or l r at) base n (a ++ (op.Const (pos 1) ∷ op.Jump end ∷ b)) m
   does_either l r at base n k m right end a b e le ge right_is end_is first second stack cells left stands below apart holds =
@@ -400,7 +403,7 @@ module _ (fs : List Function) (globals names : List Name) (w : World) (env : Env
       let finish : end ≡ base + length (a ++ tail) = omega (arith, length-append a tail) in
       at_end (eval (tree.binary binaries.Or l r at) w.calls env left) n m end (base + length (a ++ tail)) s finish
       (follows_then (eval l w.calls env left) (λ v j. with_right binaries.Or v (λ i. eval r w.calls env i) j) (λ v j. Chooses w n k s (base + length a) right v j × IsTruth v) (λ c. CutsOff w n k s c × Unit {0}) (Pushes w n m s end) (CutsOff w n m s)
-      (follows_both (eval l w.calls env left) (Chooses w n k s (base + length a) right) (CutsOff w n k s) (λ v j. IsTruth v) (λ c. Unit {0}) (first stack cells left (stands_left w.code.instrs base a tail stands) below apart holds) (truths fs w.calls l names w.tokens cells env left e holds.0))
+      (follows_both (eval l w.calls env left) (Chooses w n k s (base + length a) right) (CutsOff w n k s) (λ v j. IsTruth v) (λ c. Unit {0}) (first stack cells left (stands_left w.code.instrs base a tail stands) below apart holds) (e cells left below apart holds))
       (λ v j p. either_goes r base n k m right end a b stack cells left v j le ge end_is second last rest.0 rest.1.0 below apart holds p.1 p.0)
       (λ c t. cut_wider w n k m s c ge t.0))
 

@@ -1,10 +1,12 @@
 -- Which cells names have doesn't matter to what is left out.
 use Rattle.std.proofs.Common.{◌≡◌, ℕ, ◌+◌, ◌-◌, List, [], ◌∷◌, map, Bool, true, false, refl, sym, ap, ◌∙◌, Option, None, Some}
-use Rattle.std.specs.Prelude.{if◌then◌else◌, nat_eq, not, ◌&&◌, ◌||◌}
+use Rattle.std.specs.Prelude.{if◌then◌else◌, nat_eq, not, ◌&&◌}
 use Rattle.std.specs.Str.{bytes_eq}
 use Rattle.rvc_base.specs.declared.scalar.Scalar.{Scalar}
 use Rattle.cal_ast.specs.Tree as tree
 use Rattle.cal_ast.specs.Tree.{Tree}
+use Rattle.cal_ast.specs.View.{optional}
+use Rattle.cal_model.specs.Actor.{Local}
 use Rattle.cal_model.specs.Value.{Shape, Single, Many}
 use Rattle.expr_lower.specs.declared.names.ItemList.{ItemList}
 use Rattle.expr_lower.specs.declared.names.Seat.{Seat}
@@ -12,12 +14,15 @@ use Rattle.expr_lower.specs.declared.names.Seat.TheVariants.{Cell, Tokens}
 use Rattle.expr_lower.specs.Generators.{Counted, counted_by, how_many}
 use Rattle.expr_lower.specs.Growing.{first_cell, is_short, left_out_apart, left_out_args, left_out_element, left_out_fill, left_out_fills, left_out_gens, left_out_in, left_out_many, left_out_name, left_out_named, left_out_places, one, unless_none, where_one, ◌or_else◌}
 use Rattle.expr_lower.specs.ItemsSeen.{few, first_seen, items_at, items_listed, items_made, items_seen}
-use Rattle.expr_lower.specs.Listed.{items_in, items_of, list_named}
-use Rattle.expr_lower.specs.Names.{local, Name, named}
+use Rattle.expr_lower.specs.Listed.{items_in, items_of, list_named, single_of}
+use Rattle.expr_lower.specs.Names.{local, Name, named, shape_named}
 use Rattle.expr_lower.specs.Parted.{Part, alike, deep_named, item_in, item_of, part_at, number_of, part_named, singles_in, sized, whole_in, whole_of}
-use Rattle.expr_lower.specs.Starting.{left_out_start}
+use Rattle.expr_lower.specs.Starting.{left_out_list_start, left_out_local, left_out_start}
+use Rattle.expr_lower.specs.Types.{type_size}
 use Rattle.expr_lower.specs.Callees.{Function, function_for}
-use Rattle.expr_lower.specs.Truths.{is_truth, is_truth_list, is_truth_shape}
+use Rattle.expr_lower.specs.declared.sorts.Sort.{Sort}
+use Rattle.expr_lower.specs.declared.sorts.Sort.TheVariants as sort
+use Rattle.expr_lower.specs.Truths.{all_give, binary_gives, call_gives, gives_at, is_truth, name_gives, prefix_gives, under_gens, with_none, with_one}
 
 -- a seat without its cell
 abbrev pub erase_seat : Seat → Seat
@@ -37,9 +42,6 @@ erased_list (Some l) = Some (record { seat = erase_seat l.seat; size = l.size; k
 
 abbrev list_in_name : Option Name → Option ItemList
 list_in_name o = elim o [ None ↦ None | Some x ↦ items_of x ]
-
-abbrev is_truth_name : Option Name → Bool
-is_truth_name o = elim o [ None ↦ false | Some x ↦ is_truth_shape x.shape ]
 
 -- ---- names
 
@@ -114,26 +116,64 @@ deep_erased names e = ap deep_in_part (part_erased names e) ∙ go (part_named n
     go None = refl
     go (Some p) = singles_erased p.seat p.size p.shape
 
-truth_list : (o : Option ItemList) → is_truth_list (erased_list o) ≡ is_truth_list o
-truth_list None = refl
-truth_list (Some l) = refl
+-- ---- values that are seen to be of a sort
 
-truth_erased : (fs : List Function) (names : List Name) (e : Tree) → is_truth fs (map erase names) e ≡ is_truth fs names e
-truth_erased fs names (tree.truth b at) = refl
-truth_erased fs names (tree.variable text at) = ap is_truth_name (named_erased text names) ∙ go (named text names)
+both_give : {a b c d : Bool} → a ≡ b → c ≡ d → a && c ≡ b && d
+both_give {b = b} {c = c} e f = ap (λ x. x && c) e ∙ ap (λ x. b && x) f
+
+abbrev shape_in : Option Name → Option Shape
+shape_in o = elim o [ None ↦ None | Some x ↦ Some x.shape ]
+
+shape_erased : (names : List Name) (text : List ℕ) → shape_named (map erase names) text ≡ shape_named names text
+shape_erased names text = ap shape_in (named_erased text names) ∙ go (named text names)
   where
-    go : (o : Option Name) → is_truth_name (erased o) ≡ is_truth_name o
+    go : (o : Option Name) → shape_in (erased o) ≡ shape_in o
     go None = refl
     go (Some x) = refl
-truth_erased fs names (tree.paren e at) = truth_erased fs names e
-truth_erased fs names (tree.if_expr test first other at) =
-    ap (λ b. b && is_truth fs (map erase names) other) (truth_erased fs names first) ∙ ap (λ b. is_truth fs names first && b) (truth_erased fs names other)
-truth_erased fs names (tree.index base place at) =
-    ap (λ b. b || is_truth_list (deep_named (map erase names) (tree.index base place at))) (ap is_truth_list (list_erased names base) ∙ truth_list (list_named names base))
-    ∙ ap (λ b. is_truth_list (list_named names base) || b) (ap is_truth_list (deep_erased names (tree.index base place at)) ∙ truth_list (deep_named names (tree.index base place at)))
-truth_erased fs names (tree.prefix o e at) = refl
-truth_erased fs names (tree.binary o l r at) = refl
-truth_erased fs names other = refl
+
+with_one_same : (d : ℕ) (f g : ℕ → Bool) → ((k : ℕ) → f k ≡ g k) → with_one d f ≡ with_one d g
+with_one_same d f g h = ap (λ b. if nat_eq d 0 then false else b) (h (d - 1))
+
+with_none_same : (d : ℕ) {a b : Bool} → a ≡ b → with_none d a ≡ with_none d b
+with_none_same d e = ap (with_none d) e
+
+abbrev under_name : List Name → Tree → (List Name → Bool) → Option Counted → Bool
+under_name names gens f o = elim o [ None ↦ false | Some x ↦ under_gens (local x.text x.kind 0 ∷ names) gens f ]
+
+under_same : (names : List Name) (gens : Tree) (f : List Name → Bool) (o : Option Counted) → ((inner : List Name) → under_gens (map erase inner) gens f ≡ under_gens inner gens f)
+    → under_name (map erase names) gens f o ≡ under_name names gens f o
+under_same names gens f None h = refl
+under_same names gens f (Some x) h = h (local x.text x.kind 0 ∷ names)
+
+under_erased : (names : List Name) (gens : Tree) (f : List Name → Bool) → ((inner : List Name) → f (map erase inner) ≡ f inner) → under_gens (map erase names) gens f ≡ under_gens names gens f
+under_erased names (tree.cons g gens) f h = under_same names gens f (counted_by g) (λ inner. under_erased inner gens f h)
+under_erased names gens f h = h names
+
+inside_erased : (o : Option ℕ) (f g : ℕ → Bool) → ((k : ℕ) → f k ≡ g k) → ◌≡◌ {A = Bool} (elim o [ None ↦ false | Some k ↦ f k ]) (elim o [ None ↦ false | Some k ↦ g k ])
+inside_erased None f g h = refl
+inside_erased (Some k) f g h = h k
+
+mutual
+  pub gives_erased : (s : Sort) (d : ℕ) (fs : List Function) (names : List Name) (e : Tree) → gives_at s d fs (map erase names) e ≡ gives_at s d fs names e
+  gives_erased s d fs names (tree.number k at) = refl
+  gives_erased s d fs names (tree.truth b at) = refl
+  gives_erased s d fs names (tree.variable text at) = ap (name_gives s d) (shape_erased names text)
+  gives_erased s d fs names (tree.paren e at) = gives_erased s d fs names e
+  gives_erased s d fs names (tree.if_expr test first other at) = both_give (gives_erased s d fs names first) (gives_erased s d fs names other)
+  gives_erased s d fs names (tree.prefix o e at) = with_none_same d (ap (prefix_gives s o) (gives_erased sort.Any 0 fs names e))
+  gives_erased s d fs names (tree.binary o l r at) =
+      with_none_same d (ap (λ b. binary_gives s o b (gives_at sort.Any 0 fs (map erase names) r)) (gives_erased sort.Any 0 fs names l) ∙ ap (binary_gives s o (gives_at sort.Any 0 fs names l)) (gives_erased sort.Any 0 fs names r))
+  gives_erased s d fs names (tree.call text args at) = with_none_same d (ap (call_gives s (function_for text (number_of args) fs)) (all_erased sort.Any 0 fs names args))
+  gives_erased s d fs names (tree.list es at) = with_one_same d (λ k. all_give s k fs (map erase names) es) (λ k. all_give s k fs names es) (λ k. all_erased s k fs names es)
+  gives_erased s d fs names (tree.comp item gens at) =
+      with_one_same d (λ k. under_gens (map erase names) gens (λ inner. gives_at s k fs inner item)) (λ k. under_gens names gens (λ inner. gives_at s k fs inner item))
+      (λ k. under_erased names gens (λ inner. gives_at s k fs inner item) (λ inner. gives_erased s k fs inner item))
+  gives_erased s d fs names (tree.index base place at) = inside_erased (few (d + 1)) (λ k. gives_at s k fs (map erase names) base) (λ k. gives_at s k fs names base) (λ k. gives_erased s k fs names base)
+  gives_erased s d fs names other = refl
+
+  all_erased : (s : Sort) (d : ℕ) (fs : List Function) (names : List Name) (es : Tree) → all_give s d fs (map erase names) es ≡ all_give s d fs names es
+  all_erased s d fs names (tree.cons e es) = both_give (gives_erased s d fs names e) (all_erased s d fs names es)
+  all_erased s d fs names other = refl
 
 -- ---- expressions
 
@@ -254,7 +294,7 @@ mutual
   fill_erased fs names t (tree.if_expr test first other at) = both_same (fill_erased fs names one test) (both_same (fill_erased fs names t first) (fill_erased fs names t other))
   fill_erased fs names t (tree.prefix o e at) = ap (where_one t at) (fill_erased fs names one e)
   fill_erased fs names t (tree.binary o l r at) =
-      ap (where_one t at) (ap (λ b. if is_short o && not b then Some at else left_out_fill fs (map erase names) one l or_else left_out_fill fs (map erase names) one r) (truth_erased fs names l)
+      ap (where_one t at) (ap (λ b. if is_short o && not b then Some at else left_out_fill fs (map erase names) one l or_else left_out_fill fs (map erase names) one r) (gives_erased sort.Truths 0 fs names l)
       ∙ ap (λ x. if is_short o && not (is_truth fs names l) then Some at else x) (both_same (fill_erased fs names one l) (fill_erased fs names one r)))
   fill_erased fs names t (tree.call text args at) = ap (where_one t at) (ap (left_call (function_for text (number_of args) fs) at) (args_erased fs names args))
   fill_erased fs names t (tree.list es at) = many_same t at (Some (number_of es)) (λ items. left_out_fills fs (map erase names) items es) (λ items. left_out_fills fs names items es) (λ items. fills_erased fs names items es)
@@ -311,6 +351,24 @@ pub start_erased : (fs : List Function) (names : List Name) (e : Tree) → left_
 start_erased fs names tree.absent = refl
 start_erased fs names (tree.present e) = out_erased fs names e
 start_erased fs names other = refl
+
+pub list_start_erased : (fs : List Function) (names : List Name) (t : Shape) (start : Tree) → left_out_list_start fs (map erase names) t start ≡ left_out_list_start fs names t start
+list_start_erased fs names t tree.absent = refl
+list_start_erased fs names t (tree.present e) = fill_erased fs names t e
+list_start_erased fs names t other = refl
+
+-- what is left out of a local: of a single value, or of a list of a type whose sizes are allowed
+abbrev pub in_either : Option Scalar → Option ℕ → (Scalar → Option ℕ) → Option ℕ → Option ℕ
+in_either o p f g = elim o [ None ↦ elim p [ None ↦ Some 0 | Some size ↦ g ] | Some t ↦ f t ]
+
+pub local_erased : (fs : List Function) (names : List Name) (x : Local) → left_out_local fs (map erase names) x ≡ left_out_local fs names x
+local_erased fs names x = go (single_of x.shape) (type_size x.shape)
+  where
+    go : (o : Option Scalar) (p : Option ℕ) → in_either o p (λ t. left_out_start fs (map erase names) (optional x.start)) (left_out_list_start fs (map erase names) x.shape (optional x.start))
+        ≡ in_either o p (λ t. left_out_start fs names (optional x.start)) (left_out_list_start fs names x.shape (optional x.start))
+    go None None = refl
+    go None (Some size) = list_start_erased fs names x.shape (optional x.start)
+    go (Some t) p = start_erased fs names (optional x.start)
 
 -- in any cell the local leaves out the same of an expression
 pub any_cell_in : (fs : List Function) (names : List Name) (text : List ℕ) (t : Scalar) (c : ℕ) (e : Tree) → left_out_in fs (local text t c ∷ names) e ≡ left_out_in fs (local text t 0 ∷ names) e

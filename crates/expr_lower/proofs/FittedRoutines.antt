@@ -12,13 +12,13 @@ use Rattle.expr_lower.specs.Calling.{HasRoutines}
 use Rattle.expr_lower.specs.Held.{AreBelow}
 use Rattle.expr_lower.specs.Names.{Name}
 use Rattle.expr_lower.specs.Placed.{StandsAt}
-use Rattle.expr_lower.specs.Routining.{FitsAsRoutine, FunSized, IsBody, IsRoutine, LocalsSized, no_more_locals, one_more_local, return_code}
+use Rattle.expr_lower.specs.Routining.{FitsAsRoutine, FunSized, IsBody, IsRoutine, LocalsSized, no_more_locals, one_more_list, one_more_local, return_code}
 use Rattle.expr_lower.specs.Starting.{IsStart, at_zero, at_value}
 use Rattle.expr_lower.proofs.Coded.{grows}
 use Rattle.expr_lower.proofs.Fitted.{Plain, fits_const, fits_in, fits_one, plain_then}
 use Rattle.expr_lower.proofs.Keeping.{below_more}
 use Rattle.expr_lower.proofs.Runs.{stands_left, stands_right}
-use Rattle.expr_lower.proofs.Routined.{body_grows, front_below, start_grows}
+use Rattle.expr_lower.proofs.Routined.{any_below, body_grows, front_below, start_grows}
 use Rattle.expr_lower.proofs.Served.{formals_below}
 
 module _ (code : Code) (callable limit : ℕ) (fs : List Function) (has : HasRoutines code callable limit fs) where
@@ -50,6 +50,15 @@ module _ (code : Code) (callable limit : ℕ) (fs : List Function) (has : HasRou
         body = a ++ later.body;
         is = ap (λ c. a ++ c) later.is ∙ sym (append_assoc a later.body (op.Return ∷ []));
         fits = plain_then code callable limit base 0 0 1 a later.body (fits_first names kind n (sizes.0 kind shape) (omega (arith, up, more, le)) (below_more n (n + 1) names (omega arith) below) (omega (arith, more, le)) (stands_left code.instrs base a b at) first) later.fits;
+      }
+  body_fits size sizes below le at (one_more_list names x xs base n k m a b typed first rest) =
+      let up = first.cells in
+      let more = body_grows rest in
+      let later : FitsAsRoutine code callable limit (base + length a) b = body_fits size sizes.1 (any_below names x.name x.shape n k up (below_more n k names (omega (arith, up)) below)) le (stands_right code.instrs base a b at) rest in
+      record {
+        body = a ++ later.body;
+        is = ap (λ c. a ++ c) later.is ∙ sym (append_assoc a later.body (op.Return ∷ []));
+        fits = plain_then code callable limit base 0 0 1 a later.body (first.fits code callable limit has below (omega (arith, more, le)) (stands_left code.instrs base a b at)) later.fits;
       }
 
 pub routine_fits : (whole : Code) (callable limit : ℕ) (globals : List Name) (fs : List Function) (f : Fun) (g : Function) (base n m : ℕ) (code : List Instr) → HasRoutines whole callable limit fs → AreBelow n globals → FunSized f → m ≤ limit → StandsAt whole.instrs base code

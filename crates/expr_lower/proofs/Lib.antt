@@ -4,12 +4,15 @@ pub mod Listing
 pub mod PartValues
 pub mod Rowed
 pub mod Truthful
+pub mod MeantIs
+pub mod Generated
 pub mod Effects
 pub mod Aimed
 pub mod Doing
 pub mod Items
 pub mod Called
 pub mod GivenKinds
+pub mod Sorted
 pub mod Routined
 pub mod Served
 pub mod FittedRoutines

@@ -9,7 +9,7 @@ use Rattle.rvc_base.specs.Storing.{conv, IsSize}
 use Rattle.cal_ast.specs.Tree.{Tree}
 use Rattle.cal_ast.specs.View.{optional}
 use Rattle.cal_model.proofs.Numbers.{is-num}
-use Rattle.cal_model.specs.Value.{Shape, Single, Value, HasKind, kind_of_scalar, of_number, scalars_of_type, stored}
+use Rattle.cal_model.specs.Value.{Shape, Single, Value, HasKind, kind_of_scalar, kind_of_type, of_number, scalars_of_type, stored}
 use Rattle.cal_model.specs.Outcome.{Out, Gives, Traps, Lacks, Clashes, and_then}
 use Rattle.cal_model.specs.Env.{Env, find, variable, with_local}
 use Rattle.cal_model.specs.Expression.{eval}
@@ -19,18 +19,20 @@ use Rattle.code_ir.specs.declared.instr.Instr.{Instr}
 use Rattle.code_ir.specs.declared.instr.Instr.TheVariants as op
 use Rattle.code_ir.specs.Effect.{stored as in_type}
 use Rattle.code_ir.specs.Running.{State, go_on, Reaches, here, after}
+use Rattle.expr_lower.specs.declared.names.Seat.TheVariants.{Cell}
 use Rattle.expr_lower.specs.Callees.{Function}
 use Rattle.expr_lower.specs.Calling.{Serves}
 use Rattle.expr_lower.specs.Coding.{IsCode}
 use Rattle.expr_lower.specs.Flat.{flat}
 use Rattle.expr_lower.specs.Following.{CutsOff, Follows, Pushes}
-use Rattle.expr_lower.specs.Held.{AllApart, AreApart, AreBelow, Holds, HoldsName, Keeps, SeatIsApart, SeatIsBelow}
-use Rattle.expr_lower.specs.Names.{local, Name, named}
+use Rattle.expr_lower.specs.Held.{AllApart, AreApart, AreBelow, Holds, HoldsName, Keeps, SeatIsApart, SeatIsBelow, StandAt}
+use Rattle.expr_lower.specs.ListStarts.{Starts}
+use Rattle.expr_lower.specs.Names.{local, local_of, Name, named}
 use Rattle.expr_lower.specs.Placed.{StandsAt, World, state}
-use Rattle.expr_lower.specs.Routining.{IsBody, LocalsSized, no_more_locals, one_more_local, return_code}
+use Rattle.expr_lower.specs.Routining.{IsBody, LocalsSized, no_more_locals, one_more_list, one_more_local, return_code}
 use Rattle.expr_lower.specs.Starting.{IsStart, at_zero, at_value}
 use Rattle.expr_lower.proofs.Coded.{does_in, grows, load_leaves}
-use Rattle.expr_lower.proofs.Doing.{Apart, Below, Held, below_on, cut_after, cut_wider, still}
+use Rattle.expr_lower.proofs.Doing.{Apart, Below, Held, below_on, cut_after, cut_wider, prepared, still}
 use Rattle.expr_lower.proofs.GivenKinds.{kinds_in}
 use Rattle.expr_lower.proofs.Keeping.{keeps_join, keeps_wider}
 use Rattle.expr_lower.proofs.Runs.{follows_both, follows_more, follows_then, obeys, reaches_join, stands_left, stands_right}
@@ -38,33 +40,40 @@ use Rattle.expr_lower.proofs.Written.{Written, written_keeps, stand_one}
 use Rattle.expr_lower.proofs.Singles.{IsSingleValue, singles_in}
 use Rattle.expr_lower.proofs.Storing.{set_there, set_written, single_stored, store_leaves}
 
-zero_kind : (t : Scalar) → HasKind (kind_of_scalar t) (of_number t (pos 0)) × (flat (of_number t (pos 0)) ≡ pos 0 ∷ [])
+pub zero_kind : (t : Scalar) → HasKind (kind_of_scalar t) (of_number t (pos 0)) × (flat (of_number t (pos 0)) ≡ pos 0 ∷ [])
 zero_kind scalar.Bool = (tt, refl)
 zero_kind (scalar.Int n) = (is-num (pos 0) refl, refl)
 zero_kind (scalar.Uint n) = (is-num (pos 0) refl, refl)
 
 -- ---- names in front of others
 
-one_apart : (c m low high : ℕ) → c + 1 ≤ m → AreApart c m low high → AreApart c (c + 1) low high
-one_apart c m low high le far = ⊎_elim (λ (h : m ≤ low). inl (omega (arith, h, le))) (λ (h : high ≤ c). inr h) far
+-- cells before m, that none of routines are among, are apart from those
+part_apart : (c size m low high : ℕ) → c + size ≤ m → AreApart c m low high → AreApart c (c + size) low high
+part_apart c size m low high le far = ⊎_elim (λ (h : m ≤ low). inl (omega (arith, h, le))) (λ (h : high ≤ c). inr h) far
+
+pub any_apart : (low high : ℕ) (names : List Name) (text : List ℕ) (t : Shape) (c : ℕ) → AreApart c (c + scalars_of_type t) low high → AllApart low high names → AllApart low high (local_of text t c ∷ names)
+any_apart low high names text t c far apart other y e = by (bytes_eq text other) e (apart other y)
+  where
+    by : (b : Bool) → (if b then Some (local_of text t c) else named other names) ≡ Some y → (named other names ≡ Some y → SeatIsApart low high (scalars_of_type y.shape) y.seat) → SeatIsApart low high (scalars_of_type y.shape) y.seat
+    by true f more = let same : local_of text t c ≡ y = cc in subst (λ (z : Name). SeatIsApart low high (scalars_of_type z.shape) z.seat) same far
+    by false f more = more f
 
 pub front_apart : (low high : ℕ) (names : List Name) (text : List ℕ) (t : Scalar) (c : ℕ) → AreApart c (c + 1) low high → AllApart low high names → AllApart low high (local text t c ∷ names)
-front_apart low high names text t c far apart other y e = by (bytes_eq text other) e (apart other y)
+front_apart low high names text t c far apart = any_apart low high names text (Single t) c far apart
+
+pub any_below : (names : List Name) (text : List ℕ) (t : Shape) (c n : ℕ) → c + scalars_of_type t ≤ n → AreBelow n names → AreBelow n (local_of text t c ∷ names)
+any_below names text t c n le below other y e = by (bytes_eq text other) e (below other y)
   where
-    by : (b : Bool) → (if b then Some (local text t c) else named other names) ≡ Some y → (named other names ≡ Some y → SeatIsApart low high (scalars_of_type y.shape) y.seat) → SeatIsApart low high (scalars_of_type y.shape) y.seat
-    by true f more = let same : local text t c ≡ y = cc in subst (λ (z : Name). SeatIsApart low high (scalars_of_type z.shape) z.seat) same far
+    by : (b : Bool) → (if b then Some (local_of text t c) else named other names) ≡ Some y → (named other names ≡ Some y → SeatIsBelow n (scalars_of_type y.shape) y.seat) → SeatIsBelow n (scalars_of_type y.shape) y.seat
+    by true f more = let same : local_of text t c ≡ y = cc in subst (λ (z : Name). SeatIsBelow n (scalars_of_type z.shape) z.seat) same le
     by false f more = more f
 
 pub front_below : (names : List Name) (text : List ℕ) (t : Scalar) (c n : ℕ) → c + 1 ≤ n → AreBelow n names → AreBelow n (local text t c ∷ names)
-front_below names text t c n le below other y e = by (bytes_eq text other) e (below other y)
-  where
-    by : (b : Bool) → (if b then Some (local text t c) else named other names) ≡ Some y → (named other names ≡ Some y → SeatIsBelow n (scalars_of_type y.shape) y.seat) → SeatIsBelow n (scalars_of_type y.shape) y.seat
-    by true f more = let same : local text t c ≡ y = cc in subst (λ (z : Name). SeatIsBelow n (scalars_of_type z.shape) z.seat) same le
-    by false f more = more f
+front_below names text t c n le below = any_below names text (Single t) c n le below
 
-pub front_holds : (tokens : ℕ → List ℤ) (names : List Name) (text : List ℕ) (t : Scalar) (shape : Shape) (changes : Bool) (c : ℕ) (cells : List ℤ) (env : Env) (v : Value) (number : ℤ) → HasKind (kind_of_scalar t) v → flat v ≡ number ∷ [] → slice_get cells c ≡ Some number
-    → Holds names tokens cells env → Holds (local text t c ∷ names) tokens cells (with_local (variable text shape changes v) env)
-front_holds tokens names text t shape changes c cells env v number kind is there holds other y e = by (bytes_eq text other) refl e (holds other y)
+pub any_holds : (tokens : ℕ → List ℤ) (names : List Name) (text : List ℕ) (t shape : Shape) (changes : Bool) (c : ℕ) (cells : List ℤ) (env : Env) (v : Value) → HasKind (kind_of_type t) v → StandAt (Cell c) tokens cells (flat v)
+    → Holds names tokens cells env → Holds (local_of text t c ∷ names) tokens cells (with_local (variable text shape changes v) env)
+any_holds tokens names text t shape changes c cells env v kind stands holds other y e = by (bytes_eq text other) refl e (holds other y)
   where
     now : Env
     now = with_local (variable text shape changes v) env
@@ -72,11 +81,15 @@ front_holds tokens names text t shape changes c cells env v number kind is there
     meant : (b : Bool) → bytes_eq text other ≡ b → find other (now.locals ++ now.globals) ≡ (if b then Some v else find other (env.locals ++ env.globals))
     meant b f = ap (λ d. if d then Some v else find other (env.locals ++ env.globals)) f
 
-    by : (b : Bool) → bytes_eq text other ≡ b → (if b then Some (local text t c) else named other names) ≡ Some y → (named other names ≡ Some y → HoldsName tokens cells env other y) → HoldsName tokens cells now other y
+    by : (b : Bool) → bytes_eq text other ≡ b → (if b then Some (local_of text t c) else named other names) ≡ Some y → (named other names ≡ Some y → HoldsName tokens cells env other y) → HoldsName tokens cells now other y
     by true f g more =
-        let same : local text t c ≡ y = cc in
-        subst (HoldsName tokens cells now other) same (record { value = v; meant = meant true f; of_type = kind; stands = stand_one c tokens cells (flat v) number is there })
+        let same : local_of text t c ≡ y = cc in
+        subst (HoldsName tokens cells now other) same (record { value = v; meant = meant true f; of_type = kind; stands = stands })
     by false f g more = let h = more g in record { value = h.value; meant = meant false f ∙ h.meant; of_type = h.of_type; stands = h.stands }
+
+pub front_holds : (tokens : ℕ → List ℤ) (names : List Name) (text : List ℕ) (t : Scalar) (shape : Shape) (changes : Bool) (c : ℕ) (cells : List ℤ) (env : Env) (v : Value) (number : ℤ) → HasKind (kind_of_scalar t) v → flat v ≡ number ∷ [] → slice_get cells c ≡ Some number
+    → Holds names tokens cells env → Holds (local text t c ∷ names) tokens cells (with_local (variable text shape changes v) env)
+front_holds tokens names text t shape changes c cells env v number kind is there holds = any_holds tokens names text (Single t) shape changes c cells env v kind (stand_one c tokens cells (flat v) number is there) holds
 
 then_then : {A B C : Type 0} (o : Out A) (f : A → ℕ → Out B) (g : B → ℕ → Out C) → and_then (and_then o f) g ≡ and_then o (λ x k. and_then (f x k) g)
 then_then (Gives x k) f g = refl
@@ -93,6 +106,7 @@ start_grows (at_value e base n m code h) = grows h
 pub body_grows : {fs : List Function} {t : Scalar} {e : Tree} {names : List Name} {xs : List Local} {base n m : ℕ} {code : List Instr} → IsBody fs t e names xs base n code m → n + 1 ≤ m
 body_grows (no_more_locals names base n m code h) = grows h
 body_grows (one_more_local names x xs kind base n k m a b shape first rest) = let g = start_grows first in let h = body_grows rest in omega (arith, g, h)
+body_grows (one_more_list names x xs base n k m a b typed first rest) = let g = first.cells in let h = body_grows rest in omega (arith, g, h)
 
 -- the run returns with the number of a value, and has used the cells from n to m
 pub record Gets (w : World) (t : Scalar) (n m : ℕ) (s : State) (back : ℕ) (frames : List ℕ) (v : Value) (left : ℕ) : Type 0 where
@@ -108,7 +122,7 @@ module _ (fs : List Function) (globals : List Name) (w : World) (serves : Serves
   open_frames = back ∷ frames
 
   -- the number of a value of the type stands in cell c
-  record Starts (t : Scalar) (c m : ℕ) (s : State) (end : ℕ) (v : Value) (left : ℕ) : Type 0 where
+  record StartsOne (t : Scalar) (c m : ℕ) (s : State) (end : ℕ) (v : Value) (left : ℕ) : Type 0 where
     cells : List ℤ
     reaches : Reaches w.code w.tokens s (state end s.stack s.frames cells left)
     keeps : Keeps c m w.low w.high s.cells cells
@@ -136,7 +150,7 @@ module _ (fs : List Function) (globals : List Name) (w : World) (serves : Serves
   starts : (names : List Name) (env : Env) (t : Scalar) (c base m : ℕ) (start : Option Tree) (a : List Instr) (stack cells : List ℤ) (left : ℕ) → IsSize t
       → IsStart fs names t c (optional start) base (c + 1) a m → StandsAt w.code.instrs base a
       → Below fs globals names w env open_frames floor ceiling c → Apart fs globals names w env open_frames floor ceiling → Held fs globals names w env open_frames floor ceiling cells → m ≤ length cells → m ≤ ceiling
-      → Follows (first_value (Single t) start w.calls env left) (Starts t c m (state base stack open_frames cells left) (base + length a)) (CutsOff w c m (state base stack open_frames cells left))
+      → Follows (first_value (Single t) start w.calls env left) (StartsOne t c m (state base stack open_frames cells left) (base + length a)) (CutsOff w c m (state base stack open_frames cells left))
   starts names env t c base m None _ stack cells left size (at_zero _ _) stands below apart holds room top =
       let s : State = state base stack open_frames cells left in
       let u : State = state (base + 1) (pos 0 ∷ stack) open_frames cells left in
@@ -159,7 +173,7 @@ module _ (fs : List Function) (globals : List Name) (w : World) (serves : Serves
       let long : length (code ++ i) ≡ length code + 1 = length-append code i in
       follows_then (eval e w.calls env left) (λ v j. Gives (stored (Single t) v) j)
       (λ v j. Pushes w (c + 1) m s (base + length code) v j × IsSingleValue v) (λ d. CutsOff w (c + 1) m s d × Unit {0})
-      (Starts t c m s (base + length (code ++ i))) (CutsOff w c m s)
+      (StartsOne t c m s (base + length (code ++ i))) (CutsOff w c m s)
       (follows_both (eval e w.calls env left) (Pushes w (c + 1) m s (base + length code)) (CutsOff w (c + 1) m s) (λ v j. IsSingleValue v) (λ d. Unit {0})
       (does_in fs globals names w serves env open_frames floor ceiling coded top stack cells left (stands_left w.code.instrs base code i stands) (below_on fs globals names w env open_frames floor ceiling c (c + 1) (omega arith) below) apart holds)
       (singles_in fs globals names w serves env floor ceiling cells (kinds_in fs globals w serves env.globals c cells below.1 apart.1 holds.1 holds.2) apart holds coded top left (stands_left w.code.instrs base code i stands) (below_on fs globals names w env open_frames floor ceiling c (c + 1) (omega arith) below)))
@@ -221,6 +235,25 @@ module _ (fs : List Function) (globals : List Name) (w : World) (serves : Serves
       })
       (λ d q. record { cells = q.0.cells; ends = q.0.ends; keeps = keeps_wider n m (omega arith) (omega arith) q.0.keeps })
 
+  -- what comes behind a start that was run
+  behind : (t : Scalar) (e : Tree) (xs : List Local) (now : Env) (n k m base place : ℕ) (stack cells later : List ℤ) (left j : ℕ) → n ≤ k → k ≤ m
+      → Reaches w.code w.tokens (state base stack open_frames cells left) (state place stack open_frames later j) → Keeps n k w.low w.high cells later
+      → Follows (ends_body e t xs now j) (Gets w t k m (state place stack open_frames later j) back frames) (CutsOff w k m (state place stack open_frames later j))
+      → Follows (ends_body e t xs now j) (Gets w t n m (state base stack open_frames cells left) back frames) (CutsOff w n m (state base stack open_frames cells left))
+  behind t e xs now n k m base place stack cells later left j le ge reaches keeps done =
+      let s : State = state base stack open_frames cells left in
+      let u : State = state place stack open_frames later j in
+      follows_more (ends_body e t xs now j) (Gets w t k m u back frames) (CutsOff w k m u) (Gets w t n m s back frames) (CutsOff w n m s) done
+      (λ r i q. record {
+        kind = q.kind;
+        number = q.number;
+        is = q.is;
+        cells = q.cells;
+        reaches = reaches_join reaches q.reaches;
+        keeps = keeps_join (keeps_wider n m (omega arith) ge keeps) (keeps_wider n m le (omega arith) q.keeps);
+      })
+      (λ d q. cut_after w n k m s u d le ge reaches keeps q)
+
   pub body_returns : (t : Scalar) (e : Tree) {names : List Name} {xs : List Local} {base n m : ℕ} {code : List Instr} (env : Env) (stack cells : List ℤ) (left : ℕ) → IsSize t → LocalsSized xs
       → IsBody fs t e names xs base n code m → StandsAt w.code.instrs base code → AreApart n m w.low w.high
       → Below fs globals names w env open_frames floor ceiling n → Apart fs globals names w env open_frames floor ceiling → Held fs globals names w env open_frames floor ceiling cells → m ≤ length cells → m ≤ ceiling
@@ -230,17 +263,17 @@ module _ (fs : List Function) (globals : List Name) (w : World) (serves : Serves
   body_returns t e env stack cells left size sizes (one_more_local names x xs kind base n k m a b shape first rest) stands far below apart holds room top =
       subst (λ (h : Shape). Follows (and_then (and_then (first_value h x.start w.calls env left) (λ v j. declared xs w.calls (with_local (variable x.name h x.changes v) env) j)) (λ now i. and_then (eval e w.calls now i) (λ v q. Gives (stored (Single t) v) q))) (Gets w t n m s back frames) (CutsOff w n m s)) (sym shape)
       (subst (λ (o : Out Value). Follows o (Gets w t n m s back frames) (CutsOff w n m s)) (sym (then_then (first_value (Single kind) x.start w.calls env left) (λ v j. declared xs w.calls (with_local (variable x.name (Single kind) x.changes v) env) j) (λ now i. and_then (eval e w.calls now i) (λ v q. Gives (stored (Single t) v) q))))
-      (follows_then (first_value (Single kind) x.start w.calls env left) (λ v j. ends_body e t xs (with_local (variable x.name (Single kind) x.changes v) env) j) (Starts kind n k s (base + length a)) (CutsOff w n k s) (Gets w t n m s back frames) (CutsOff w n m s)
+      (follows_then (first_value (Single kind) x.start w.calls env left) (λ v j. ends_body e t xs (with_local (variable x.name (Single kind) x.changes v) env) j) (StartsOne kind n k s (base + length a)) (CutsOff w n k s) (Gets w t n m s back frames) (CutsOff w n m s)
       (starts names env kind n base k x.start a stack cells left (sizes.0 kind shape) first (stands_left w.code.instrs base a b stands) below apart holds (omega (arith, room, more)) (omega (arith, top, more)))
       (λ v j p.
       let held = still fs globals names w env open_frames floor ceiling p.keeps below apart holds in
       let wide = below_on fs globals names w env open_frames floor ceiling n k (omega (arith, up)) below in
       let size_same = p.keeps.size in
-      later v j p
+      behind t e xs (with_local (variable x.name (Single kind) x.changes v) env) n k m base (base + length a) stack cells p.cells left j (omega (arith, up)) (omega (arith, more)) p.reaches p.keeps
       (body_returns t e (with_local (variable x.name (Single kind) x.changes v) env) stack p.cells j size sizes.1 rest (stands_right w.code.instrs base a b stands)
       (⊎_elim (λ (g : m ≤ w.low). inl g) (λ (g : w.high ≤ n). inr (omega (arith, g, up))) far)
       (front_below names x.name kind n k up wide.0, wide.1, wide.2)
-      (front_apart w.low w.high names x.name kind n (one_apart n m w.low w.high (omega (arith, up, more)) far) apart.0, apart.1, apart.2)
+      (front_apart w.low w.high names x.name kind n (part_apart n 1 m w.low w.high (omega (arith, up, more)) far) apart.0, apart.1, apart.2)
       (front_holds w.tokens names x.name kind (Single kind) x.changes n p.cells env v p.number p.kind p.is p.there held.0, held.1, held.2, held.3)
       (omega (arith, room, size_same)) top))
       (λ d q. cut_wider w n k m s d (omega (arith, more)) q)))
@@ -253,19 +286,29 @@ module _ (fs : List Function) (globals : List Name) (w : World) (serves : Serves
 
       more : k + 1 ≤ m
       more = body_grows rest
+  body_returns t e env stack cells left size sizes (one_more_list names x xs base n k m a b typed first rest) stands far below apart holds room top =
+      subst (λ (o : Out Value). Follows o (Gets w t n m s back frames) (CutsOff w n m s)) (sym (then_then (first_value x.shape x.start w.calls env left) (λ v j. declared xs w.calls (with_local (variable x.name x.shape x.changes v) env) j) (λ now i. and_then (eval e w.calls now i) (λ v q. Gives (stored (Single t) v) q))))
+      (follows_then (first_value x.shape x.start w.calls env left) (λ v j. ends_body e t xs (with_local (variable x.name x.shape x.changes v) env) j) (Starts w x.shape n k s (base + length a)) (CutsOff w n k s) (Gets w t n m s back frames) (CutsOff w n m s)
+      (first.starts below.0 w globals env stack open_frames cells left (stands_left w.code.instrs base a b stands) serves (prepared fs globals names w env open_frames floor ceiling n cells below apart holds)
+      (⊎_elim (λ (g : m ≤ w.low). inl (omega (arith, g, more))) (λ (g : w.high ≤ n). inr g) far) (omega (arith, room, more)))
+      (λ v j p.
+      let held = still fs globals names w env open_frames floor ceiling p.keeps below apart holds in
+      let wide = below_on fs globals names w env open_frames floor ceiling n k (omega (arith, up)) below in
+      let size_same = p.keeps.size in
+      behind t e xs (with_local (variable x.name x.shape x.changes v) env) n k m base (base + length a) stack cells p.cells left j (omega (arith, up)) (omega (arith, more)) p.reaches p.keeps
+      (body_returns t e (with_local (variable x.name x.shape x.changes v) env) stack p.cells j size sizes.1 rest (stands_right w.code.instrs base a b stands)
+      (⊎_elim (λ (g : m ≤ w.low). inl g) (λ (g : w.high ≤ n). inr (omega (arith, g, up))) far)
+      (any_below names x.name x.shape n k up wide.0, wide.1, wide.2)
+      (any_apart w.low w.high names x.name x.shape n (part_apart n (scalars_of_type x.shape) m w.low w.high (omega (arith, up, more)) far) apart.0, apart.1, apart.2)
+      (any_holds w.tokens names x.name x.shape x.shape x.changes n p.cells env v p.kind p.stands held.0, held.1, held.2, held.3)
+      (omega (arith, room, size_same)) top))
+      (λ d q. cut_wider w n k m s d (omega (arith, more)) q))
+    where
+      s : State
+      s = state base stack open_frames cells left
 
-      later : (v : Value) (j : ℕ) (p : Starts kind n k s (base + length a) v j)
-          → Follows (ends_body e t xs (with_local (variable x.name (Single kind) x.changes v) env) j) (Gets w t k m (state (base + length a) stack open_frames p.cells j) back frames) (CutsOff w k m (state (base + length a) stack open_frames p.cells j))
-          → Follows (ends_body e t xs (with_local (variable x.name (Single kind) x.changes v) env) j) (Gets w t n m s back frames) (CutsOff w n m s)
-      later v j p done =
-          let u : State = state (base + length a) stack open_frames p.cells j in
-          follows_more (ends_body e t xs (with_local (variable x.name (Single kind) x.changes v) env) j) (Gets w t k m u back frames) (CutsOff w k m u) (Gets w t n m s back frames) (CutsOff w n m s) done
-          (λ r i q. record {
-            kind = q.kind;
-            number = q.number;
-            is = q.is;
-            cells = q.cells;
-            reaches = reaches_join p.reaches q.reaches;
-            keeps = keeps_join (keeps_wider n m (omega arith) (omega (arith, more)) p.keeps) (keeps_wider n m (omega (arith, up)) (omega arith) q.keeps);
-          })
-          (λ d q. cut_after w n k m s u d (omega (arith, up)) (omega (arith, more)) p.reaches p.keeps q)
+      up : n + scalars_of_type x.shape ≤ k
+      up = first.cells
+
+      more : k + 1 ≤ m
+      more = body_grows rest

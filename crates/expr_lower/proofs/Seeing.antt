@@ -10,10 +10,8 @@ use Rattle.expr_lower.specs.declared.names.OneSeat.{OneSeat}
 use Rattle.expr_lower.specs.declared.names.Seat.{Seat}
 use Rattle.expr_lower.specs.Growing.{left_out_name}
 use Rattle.expr_lower.specs.Listed.{items_of, list_named}
-use Rattle.expr_lower.specs.Names.{Name, named}
+use Rattle.expr_lower.specs.Names.{Name, named, shape_named}
 use Rattle.expr_lower.specs.Seen.{IsHidden, IsNotLocal, one_in, one_of, one_named}
-use Rattle.expr_lower.specs.Callees.{Function}
-use Rattle.expr_lower.specs.Truths.{is_truth, is_truth_shape}
 
 -- the words of the definitions, of what was found
 
@@ -23,16 +21,8 @@ one_in_name o = elim o [ None ↦ None | Some x ↦ one_of x ]
 abbrev list_in_name : Option Name → Option ItemList
 list_in_name o = elim o [ None ↦ None | Some x ↦ items_of x ]
 
-abbrev is_truth_name : Option Name → Bool
-is_truth_name o = elim o [ None ↦ false | Some x ↦ is_truth_shape x.shape ]
-
 abbrev left_shape : Shape → ℕ → Option ℕ
 left_shape t at = elim t [ Single u ↦ None | Many n items ↦ Some at ]
-
--- what is made of a single value that was found
-
-abbrev pub is_truth_in : Option OneSeat → Bool
-is_truth_in o = elim o [ None ↦ false | Some s ↦ is_truth_shape (Single s.kind) ]
 
 -- ---- single values
 
@@ -73,18 +63,6 @@ one_there names text at s e =
     let f : IsOneOf names text s = one_found names text s e in
     ap (λ o. left_out_name o at) f.is ∙ ap (λ (t : Shape). left_shape t at) f.shape
 
--- whether it is seen to be a truth value
-pub one_truth : (fs : List Function) (names : List Name) (text : List ℕ) → is_truth fs names (tree.variable text 0) ≡ is_truth_in (one_named names text)
-one_truth fs names text = go (named text names)
-  where
-    at_shape : (seat : Seat) (shape : Shape) → is_truth_shape shape ≡ is_truth_in (one_in seat shape)
-    at_shape seat (Single t) = refl
-    at_shape seat (Many n items) = refl
-
-    go : (o : Option Name) → is_truth_name o ≡ is_truth_in (one_in_name o)
-    go None = refl
-    go (Some x) = at_shape x.seat x.shape
-
 -- ---- locals
 
 pub hidden_one : (text : List ℕ) (locals outer : List Name) (x : Name) → IsHidden text locals x → one_named (locals ++ outer) text ≡ one_of x
@@ -92,6 +70,9 @@ hidden_one text locals outer x h = ap one_in_name (h outer)
 
 pub outside_one : (text : List ℕ) (locals outer : List Name) → IsNotLocal text locals → one_named (locals ++ outer) text ≡ one_named outer text
 outside_one text locals outer h = ap one_in_name (h outer)
+
+pub hidden_shape : (text : List ℕ) (locals outer : List Name) (x : Name) → IsHidden text locals x → shape_named (locals ++ outer) text ≡ Some x.shape
+hidden_shape text locals outer x h = ap (λ (o : Option Name). elim o [ None ↦ None | Some y ↦ Some y.shape ]) (h outer)
 
 pub hidden_list : (text : List ℕ) (locals outer : List Name) (x : Name) → IsHidden text locals x → list_named (locals ++ outer) (tree.variable text 0) ≡ items_of x
 hidden_list text locals outer x h = ap list_in_name (h outer)

@@ -38,12 +38,12 @@ use Rattle.expr_lower.specs.Placed.{StandsAt, World}
 use Rattle.code_ir.specs.declared.instr.Instr.TheVariants as op
 pub use Rattle.expr_lower.specs.Single.{IsSingleValue, OnlySingles}
 
-single_then : (o : Out Value) (f : Value → ℕ → Out Value) → OnlySingles o → ((v : Value) (m : ℕ) → IsSingleValue v → OnlySingles (f v m)) → OnlySingles (and_then o f)
+pub single_then : (o : Out Value) (f : Value → ℕ → Out Value) → OnlySingles o → ((v : Value) (m : ℕ) → IsSingleValue v → OnlySingles (f v m)) → OnlySingles (and_then o f)
 single_then o f h g = follows_then o f (λ v m. IsSingleValue v) (λ c. Unit {0}) (λ v m. IsSingleValue v) (λ c. Unit {0}) h g (λ c t. tt)
 
 -- ---- operators
 
-whole_single : (z : ℤ) (left : ℕ) → OnlySingles (computed (arithmetic.whole z) left)
+pub whole_single : (z : ℤ) (left : ℕ) → OnlySingles (computed (arithmetic.whole z) left)
 whole_single z left = go (is_num z) refl
   where
     go : (b : Bool) → is_num z ≡ b → OnlySingles (computed (if b then arithmetic.Gives z else arithmetic.Traps Overflow) left)
@@ -80,7 +80,7 @@ shr_single a (pos n) left h = go (nat_le n max_shift)
     go false = tt
 shr_single a (negsuc n) left h = tt
 
-prefix_single : (o : PrefixOp) (v : Value) (left : ℕ) → IsSingleValue v → OnlySingles (prefixed o v left)
+pub prefix_single : (o : PrefixOp) (v : Value) (left : ℕ) → IsSingleValue v → OnlySingles (prefixed o v left)
 prefix_single prefixes.Not (Num z) left h = tt
 prefix_single prefixes.Not (Truth b) left h = tt
 prefix_single prefixes.Not (Items vs) left h = tt
@@ -127,16 +127,16 @@ applied_single o (Truth a) (Num b) left x y = tt
 applied_single o (Truth a) (Items ws) left x y = tt
 applied_single o (Items vs) w left x y = tt
 
-right_single : (o : BinOp) (v : Value) (right : ℕ → Out Value) (left : ℕ) → IsSingleValue v → ((m : ℕ) → OnlySingles (right m)) → OnlySingles (and_then (right left) (λ w m. applied o v w m))
+pub right_single : (o : BinOp) (v : Value) (right : ℕ → Out Value) (left : ℕ) → IsSingleValue v → ((m : ℕ) → OnlySingles (right m)) → OnlySingles (and_then (right left) (λ w m. applied o v w m))
 right_single o v right left h g = single_then (right left) (λ w m. applied o v w m) (g left) (λ w m i. applied_single o v w m h i)
 
-and_single : (v : Value) (right : ℕ → Out Value) (left : ℕ) → IsSingleValue v → ((m : ℕ) → OnlySingles (right m)) → OnlySingles (with_right binaries.And v right left)
+pub and_single : (v : Value) (right : ℕ → Out Value) (left : ℕ) → IsSingleValue v → ((m : ℕ) → OnlySingles (right m)) → OnlySingles (with_right binaries.And v right left)
 and_single (Truth false) right left h g = tt
 and_single (Truth true) right left h g = right_single binaries.And (Truth true) right left h g
 and_single (Num z) right left h g = right_single binaries.And (Num z) right left h g
 and_single (Items vs) right left h g = right_single binaries.And (Items vs) right left h g
 
-or_single : (v : Value) (right : ℕ → Out Value) (left : ℕ) → IsSingleValue v → ((m : ℕ) → OnlySingles (right m)) → OnlySingles (with_right binaries.Or v right left)
+pub or_single : (v : Value) (right : ℕ → Out Value) (left : ℕ) → IsSingleValue v → ((m : ℕ) → OnlySingles (right m)) → OnlySingles (with_right binaries.Or v right left)
 or_single (Truth true) right left h g = tt
 or_single (Truth false) right left h g = right_single binaries.Or (Truth false) right left h g
 or_single (Num z) right left h g = right_single binaries.Or (Num z) right left h g

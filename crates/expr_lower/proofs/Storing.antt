@@ -29,7 +29,7 @@ truth_stored true = refl
 truth_stored false = refl
 
 -- the numbers of what is stored are the number that is stored
-number_stored : (t : Scalar) (z : ℤ) → IsSize t → HasKind (kind_of_scalar t) (stored (Single t) (Num z)) × (flat (stored (Single t) (Num z)) ≡ conv t z ∷ [])
+pub number_stored : (t : Scalar) (z : ℤ) → IsSize t → HasKind (kind_of_scalar t) (stored (Single t) (Num z)) × (flat (stored (Single t) (Num z)) ≡ conv t z ∷ [])
 number_stored scalar.Bool z h = (tt, ap (λ x. x ∷ []) (truth_stored (unsigned_abs z == 0)))
 number_stored (scalar.Int n) z h = (single-is-num (scalar.Int n) (conv (scalar.Int n) z) h (conv-in-range (scalar.Int n) z h), refl)
 number_stored (scalar.Uint n) z h = (single-is-num (scalar.Uint n) (conv (scalar.Uint n) z) h (conv-in-range (scalar.Uint n) z h), refl)

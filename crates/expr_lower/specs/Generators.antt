@@ -1,27 +1,37 @@
 -- Generators of comprehensions as they are written.
 -- Trusted: part of what a promise means.
-use Rattle.std.specs.Prelude.{◌≡◌, ℕ, ◌*◌, ◌^◌, ℤ, pos, neg_ℤ, nat_lt, int_lt, if◌then◌else◌, List, Option, None, Some}
+use Rattle.std.specs.Prelude.{◌≡◌, ℕ, ◌*◌, ◌^◌, ℤ, pos, nat_lt, int_lt, if◌then◌else◌, List, Option, None, Some}
 use Rattle.rvc_base.specs.declared.scalar.Scalar.{Scalar}
-use Rattle.rvc_base.specs.Width.{is_num}
+use Rattle.rvc_base.specs.Arithmetic.{Computed, Gives, Traps, neg, sub, whole}
 use Rattle.cal_ast.specs.declared.expr.PrefixOp.{PrefixOp}
 use Rattle.cal_ast.specs.declared.expr.PrefixOp.TheVariants.{Neg}
+use Rattle.cal_ast.specs.declared.expr.BinOp.{BinOp}
+use Rattle.cal_ast.specs.declared.expr.BinOp.TheVariants.{Sub}
 use Rattle.cal_ast.specs.Tree as tree
 use Rattle.cal_ast.specs.Tree.{Tree}
 use Rattle.cal_model.specs.Expression.{span}
 use Rattle.expr_lower.specs.Meant.{single_meant}
 
--- the number that is written, if it is a literal, with a minus sign before it or without one
-abbrev pub literal_of : Tree → Option ℤ
-literal_of (tree.number k at) = if is_num (pos k) then Some (pos k) else None
-literal_of other = None
+-- the number that an operation gives, if it gives one
+abbrev pub number_given : Computed → Option ℤ
+number_given (Gives z) = Some z
+number_given (Traps c) = None
 
-abbrev pub negative_of : PrefixOp → Tree → Option ℤ
-negative_of Neg (tree.number k at) = if is_num (pos k) then Some (neg_ℤ (pos k)) else None
-negative_of o e = None
+abbrev pub opposite_of : PrefixOp → Option ℤ → Option ℤ
+opposite_of Neg (Some a) = number_given (neg a)
+opposite_of o a = None
 
+abbrev pub difference_of : BinOp → Option ℤ → Option ℤ → Option ℤ
+difference_of Sub (Some a) (Some b) = number_given (sub a b)
+difference_of o a b = None
+
+-- the number that is written by literals and `-` alone, if each part of it is one of the language
 abbrev pub bound_of : Tree → Option ℤ
-bound_of (tree.prefix o e at) = negative_of o e
-bound_of other = literal_of other
+bound_of (tree.number k at) = number_given (whole (pos k))
+bound_of (tree.paren e at) = bound_of e
+bound_of (tree.prefix o e at) = opposite_of o (bound_of e)
+bound_of (tree.binary o l r at) = difference_of o (bound_of l) (bound_of r)
+bound_of other = None
 
 -- a variable, its type, and the numbers that it is: all from the first to the last
 pub record Counted : Type 0 where

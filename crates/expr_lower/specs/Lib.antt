@@ -11,7 +11,9 @@ pub mod Single
 pub mod Truths
 pub mod Coding
 pub mod Linking
+pub mod ListStarts
 pub mod Routining
+pub mod Types
 pub mod Listed
 pub mod Parted
 pub mod PartView

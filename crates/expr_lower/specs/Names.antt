@@ -20,7 +20,11 @@ name_view x = record { text = string_bytes x.name; shape = shape_view x.shape; s
 abbrev pub names_view : List Named → List Name
 names_view names = map name_view names
 
--- a name inside others, with its value in a cell
+-- a name inside others, with its value in the cells from one on
+abbrev pub local_of : List ℕ → Shape → ℕ → Name
+local_of text t c = record { text = text; shape = t; seat = Cell c }
+
+-- .. with a single value in a cell
 abbrev pub local : List ℕ → Scalar → ℕ → Name
 local text t c = record { text = text; shape = Single t; seat = Cell c }
 
@@ -28,6 +32,10 @@ local text t c = record { text = text; shape = Single t; seat = Cell c }
 abbrev pub named : List ℕ → List Name → Option Name
 named text [] = None
 named text (x ∷ xs) = if bytes_eq x.text text then Some x else named text xs
+
+-- the type of the name that a text means, if it means one
+abbrev pub shape_named : List Name → List ℕ → Option Shape
+shape_named names text = elim (named text names) [ None ↦ None | Some x ↦ Some x.shape ]
 
 -- a type of single values
 abbrev pub IsSingle : Shape → Type 0

@@ -6,7 +6,7 @@ use Rattle.rvc_base.specs.declared.scalar.Scalar.TheVariants as scalar
 use Rattle.rvc_base.specs.Storing.{IsSize}
 use Rattle.cal_ast.specs.Tree.{Tree}
 use Rattle.cal_ast.specs.View.{optional}
-use Rattle.cal_model.specs.Value.{Single}
+use Rattle.cal_model.specs.Value.{Single, IsType}
 use Rattle.cal_model.specs.Expression.{Calls}
 use Rattle.cal_model.specs.Actor.{Local, Fun}
 use Rattle.cal_model.specs.Call.{fun_named}
@@ -25,9 +25,10 @@ use Rattle.expr_lower.specs.Coding.{IsCode}
 use Rattle.expr_lower.specs.Fitting.{Fits}
 use Rattle.expr_lower.specs.Growing.{IsFault, left_out_in, ◌or_else◌}
 use Rattle.expr_lower.specs.Listed.{single_of}
-use Rattle.expr_lower.specs.Names.{local, Name, names_view}
+use Rattle.expr_lower.specs.ListStarts.{StartsList}
+use Rattle.expr_lower.specs.Names.{local, local_of, Name, names_view}
 use Rattle.expr_lower.specs.Placed.{StandsAt, World}
-use Rattle.expr_lower.specs.Starting.{IsStart, left_out_start}
+use Rattle.expr_lower.specs.Starting.{IsStart, left_out_local}
 
 -- the formals of a function stand in these cells, with the types of single values that they have
 abbrev pub StandForFormals : List Local → List Formal → Type 0
@@ -55,6 +56,11 @@ pub data IsBody (fs : List Function) (t : Scalar) (e : Tree) :
       (base n k m : ℕ) (a b : List Instr)
       → x.shape ≡ Single kind → IsStart fs names kind n (optional x.start) base (n + 1) a k
       → IsBody fs t e (local x.name kind n ∷ names) xs (base + length a) k b m
+      → IsBody fs t e names (x ∷ xs) base n (a ++ b) m
+  one_more_list : (names : List Name) (x : Local) (xs : List Local) (base n k m : ℕ)
+      (a b : List Instr)
+      → IsType x.shape → StartsList fs names x n base a k
+      → IsBody fs t e (local_of x.name x.shape n ∷ names) xs (base + length a) k b m
       → IsBody fs t e names (x ∷ xs) base n (a ++ b) m
 
 -- The code of a function as a routine that is called by this name: its formals stand side by side in cells from n on.
@@ -104,15 +110,11 @@ left_out_formals [] = None
 left_out_formals (x ∷ xs) = elim (single_of x.shape)
     [ None ↦ Some 0 | Some t ↦ left_out_formals xs ]
 
--- a local that is none, or the first part of its start or of the body for which no code is made
+-- the first part of the start of a local or of the body for which no code is made
 abbrev pub left_out_body : List Function → List Name → List Local → Tree → Option ℕ
 left_out_body fs names [] e = left_out_in fs names e
-left_out_body fs names (x ∷ xs) e =
-    elim (single_of x.shape) [
-      | None ↦ Some 0
-      | Some t ↦ left_out_start fs names (optional x.start) or_else left_out_body fs
-          (local x.name t 0 ∷ names) xs e
-    ]
+left_out_body fs names (x ∷ xs) e = left_out_local fs names x
+    or_else left_out_body fs (local_of x.name x.shape 0 ∷ names) xs e
 
 -- formals in any cells
 abbrev pub some_formal : Local → Formal

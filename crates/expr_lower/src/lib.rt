@@ -14,16 +14,19 @@ mod names;
 mod operators;
 mod parts;
 mod scope;
-mod truths;
+mod sizes;
+mod sorts;
 
 pub use callees::{Callee, Formal, function_for, put_call, put_formals};
 pub use draft::{Draft, next_place, put, put_all, put_const, take_cell};
 pub use exprs::{close, link, number, truth, variable, whole_offset};
 pub use fault::LowerFault;
 pub use names::{
-    ItemList, Named, OneCell, OneSeat, Seat, list_called, list_named, one_named, single,
+    ItemList, Named, OneCell, OneSeat, Seat, list_called, list_named, one_named, shape_called,
+    single,
 };
 pub use operators::{binary_instr, item_instr, negative, prefix_instr};
 pub use parts::{Part, Rows, deep_item_named, part_named, rows_named, scalars, whole_called};
 pub use scope::{Frame, Scope};
-pub use truths::is_truth;
+pub use sizes::type_size;
+pub use sorts::Sort;

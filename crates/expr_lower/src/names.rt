@@ -5,7 +5,7 @@ ghost use Rattle.cal_ast.specs.Tree as tree;
 ghost use Rattle.cal_ast.specs.View.{expr_tree};
 ghost use Rattle.cal_model.specs.View.{shape_view};
 ghost use Rattle.expr_lower.specs.Listed.{items_in, items_of, list_named, single_of};
-ghost use Rattle.expr_lower.specs.Names.{name_view, named, names_view};
+ghost use Rattle.expr_lower.specs.Names.{name_view, named, names_view, shape_named};
 ghost use Rattle.expr_lower.specs.Seen.{one_in, one_named, one_of, seen};
 
 use crate::scope::{Scope, local_named};
@@ -138,6 +138,27 @@ fn items_in(seat: Seat, shape: &Shape) -> Option<ItemList>
                 kind,
             })
         }
+    }
+}
+
+/// The type of the name that a text means, if it means one.
+pub fn shape_called<'a>(scope: &Scope<'a>, text: &str) -> Option<&'a Shape>
+    ensures { option_map (λ t. shape_view t.now) result ≡ shape_named (seen scope.now) text.now }
+{
+    match local_named(text, scope.frame) {
+        Some(local) => Some(local.shape),
+        None => shape_outside(scope.names, text),
+    }
+}
+
+/// The type of the name that a text means, if it means one of these.
+fn shape_outside<'a>(names: &'a [Named], text: &str) -> Option<&'a Shape>
+    ensures { option_map (λ t. shape_view t.now) result
+        ≡ shape_named (names_view names.now) text.now }
+{
+    match find(names, text) {
+        Some(named) => Some(&named.shape),
+        None => None,
     }
 }
 

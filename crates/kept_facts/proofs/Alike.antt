@@ -20,11 +20,11 @@ use Rattle.code_ir.specs.Typing.{goes_on}
 use Rattle.lowered_actor.specs.Actor.{Action, Actor, number_on}
 use Rattle.lowered_actor.specs.Facts.{IsEffect, IsAnswer}
 use Rattle.lowered_actor.specs.Straight.{may_store}
-use Rattle.kept_facts.specs.declared.body.Body.{Body}
 use Rattle.kept_facts.specs.declared.body.Last.{Last}
 use Rattle.kept_facts.specs.declared.body.Last.TheVariants as last
-use Rattle.kept_facts.specs.Rows.{Flows, is_among, is_set, reads, row_at, writes}
-use Rattle.kept_facts.specs.Fitting.{AreNeeded, AreRoutines, FitsBody, FitsHere, MayStoreEach, Sends, last_of}
+use Rattle.kept_facts.specs.Rows.{is_among, reads, writes}
+use Rattle.kept_facts.specs.Fitting.{AreNeeded, MayStoreEach, last_of}
+use Rattle.kept_facts.proofs.Spans.{AreSpanRoutines, Span, SpanFits, SpanFitsHere, SpanFlows, SpanSends, set_at}
 
 pub either-true : (a b : Bool) → (a || b) ≡ true → (a ≡ true) ⊎ (b ≡ true)
 either-true true b h = inl refl
@@ -386,22 +386,22 @@ module _ (actor : Actor) (firing : Bool) (needs : List ℕ) (tokens : ℕ → Li
 
 -- ---- where runs are
 
-module _ (actor : Actor) (firing : Bool) (tokens : ℕ → List ℤ) (routines : List (Option Body)) (all-are : AreRoutines actor firing routines) (action : Action)
-    (enough : (p : ℕ) → number_on action.needs p ≤ length (tokens p)) (main : Body) (main-fits : FitsBody actor routines firing action.needs (last_of firing) main)
-    (sends : firing ≡ true → Sends actor action main main.end) where
+module _ (actor : Actor) (firing : Bool) (tokens : ℕ → List ℤ) (routines : ℕ → Option Span) (all-are : AreSpanRoutines actor firing routines) (action : Action)
+    (enough : (p : ℕ) → number_on action.needs p ≤ length (tokens p)) (main : Span) (main-fits : SpanFits actor routines firing action.needs (last_of firing) main)
+    (sends : firing ≡ true → SpanSends actor action main main.end) where
   abbrev code : Code
   code = actor.code
 
   -- the cells agree where they are set at a place of a body
-  pub record InBody (body : Body) (p : ℕ) (cs ds : List ℤ) : Type 0 where
+  pub record InBody (body : Span) (p : ℕ) (cs ds : List ℤ) : Type 0 where
     pub from : body.begin ≤ p
     pub to : p < body.end
-    pub agree : (c : ℕ) → is_set actor.kept body p c ≡ true → cell cs c ≡ cell ds c
+    pub agree : (c : ℕ) → set_at actor.kept body p c ≡ true → cell cs c ≡ cell ds c
 
   pub record InRoutine (p : ℕ) (cs ds : List ℤ) : Type 0 where
     pub r : ℕ
-    pub body : Body
-    pub there : slice_get routines r ≡ Some (Some body)
+    pub body : Span
+    pub there : routines r ≡ Some body
     pub inside : InBody body p cs ds
 
   -- a place, and those to which the open calls come back: the last of all is in the body itself
@@ -417,7 +417,7 @@ module _ (actor : Actor) (firing : Bool) (tokens : ℕ → List ℤ) (routines :
   abbrev Kept : List ℤ → List ℤ → List ℤ → List ℤ → Type 0
   Kept cs ds cs' ds' = (c : ℕ) → cell cs c ≡ cell ds c → cell cs' c ≡ cell ds' c
 
-  in-body : (body : Body) (p : ℕ) (cs ds cs' ds' : List ℤ) → Kept cs ds cs' ds' → InBody body p cs ds → InBody body p cs' ds'
+  in-body : (body : Span) (p : ℕ) (cs ds cs' ds' : List ℤ) → Kept cs ds cs' ds' → InBody body p cs ds → InBody body p cs' ds'
   in-body body p cs ds cs' ds' kept i = record { from = i.from; to = i.to; agree = λ c set. kept c (i.agree c set) }
 
   inside-kept : (frames : List ℕ) (p : ℕ) (cs ds cs' ds' : List ℤ) → Kept cs ds cs' ds' → AreInside p frames cs ds → AreInside p frames cs' ds'
@@ -425,8 +425,8 @@ module _ (actor : Actor) (firing : Bool) (tokens : ℕ → List ℤ) (routines :
   inside-kept (f ∷ frames) p cs ds cs' ds' kept i =
       (record { r = i.0.r; body = i.0.body; there = i.0.there; inside = in-body i.0.body p cs ds cs' ds' kept i.0.inside }, inside-kept frames f cs ds cs' ds' kept i.1)
 
-  state-set : (body : Body) (p c : ℕ) → c < actor.kept → is_set actor.kept body p c ≡ true
-  state-set body p c low = ap (λ b. b || slice_index_or (row_at body p) (c - actor.kept) false) (le-leb (suc c) actor.kept (omega (arith, low)))
+  state-set : (body : Span) (p c : ℕ) → c < actor.kept → set_at actor.kept body p c ≡ true
+  state-set body p c low = ap (λ b. b || body.set p c) (le-leb (suc c) actor.kept (omega (arith, low)))
 
   state-agrees : (frames : List ℕ) (p : ℕ) (cs ds : List ℤ) → AreInside p frames cs ds → (c : ℕ) → c < actor.kept → cell cs c ≡ cell ds c
   state-agrees [] p cs ds i c low = i.agree c (state-set main p c low)
@@ -463,7 +463,7 @@ module _ (actor : Actor) (firing : Bool) (tokens : ℕ → List ℤ) (routines :
   -- ---- one step inside a body
 
   -- what is known of a place in a body, with the calls that are open there
-  record Standing (needs : List ℕ) (end : Last) (body : Body) (p : ℕ) (frames : List ℕ) (cs ds : List ℤ) : Type 0 where
+  record Standing (needs : List ℕ) (end : Last) (body : Span) (p : ℕ) (frames : List ℕ) (cs ds : List ℤ) : Type 0 where
     have : (port : ℕ) → number_on needs port ≤ length (tokens port)
     inside : InBody body p cs ds
     sizes : length cs ≡ length ds
@@ -472,18 +472,18 @@ module _ (actor : Actor) (firing : Bool) (tokens : ℕ → List ℤ) (routines :
     done : end ≡ last.Done → slice_get code.instrs p ≡ Some op.Done → (firing ≡ true) × SentAgree cs ds
     returns : end ≡ last.Return → (f : ℕ) × (rest : List ℕ) × (frames ≡ f ∷ rest) × AreInside f rest cs ds
 
-  module _ (needs : List ℕ) (end : Last) (body : Body) (p left : ℕ) (stack : List ℤ) (frames : List ℕ) (cs ds : List ℤ) (here : Standing needs end body p frames cs ds) where
+  module _ (needs : List ℕ) (end : Last) (body : Span) (p left : ℕ) (stack : List ℤ) (frames : List ℕ) (cs ds : List ℤ) (here : Standing needs end body p frames cs ds) where
     -- what is set behind an instruction was set, or it is written there
-    agree-next : (instr : Instr) (q : ℕ) (cs' ds' : List ℤ) → Flows actor.kept body instr p q → ((c : ℕ) → (cell cs c ≡ cell ds c) ⊎ (writes instr c ≡ true) → cell cs' c ≡ cell ds' c)
-        → (c : ℕ) → is_set actor.kept body q c ≡ true → cell cs' c ≡ cell ds' c
+    agree-next : (instr : Instr) (q : ℕ) (cs' ds' : List ℤ) → SpanFlows actor.kept body instr p q → ((c : ℕ) → (cell cs c ≡ cell ds c) ⊎ (writes instr c ≡ true) → cell cs' c ≡ cell ds' c)
+        → (c : ℕ) → set_at actor.kept body q c ≡ true → cell cs' c ≡ cell ds' c
     agree-next instr q cs' ds' flows moved c set = moved c (by (flows c set))
       where
-        by : (is_set actor.kept body p c ≡ true) ⊎ (writes instr c ≡ true) → (cell cs c ≡ cell ds c) ⊎ (writes instr c ≡ true)
+        by : (set_at actor.kept body p c ≡ true) ⊎ (writes instr c ≡ true) → (cell cs c ≡ cell ds c) ⊎ (writes instr c ≡ true)
         by (inl h) = inl (here.inside.agree c h)
         by (inr h) = inr h
 
     -- an instruction that goes to the next place
-    goes : (instr : Instr) → goes_on instr ≡ true → FitsHere actor routines firing needs end body p instr → (e f : Effect) → Alike actor firing needs tokens here.have instr cs ds e f
+    goes : (instr : Instr) → goes_on instr ≡ true → SpanFitsHere actor routines firing needs end body p instr → (e f : Effect) → Alike actor firing needs tokens here.have instr cs ds e f
         → Steps cs ds (go_on (at p stack frames left cs) e) (go_on (at p stack frames left ds) f)
     goes instr on fit _ _ (leaves stack' cs' ds' moved) =
         let next = fit.next on in
@@ -499,19 +499,19 @@ module _ (actor : Actor) (firing : Bool) (tokens : ℕ → List ℤ) (routines :
     quiet instr none = still actor firing needs tokens here.have instr cs ds none
 
     -- a place to which an instruction leads that changes nothing but the place and the operands
-    moved-in : (instr : Instr) (q : ℕ) → ((c : ℕ) → writes instr c ≡ true → ⊥) → body.begin ≤ q → q < body.end → Flows actor.kept body instr p q → AreInside q frames cs ds
+    moved-in : (instr : Instr) (q : ℕ) → ((c : ℕ) → writes instr c ≡ true → ⊥) → body.begin ≤ q → q < body.end → SpanFlows actor.kept body instr p q → AreInside q frames cs ds
     moved-in instr q none from to flows =
         here.again q cs ds (λ c h. h) (record { from = from; to = to; agree = agree-next instr q cs ds flows (quiet instr none).agree })
 
-    moves : (instr : Instr) (q left' : ℕ) (stack' : List ℤ) → ((c : ℕ) → writes instr c ≡ true → ⊥) → body.begin ≤ q → q < body.end → Flows actor.kept body instr p q
+    moves : (instr : Instr) (q left' : ℕ) (stack' : List ℤ) → ((c : ℕ) → writes instr c ≡ true → ⊥) → body.begin ≤ q → q < body.end → SpanFlows actor.kept body instr p q
         → Steps cs ds (Goes (at q stack' frames left' cs)) (Goes (at q stack' frames left' ds))
     moves instr q left' stack' none from to flows =
         both_go q left' stack' frames cs ds (record { sizes = here.sizes; are = moved-in instr q none from to flows }) refl (λ c h. refl)
 
-    agrees : (instr : Instr) → FitsHere actor routines firing needs end body p instr → (c : ℕ) → reads instr c ≡ true → cell cs c ≡ cell ds c
+    agrees : (instr : Instr) → SpanFitsHere actor routines firing needs end body p instr → (c : ℕ) → reads instr c ≡ true → cell cs c ≡ cell ds c
     agrees instr fit c h = here.inside.agree c (fit.reads c h)
 
-    by-jump : (t : ℕ) (st : List ℤ) → FitsHere actor routines firing needs end body p (op.JumpIfNot t) → Steps cs ds (jump_if_not t (at p stack frames left cs) st) (jump_if_not t (at p stack frames left ds) st)
+    by-jump : (t : ℕ) (st : List ℤ) → SpanFitsHere actor routines firing needs end body p (op.JumpIfNot t) → Steps cs ds (jump_if_not t (at p stack frames left cs) st) (jump_if_not t (at p stack frames left ds) st)
     by-jump t [] fit = both_stuck
     by-jump t (a ∷ st) fit = by (is_true a)
       where
@@ -519,15 +519,15 @@ module _ (actor : Actor) (firing : Bool) (tokens : ℕ → List ℤ) (routines :
         by true = let next = fit.next refl in let from = here.inside.from in moves (op.JumpIfNot t) (p + 1) left st (λ c h. absurd (cc)) (omega (arith, from)) next.0 next.1
         by false = let jump = fit.jump t refl in moves (op.JumpIfNot t) t left st (λ c h. absurd (cc)) jump.0 jump.1 jump.2
 
-    by-turn : (n : ℕ) → FitsHere actor routines firing needs end body p op.Turn → Steps cs ds (turn (at p stack frames left cs) n) (turn (at p stack frames left ds) n)
+    by-turn : (n : ℕ) → SpanFitsHere actor routines firing needs end body p op.Turn → Steps cs ds (turn (at p stack frames left cs) n) (turn (at p stack frames left ds) n)
     by-turn zero fit = both_over (outcome.Trap TurnLimit) (trap-right firing TurnLimit) (λ done. absurd (cc))
     by-turn (suc n) fit = let next = fit.next refl in let from = here.inside.from in moves op.Turn (p + 1) n stack (λ c h. absurd (cc)) (omega (arith, from)) next.0 next.1
 
-    by-answer : (st : List ℤ) → FitsHere actor routines firing needs end body p op.Answer → Steps cs ds (answer (at p stack frames left cs) st) (answer (at p stack frames left ds) st)
+    by-answer : (st : List ℤ) → SpanFitsHere actor routines firing needs end body p op.Answer → Steps cs ds (answer (at p stack frames left cs) st) (answer (at p stack frames left ds) st)
     by-answer [] fit = both_stuck
     by-answer (a ∷ st) fit = both_over (if is_true a then outcome.True else outcome.False) (answer-right firing (here.answers fit.may) (is_true a)) (λ done. absurd (not-done (is_true a) done))
 
-    by-call : (r : ℕ) → FitsHere actor routines firing needs end body p (op.Call r) → Steps cs ds (call code r (at p stack frames left cs)) (call code r (at p stack frames left ds))
+    by-call : (r : ℕ) → SpanFitsHere actor routines firing needs end body p (op.Call r) → Steps cs ds (call code r (at p stack frames left cs)) (call code r (at p stack frames left ds))
     by-call r fit = by (slice_get code.routines r) refl
       where
         by : (o : Option Routine) → slice_get code.routines r ≡ o
@@ -552,16 +552,16 @@ module _ (actor : Actor) (firing : Bool) (tokens : ℕ → List ℤ) (routines :
               );
             }) refl (λ c h. refl)
 
-    by-return : FitsHere actor routines firing needs end body p op.Return → Steps cs ds (return (at p stack frames left cs) frames) (return (at p stack frames left ds) frames)
+    by-return : SpanFitsHere actor routines firing needs end body p op.Return → Steps cs ds (return (at p stack frames left cs) frames) (return (at p stack frames left ds) frames)
     by-return fit =
         let back = here.returns fit.may in
         subst (λ fs. Steps cs ds (return (at p stack frames left cs) fs) (return (at p stack frames left ds) fs)) (sym back.2)
         (both_go back.0 left stack back.1 cs ds (record { sizes = here.sizes; are = back.3 }) refl (λ c h. refl))
 
-    by-done : slice_get code.instrs p ≡ Some op.Done → FitsHere actor routines firing needs end body p op.Done → Steps cs ds (Over outcome.Done cs) (Over outcome.Done ds)
+    by-done : slice_get code.instrs p ≡ Some op.Done → SpanFitsHere actor routines firing needs end body p op.Done → Steps cs ds (Over outcome.Done cs) (Over outcome.Done ds)
     by-done is fit = let right = here.done fit.may is in both_over outcome.Done (done-right firing right.0) (λ done. right.1)
 
-    obeyed : (instr : Instr) → slice_get code.instrs p ≡ Some instr → FitsHere actor routines firing needs end body p instr
+    obeyed : (instr : Instr) → slice_get code.instrs p ≡ Some instr → SpanFitsHere actor routines firing needs end body p instr
         → Steps cs ds (obey code tokens (at p stack frames left cs) instr) (obey code tokens (at p stack frames left ds) instr)
     obeyed (op.Const v) is fit = goes (op.Const v) refl fit _ _ (leaves (v ∷ stack) cs ds (quiet (op.Const v) (λ c h. absurd (cc))))
     obeyed (op.Load c) is fit =
@@ -607,7 +607,7 @@ module _ (actor : Actor) (firing : Bool) (tokens : ℕ → List ℤ) (routines :
     obeyed (op.Call r) is fit = by-call r fit
     obeyed op.Return is fit = by-return fit
 
-    stepped : FitsBody actor routines firing needs end body → Steps cs ds (step code tokens (at p stack frames left cs)) (step code tokens (at p stack frames left ds))
+    stepped : SpanFits actor routines firing needs end body → Steps cs ds (step code tokens (at p stack frames left cs)) (step code tokens (at p stack frames left ds))
     stepped fits = by (slice_get code.instrs p) refl
       where
         by : (o : Option Instr) → slice_get code.instrs p ≡ o

@@ -13,7 +13,7 @@ use Rattle.lowered_actor.specs.declared.parts.StateCell.{StateCell}
 use Rattle.lowered_actor.specs.Actor.{Action, Actor, number_on}
 use Rattle.lowered_actor.specs.Facts.{IsAsked, IsSaved, IsGuard, IsFiring, SameState, cells_from}
 use Rattle.lowered_actor.specs.Straight.{is_saved, may_store}
-use Rattle.kept_facts.specs.Fitting.{HasBody}
+use Rattle.kept_facts.proofs.Spans.{HasSpan}
 use Rattle.kept_facts.proofs.Alike.{Inside, Runs, never-lacks, runs-alike}
 
 -- what is known of runs
@@ -75,7 +75,7 @@ each-sent left last c (suc n) same =
 
 -- ---- bodies
 
-module _ (actor : Actor) (once : OneEnd) (action : Action) (firing : Bool) (entry : ℕ) (has : HasBody actor action firing entry) where
+module _ (actor : Actor) (once : OneEnd) (action : Action) (firing : Bool) (entry : ℕ) (has : HasSpan actor action firing entry) where
   module _ (cells others : List ℤ) (tokens : ℕ → List ℤ) (asked : IsAsked actor action cells tokens) (also : IsAsked actor action others tokens) (same : SameState actor cells others) where
     enough : (p : ℕ) → number_on action.needs p ≤ length (tokens p)
     enough p = let e = asked.tokens_there p in omega (arith, e)
@@ -103,7 +103,7 @@ module _ (actor : Actor) (once : OneEnd) (action : Action) (firing : Bool) (entr
     lacks-none u r =
         never-lacks actor firing tokens has.routines has.are action (enough cells cells tokens asked asked refl) has.body has.fits has.sends r entry max_turns [] [] cells refl (starts cells cells tokens asked asked refl)
 
-pub guard-keeps : (actor : Actor) → OneEnd → (action : Action) (entry : ℕ) → HasBody actor action false entry → IsGuard actor action entry
+pub guard-keeps : (actor : Actor) → OneEnd → (action : Action) (entry : ℕ) → HasSpan actor action false entry → IsGuard actor action entry
 guard-keeps actor once action entry has = record {
   reads = λ cells tokens asked. lacks-none actor once action false entry has cells tokens asked;
   answers = λ cells tokens o left asked run. (alone actor once action false entry has cells tokens asked o left run).ended.right;
@@ -115,7 +115,7 @@ guard-keeps actor once action entry has = record {
       (once actor.code entry others tokens o p e.last last e.other other).0;
 }
 
-pub firing-keeps : (actor : Actor) → OneEnd → (action : Action) (entry : ℕ) → HasBody actor action true entry → IsFiring actor action entry
+pub firing-keeps : (actor : Actor) → OneEnd → (action : Action) (entry : ℕ) → HasSpan actor action true entry → IsFiring actor action entry
 firing-keeps actor once action entry has = record {
   reads = λ cells tokens asked. lacks-none actor once action true entry has cells tokens asked;
   ends = λ cells tokens o left asked run. (alone actor once action true entry has cells tokens asked o left run).ended.right;

@@ -1,4 +1,7 @@
 pub mod Alike
 pub mod Facts
 pub mod Looping
+pub mod Spans
+pub mod Clearing
+pub mod Deciding
 pub mod Whole

@@ -68,7 +68,7 @@ each-behind P c n each d h =
 -- ---- places
 
 -- what holds of each place up to one, and there, holds up to the next one
-up-to : (P : ℕ → Type 0) (begin q : ℕ) → ((p : ℕ) → begin ≤ p → p < q → P p) → P q → (p : ℕ) → begin ≤ p → p < q + 1 → P p
+pub up-to : (P : ℕ → Type 0) (begin q : ℕ) → ((p : ℕ) → begin ≤ p → p < q → P p) → P q → (p : ℕ) → begin ≤ p → p < q + 1 → P p
 up-to P begin q all here p from low =
     ⊎_elim
     (λ (less : p < q). all p from less)

@@ -1,2 +1,4 @@
 pub mod Rows
 pub mod Fitting
+pub mod Clearing
+pub mod ClearWords

@@ -15,7 +15,7 @@ pub(crate) struct Body {
 
 /// How a body ends.
 #[derive(Clone, Copy, Debug, PartialEq, Eq)]
-pub(crate) enum Last {
+pub enum Last {
     /// As a guard.
     Answer,
     /// As a firing.

@@ -3,7 +3,7 @@
 ghost use Rattle.std.specs.Prelude.{◌≡◌, IfOk};
 
 use crate::body::Body;
-use crate::instrs::{goes_on, target};
+use crate::instrs::{ends_body, goes_on, target};
 use code_ir::Instr;
 use lowered_actor::Parts;
 use std::alloc::{AllocError, Global};
@@ -47,21 +47,11 @@ fn settle(
 /// The place behind the first instruction from one on that ends a body.
 fn end_of(instrs: &[Instr], begin: usize) -> usize {
     for place in begin..instrs.len() {
-        if ends(&instrs[place]) {
+        if ends_body(&instrs[place]) {
             return place + 1;
         }
     }
     instrs.len()
-}
-
-/// Whether it ends a guard, a firing or a routine.
-fn ends(instr: &Instr) -> bool {
-    match *instr {
-        Instr::Answer => true,
-        Instr::Done => true,
-        Instr::Return => true,
-        _ => false,
-    }
 }
 
 /// The row of the first place, and for each place behind it one in which all is set: as long as no way to it is seen.

@@ -2,6 +2,7 @@
 
 ghost use Rattle.std.specs.Prelude.{◌≡◌};
 ghost use Rattle.code_ir.specs.Typing.{goes_on, target};
+ghost use Rattle.kept_facts.specs.Clearing.{ends_body};
 ghost use Rattle.kept_facts.specs.Rows.{called, is_among, writes};
 
 use code_ir::Instr;
@@ -23,6 +24,18 @@ pub(crate) fn writes(instr: &Instr, cell: usize) -> bool
         Instr::CopyFrom(to, _, _, count) => is_among(to, count, cell),
         Instr::TokenList(to, _, _, _, count) => is_among(to, count, cell),
         Instr::Zero(from, count) => is_among(from, count, cell),
+        _ => false,
+    }
+}
+
+/// Whether it ends a guard, a firing or a routine.
+pub(crate) fn ends_body(instr: &Instr) -> bool
+    ensures { result ≡ ends_body instr.now }
+{
+    match *instr {
+        Instr::Answer => true,
+        Instr::Done => true,
+        Instr::Return => true,
         _ => false,
     }
 }

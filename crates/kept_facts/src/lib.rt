@@ -6,6 +6,9 @@
 //! behind those that its action takes, writes no state cell that it may not, and ends as it must. A routine may need
 //! cells that are set where it is called, as those of its arguments; it keeps the facts as a part of the bodies that
 //! call it.
+//!
+//! Where that isn't seen, code can clear these cells before anything else. Then nothing depends on what they held, and
+//! whether a body keeps the facts can be seen from each of its instructions alone ([`stand`]).
 #![tactic(auto)]
 
 mod bodies;
@@ -14,6 +17,9 @@ mod edges;
 mod finding;
 mod instrs;
 mod keeping;
+mod standing;
 mod stores;
 
+pub use body::Last;
 pub use keeping::keep_facts;
+pub use standing::stand;

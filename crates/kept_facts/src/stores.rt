@@ -18,7 +18,10 @@ pub(crate) fn may_stand(
     last: Last,
     instr: &Instr,
 ) -> bool
-    ensures { IsTrue result → MayStand (actor_of parts.now) firing needs.now last instr.now }
+    ensures yes { IsTrue result
+        → MayStand (actor_of parts.now) firing needs.now last instr.now }
+    ensures no { MayStand (actor_of parts.now) firing needs.now last instr.now
+        → IsTrue result }
 {
     match *instr {
         Instr::Const(_) => true,
@@ -77,7 +80,8 @@ fn needed(needs: &[u32], port: u32) -> u32
 
 /// Whether so many tokens, each so many places behind the one before, are among those that are needed.
 fn are_needed(first: u32, step: u32, count: u32, needed: u32) -> bool
-    ensures { IsTrue result → (j : ℕ) → j < count → first + j * step < needed }
+    ensures yes { IsTrue result → (j : ℕ) → j < count → first + j * step < needed }
+    ensures no { ((j : ℕ) → j < count → first + j * step < needed) → IsTrue result }
 {
     let mut at = first as u64;
     'tokens: for j in 0..count {
@@ -98,7 +102,8 @@ fn may_store(parts: &Parts, firing: bool, cell: usize) -> bool
 
 /// Whether each of so many cells may be written.
 fn may_store_each(parts: &Parts, firing: bool, cell: u32, count: u32) -> bool
-    ensures { IsTrue result → MayStoreEach (actor_of parts.now) firing cell count }
+    ensures yes { IsTrue result → MayStoreEach (actor_of parts.now) firing cell count }
+    ensures no { MayStoreEach (actor_of parts.now) firing cell count → IsTrue result }
 {
     for k in 0..count as usize {
         if !may_store(parts, firing, cell as usize + k) {

@@ -1,302 +1,99 @@
-//! A file with every kind of part, and its copy.
+//! Files with every kind of part, and their copies.
 
-use cal_ast::{
-    Action, Actor, BinOp, Body, Expr, ExprForm, File, Function, Gen, Ident, Import, Member, Move,
-    Output, Param, Pattern, PortDecl, PrefixOp, Priority, Procedure, Schedule, Stmt, StmtForm, Tag,
-    TypeArg, TypeExpr, UnitFile, VarDecl,
-};
-use std::alloc::{AllocError, Global};
+use cal_ast::File;
+use cal_lexer::lex;
+use cal_parser::parse_file;
+use rvc_base::Front;
+use std::alloc::Global;
 use std::test::Fail;
 
-fn ident(a: Global, text: &str, at: u32) -> Result<Ident, AllocError> {
-    Ok(Ident {
-        text: String::from_str(a, text)?,
-        at,
-    })
-}
-
-fn tag(a: Global, at: u32) -> Result<Tag, AllocError> {
-    let parts = vec![in a; ident(a, "go", at)?, ident(a, "on", at)?]?;
-    Ok(Tag { parts, at })
-}
-
-fn leaf(form: ExprForm, at: u32) -> Expr {
-    Expr { form, at }
-}
-
-fn boxed(a: Global, value: u128, at: u32) -> Result<Box<Expr>, AllocError> {
-    Ok(Box::new(a, leaf(ExprForm::Number(value), at))?)
-}
-
-/// `int(size=8, type:int)`
-fn shape(a: Global) -> Result<TypeExpr, AllocError> {
-    let size = TypeArg::Value {
-        name: ident(a, "size", 4)?,
-        value: leaf(ExprForm::Number(8), 9),
-    };
-    let inner = TypeArg::Shape {
-        name: ident(a, "type", 12)?,
-        shape: TypeExpr {
-            name: ident(a, "int", 17)?,
-            args: Vec::new(a),
-            at: 17,
-        },
-    };
-    Ok(TypeExpr {
-        name: ident(a, "int", 0)?,
-        args: vec![in a; size, inner]?,
-        at: 0,
-    })
-}
-
-/// An expression of each form.
-fn exprs(a: Global) -> Result<Vec<Expr>, AllocError> {
-    let name = String::from_str(a, "f")?;
-    let gens = vec![in a;
-        Gen {
-            shape: shape(a)?,
-            name: ident(a, "k", 30)?,
-            from: leaf(ExprForm::Number(0), 31),
-            to: leaf(ExprForm::Bool(true), 32),
-            at: 29,
-        },
-    ]?;
-    let forms = vec![in a;
-        ExprForm::Name(String::from_str(a, "x")?),
-        ExprForm::Call {
-            name,
-            args: vec![in a; leaf(ExprForm::Bool(false), 7)]?
-        },
-        ExprForm::Paren(boxed(a, 1, 8)?),
-        ExprForm::If {
-            test: boxed(a, 2, 9)?,
-            yes: boxed(a, 3, 10)?,
-            no: boxed(a, 4, 11)?
-        },
-        ExprForm::List(vec![in a; leaf(ExprForm::Number(5), 12)]?),
-        ExprForm::Comp {
-            item: boxed(a, 6, 13)?,
-            gens
-        },
-        ExprForm::Index {
-            base: boxed(a, 7, 14)?,
-            place: boxed(a, 8, 15)?
-        },
-        ExprForm::Prefix {
-            op: PrefixOp::BitNot,
-            of: boxed(a, 9, 16)?
-        },
-        ExprForm::Binary {
-            op: BinOp::Mod,
-            left: boxed(a, 10, 17)?,
-            right: boxed(a, 11, 18)?
-        },
-    ]?;
-    let mut out = Vec::new(a);
-    for form in forms {
-        out.push(leaf(form, 3))?;
+/// The file that a text spells.
+fn parsed(alloc: Global, text: &[u8]) -> Result<File, Front> {
+    if text.len() >= 1 << 32 {
+        return Err(Front::Memory);
     }
-    Ok(out)
+    let tokens = lex(alloc, 1, text)?;
+    parse_file(alloc, 1, &tokens, text.len() as u32)
 }
 
-fn var_decl(a: Global) -> Result<VarDecl, AllocError> {
-    Ok(VarDecl {
-        shape: shape(a)?,
-        name: ident(a, "v", 40)?,
-        start: Some(leaf(ExprForm::Number(1), 41)),
-        changes: true,
-        at: 39,
-    })
+/// A file as `Debug` prints it.
+fn shown(alloc: Global, file: &File) -> Result<String, Fail> {
+    Ok(format!(in alloc; "{file:?}")?)
 }
 
-/// A statement of each form.
-fn stmts(a: Global) -> Result<Vec<Stmt>, AllocError> {
-    let one = Stmt {
-        form: StmtForm::Call {
-            name: ident(a, "p", 50)?,
-            args: exprs(a)?,
-        },
-        at: 50,
-    };
-    let two = Stmt {
-        form: StmtForm::Assign {
-            name: ident(a, "y", 51)?,
-            places: exprs(a)?,
-            value: leaf(ExprForm::Number(2), 52),
-        },
-        at: 51,
-    };
-    let three = Stmt {
-        form: StmtForm::Block {
-            vars: vec![in a; var_decl(a)?]?,
-            body: vec![in a; two]?,
-        },
-        at: 53,
-    };
-    let four = Stmt {
-        form: StmtForm::While {
-            test: leaf(ExprForm::Bool(true), 54),
-            body: vec![in a; three]?,
-        },
-        at: 54,
-    };
-    let five = Stmt {
-        form: StmtForm::Foreach {
-            shape: shape(a)?,
-            name: ident(a, "i", 55)?,
-            from: leaf(ExprForm::Number(3), 56),
-            to: leaf(ExprForm::Number(4), 57),
-            body: vec![in a; four]?,
-        },
-        at: 55,
-    };
-    let six = Stmt {
-        form: StmtForm::If {
-            test: leaf(ExprForm::Bool(false), 58),
-            yes: Vec::new(a),
-            no: None,
-        },
-        at: 58,
-    };
-    let seven = Stmt {
-        form: StmtForm::If {
-            test: leaf(ExprForm::Bool(false), 59),
-            yes: vec![in a; five]?,
-            no: Some(vec![in a; six]?),
-        },
-        at: 59,
-    };
-    Ok(vec![in a; one, seven]?)
+/// The copy of a file as `Debug` prints it.
+fn copy_shown(alloc: Global, file: &File) -> Result<String, Fail> {
+    let copied = file.copy(alloc)?;
+    shown(alloc, &copied)
 }
 
-fn port(a: Global) -> Result<PortDecl, AllocError> {
-    Ok(PortDecl {
-        shape: shape(a)?,
-        name: ident(a, "In", 60)?,
-        at: 60,
-    })
+/// Whether the copy of a file is equal to it.
+fn is_copied(alloc: Global, file: &File) -> Result<bool, Fail> {
+    let whole = shown(alloc, file)?;
+    Ok(whole.as_str() == copy_shown(alloc, file)?.as_str())
 }
 
-fn action(a: Global) -> Result<Action, AllocError> {
-    let pattern = Pattern {
-        port: Some(ident(a, "In", 61)?),
-        names: vec![in a; ident(a, "n", 62)?]?,
-        repeat: Some(leaf(ExprForm::Number(5), 63)),
-        at: 61,
-    };
-    let output = Output {
-        port: None,
-        values: exprs(a)?,
-        repeat: None,
-        at: 64,
-    };
-    Ok(Action {
-        tag: Some(tag(a, 65)?),
-        initialize: false,
-        patterns: vec![in a; pattern]?,
-        outputs: vec![in a; output]?,
-        guards: exprs(a)?,
-        vars: vec![in a; var_decl(a)?]?,
-        body: Some(stmts(a)?),
-        at: 65,
-    })
-}
-
-/// A member of each kind.
-fn members(a: Global) -> Result<Vec<Member>, AllocError> {
-    let function = Function {
-        name: ident(a, "f", 70)?,
-        formals: vec![in a; port(a)?]?,
-        result: shape(a)?,
-        vars: vec![in a; var_decl(a)?]?,
-        body: leaf(ExprForm::Number(6), 71),
-        at: 70,
-    };
-    let procedure = Procedure {
-        name: ident(a, "p", 72)?,
-        formals: vec![in a; port(a)?]?,
-        vars: vec![in a; var_decl(a)?]?,
-        body: stmts(a)?,
-        at: 72,
-    };
-    let step = Move {
-        from: ident(a, "s", 73)?,
-        tags: vec![in a; tag(a, 74)?]?,
-        to: ident(a, "t", 75)?,
-        at: 73,
-    };
-    let schedule = Schedule {
-        start: ident(a, "s", 76)?,
-        moves: vec![in a; step]?,
-        at: 76,
-    };
-    let priority = Priority {
-        chains: vec![in a; vec![in a; tag(a, 77)?, tag(a, 78)?]?]?,
-        at: 77,
-    };
-    Ok(vec![in a;
-        Member::Var(var_decl(a)?),
-        Member::Function(function),
-        Member::Procedure(procedure),
-        Member::Action(action(a)?),
-        Member::Schedule(schedule),
-        Member::Priority(priority),
-    ]?)
-}
-
-fn file(a: Global, body: Body) -> Result<File, AllocError> {
-    let import = Import {
-        path: vec![in a; ident(a, "dec", 80)?]?,
-        last: Some(ident(a, "Lib", 81)?),
-        at: 79,
-    };
-    Ok(File {
-        package: Some(tag(a, 82)?),
-        imports: vec![in a; import]?,
-        body,
-        at: 83,
-    })
+/// Whether the copy of the file that a text spells is equal to it.
+fn has_copy(alloc: Global, text: &str) -> Result<bool, Fail> {
+    let file = parsed(alloc, text.as_bytes())?;
+    is_copied(alloc, &file)
 }
 
 #[test]
 fn a_copied_actor_is_equal(rt: HostRuntime) -> Result<(), Fail> {
-    let a = rt.alloc();
-    let param = Param {
-        shape: shape(a)?,
-        name: ident(a, "K", 84)?,
-        start: None,
-        at: 84,
-    };
-    let actor = Actor {
-        name: ident(a, "A", 85)?,
-        params: vec![in a; param]?,
-        ins: vec![in a; port(a)?]?,
-        outs: vec![in a; port(a)?]?,
-        members: members(a)?,
-        at: 85,
-    };
-    let whole = file(a, Body::Actor(actor))?;
-    let copied = whole.copy(a)?;
-    assert_eq!(rt;
-        format!(in a; "{copied:?}")?.as_str(),
-        format!(in a; "{whole:?}")?.as_str()
-    );
+    assert!(rt; has_copy(rt.alloc(), ACTOR)?);
     Ok(())
 }
 
+/// An actor with each kind of member, statement and expression.
+const ACTOR: &str = "package go.on;
+import dec.Lib;
+import dec.*;
+actor A(int(size=8, type:int) K, int L = 1) int(size=8) In, int B ==> int(size=8) Out, int C :
+  int(size=8, type:int) v := 1;
+  int w;
+  int c = 1;
+  function f(int(size=8) In) --> int(size=8) var int v = 1, int w := 2 : 6 end
+  procedure p(int(size=8) In)
+  var int v := 1
+  begin
+    p(x, f(false), (1), if 2 then 3 else 4 end, [5], [6 : for int(size=8) k in 0 .. true], l[8], ~9, 10 mod 11);
+    q();
+    if false then
+      foreach int(size=8) i in 3 .. 4 do
+        while true do
+          begin
+          var int v := 1
+          do
+            y[x][f(false)] := 2;
+            y := [3, 4];
+          end
+        end
+      end
+    else
+      if false then end
+    end
+  end
+  go.on: action In:[n] repeat 5, [m] ==> [x, -1], Out:[2] repeat 1
+  guard not true, f(x) = 2
+  var int v := 1
+  do
+    v := 2;
+  end
+  initialize ==> end
+  schedule fsm s : s (go.on, go) --> t; t (go) --> s; end
+  priority go.on > go > go.on; go > go.on; end
+end";
+
 #[test]
 fn a_copied_unit_is_equal(rt: HostRuntime) -> Result<(), Fail> {
-    let a = rt.alloc();
-    let unit = UnitFile {
-        name: ident(a, "U", 86)?,
-        members: vec![in a; Member::Var(var_decl(a)?)]?,
-        at: 86,
-    };
-    let whole = file(a, Body::Unit(unit))?;
-    let copied = whole.copy(a)?;
-    assert_eq!(rt;
-        format!(in a; "{copied:?}")?.as_str(),
-        format!(in a; "{whole:?}")?.as_str()
-    );
+    assert!(rt; has_copy(rt.alloc(), UNIT)?);
     Ok(())
 }
+
+/// A unit with a variable.
+const UNIT: &str = "package go.on;
+import dec.Lib;
+unit U :
+  int(size=8, type:int) v := 1;
+end";

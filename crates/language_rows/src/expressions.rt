@@ -1,5 +1,6 @@
 //! Texts of expressions and types within an actor, with what is read of them, or the place where no file goes on.
 
+use crate::table::{answered, cut};
 use cal_ast::{Body, Expr, ExprForm, File, Member, Stmt, StmtForm, TypeArg, TypeExpr};
 use cal_lexer::{Token, lex};
 use cal_parser::{MAX_HEIGHT, parse_file};
@@ -224,17 +225,34 @@ fn in_types(outer: &TypeExpr, depth: u32) -> Option<&TypeExpr> {
     Some(found)
 }
 
-/// Stops unless each text, read up to a height, has its answer.
+/// Stops unless a text, read up to a height, has its answer.
+fn holds(
+    rt: &impl Abort,
+    alloc: Global,
+    asked: Asked,
+    frame: &Frame,
+    row: &str,
+) -> Result<(), Fail> {
+    let (read, expected) = answered(row);
+    let (room, text) = cut(read, " ");
+    let room = room.parse().unwrap_or(0);
+    let found = answer(alloc, asked, frame, text.as_bytes(), room)?;
+    assert_eq!(rt; found.as_str(), expected);
+    Ok(())
+}
+
+/// Stops unless each text of a table has its answer. Each stands behind the height up to which it is read.
 fn hold(
     rt: &impl Abort,
     alloc: Global,
     asked: Asked,
     frame: &Frame,
-    rows: &[(&[u8], u32, &str)],
+    table: &str,
 ) -> Result<(), Fail> {
-    for &(text, room, expected) in rows {
-        let found = answer(alloc, asked, frame, text, room)?;
-        assert_eq!(rt; found.as_str(), expected);
+    for row in table.split("\n# ") {
+        if !row.is_empty() {
+            holds(rt, alloc, asked, frame, row)?;
+        }
     }
     Ok(())
 }
@@ -252,43 +270,29 @@ fn expressions(rt: HostRuntime) -> Result<(), Fail> {
 }
 
 /// Operators that group to the left, pairs that are dropped or kept, primaries.
-const EXPRESSIONS: &[(&[u8], u32, &str)] = &[
-    (
-        b"1 - 2 - 3",
-        3,
-        "Expr { form: Binary { op: Sub, left: Expr { form: Binary { op: Sub, left: Expr { form: Number(1), at: 0 }, right: Expr { form: Number(2), at: 4 } }, at: 0 }, right: Expr { form: Number(3), at: 8 } }, at: 0 }",
-    ),
-    (b"1 - 2 - 3", 2, "G2 at 6"),
-    (
-        b"1 + 2 * 3",
-        3,
-        "Expr { form: Binary { op: Add, left: Expr { form: Number(1), at: 0 }, right: Expr { form: Binary { op: Mul, left: Expr { form: Number(2), at: 4 }, right: Expr { form: Number(3), at: 8 } }, at: 4 } }, at: 0 }",
-    ),
-    (
-        b"((-1))",
-        2,
-        "Expr { form: Prefix { op: Neg, of: Expr { form: Number(1), at: 3 } }, at: 0 }",
-    ),
-    (
-        b"((1))",
-        3,
-        "Expr { form: Paren(Expr { form: Paren(Expr { form: Number(1), at: 2 }), at: 1 }), at: 0 }",
-    ),
-    (b"((1))", 2, "G2 at 4"),
-    (b"((1)", 2, "G1 at 4"),
-    (b"", 0, "G1 at 0"),
-    (
-        b"f(x)[1]",
-        3,
-        "Expr { form: Index { base: Expr { form: Call { name: \"f\", args: [Expr { form: Name(\"x\"), at: 2 }] }, at: 0 }, place: Expr { form: Number(1), at: 5 } }, at: 0 }",
-    ),
-    (b"if true then [] else f() endif", 3, "G1 at 14"),
-    (
-        b"[1 : for int i in 2 .. 3]",
-        2,
-        "Expr { form: Comp { item: Expr { form: Number(1), at: 1 }, gens: [Gen { shape: TypeExpr { name: Ident { text: \"int\", at: 9 }, args: [], at: 9 }, name: Ident { text: \"i\", at: 13 }, from: Expr { form: Number(2), at: 18 }, to: Expr { form: Number(3), at: 23 }, at: 5 }] }, at: 0 }",
-    ),
-];
+const EXPRESSIONS: &str = "
+# 3 1 - 2 - 3
+= Expr { form: Binary { op: Sub, left: Expr { form: Binary { op: Sub, left: Expr { form: Number(1), at: 0 }, right: Expr { form: Number(2), at: 4 } }, at: 0 }, right: Expr { form: Number(3), at: 8 } }, at: 0 }
+# 2 1 - 2 - 3
+= G2 at 6
+# 3 1 + 2 * 3
+= Expr { form: Binary { op: Add, left: Expr { form: Number(1), at: 0 }, right: Expr { form: Binary { op: Mul, left: Expr { form: Number(2), at: 4 }, right: Expr { form: Number(3), at: 8 } }, at: 4 } }, at: 0 }
+# 2 ((-1))
+= Expr { form: Prefix { op: Neg, of: Expr { form: Number(1), at: 3 } }, at: 0 }
+# 3 ((1))
+= Expr { form: Paren(Expr { form: Paren(Expr { form: Number(1), at: 2 }), at: 1 }), at: 0 }
+# 2 ((1))
+= G2 at 4
+# 2 ((1)
+= G1 at 4
+# 0 
+= G1 at 0
+# 3 f(x)[1]
+= Expr { form: Index { base: Expr { form: Call { name: \"f\", args: [Expr { form: Name(\"x\"), at: 2 }] }, at: 0 }, place: Expr { form: Number(1), at: 5 } }, at: 0 }
+# 3 if true then [] else f() endif
+= G1 at 14
+# 2 [1 : for int i in 2 .. 3]
+= Expr { form: Comp { item: Expr { form: Number(1), at: 1 }, gens: [Gen { shape: TypeExpr { name: Ident { text: \"int\", at: 9 }, args: [], at: 9 }, name: Ident { text: \"i\", at: 13 }, from: Expr { form: Number(2), at: 18 }, to: Expr { form: Number(3), at: 23 }, at: 5 }] }, at: 0 }";
 
 #[test]
 fn expressions_that_break_off(rt: HostRuntime) -> Result<(), Fail> {
@@ -303,7 +307,11 @@ fn expressions_that_break_off(rt: HostRuntime) -> Result<(), Fail> {
 }
 
 /// Expressions that are not there to their end.
-const BROKEN_OFF: &[(&[u8], u32, &str)] = &[(b"((1)", 2, "G1 at 4"), (b"", 0, "G1 at 0")];
+const BROKEN_OFF: &str = "
+# 2 ((1)
+= G1 at 4
+# 0 
+= G1 at 0";
 
 #[test]
 fn types(rt: HostRuntime) -> Result<(), Fail> {
@@ -318,16 +326,15 @@ fn types(rt: HostRuntime) -> Result<(), Fail> {
 }
 
 /// Types with arguments.
-const TYPES: &[(&[u8], u32, &str)] = &[
-    (b"List(type, size = 2)", 2, "G1 at 9"),
-    (
-        b"List(type: int, size=2)",
-        2,
-        "TypeExpr { name: Ident { text: \"List\", at: 0 }, args: [Shape { name: Ident { text: \"type\", at: 5 }, shape: TypeExpr { name: Ident { text: \"int\", at: 11 }, args: [], at: 11 } }, Value { name: Ident { text: \"size\", at: 16 }, value: Expr { form: Number(2), at: 21 } }], at: 0 }",
-    ),
-    (b"List(type: int, size=2) x", 2, "G1 at 24"),
-    (b"List(type: int)", 1, "G2 at 11"),
-];
+const TYPES: &str = "
+# 2 List(type, size = 2)
+= G1 at 9
+# 2 List(type: int, size=2)
+= TypeExpr { name: Ident { text: \"List\", at: 0 }, args: [Shape { name: Ident { text: \"type\", at: 5 }, shape: TypeExpr { name: Ident { text: \"int\", at: 11 }, args: [], at: 11 } }, Value { name: Ident { text: \"size\", at: 16 }, value: Expr { form: Number(2), at: 21 } }], at: 0 }
+# 2 List(type: int, size=2) x
+= G1 at 24
+# 1 List(type: int)
+= G2 at 11";
 
 #[test]
 fn lists_of_some(rt: HostRuntime) -> Result<(), Fail> {
@@ -342,7 +349,11 @@ fn lists_of_some(rt: HostRuntime) -> Result<(), Fail> {
 }
 
 /// Lists that have a part.
-const LISTS: &[(&[u8], u32, &str)] = &[(b"1, [2, 3], f(4, 5)", 256, "3"), (b")", 256, "G1 at 0")];
+const LISTS: &str = "
+# 256 1, [2, 3], f(4, 5)
+= 3
+# 256 )
+= G1 at 0";
 
 #[test]
 fn lists_of_any(rt: HostRuntime) -> Result<(), Fail> {
@@ -357,4 +368,6 @@ fn lists_of_any(rt: HostRuntime) -> Result<(), Fail> {
 }
 
 /// Lists that may have none.
-const ARGUMENTS: &[(&[u8], u32, &str)] = &[(b")", 256, "0")];
+const ARGUMENTS: &str = "
+# 256 )
+= 0";

@@ -1,5 +1,6 @@
 //! Texts with the tokens or the fault that the language gives them.
 
+use crate::table::cut;
 use cal_lexer::{MAX_NAME, Word, is_name, lex};
 use rvc_base::Front;
 use std::alloc::Global;
@@ -13,7 +14,7 @@ enum Asked {
     Places,
 }
 
-/// The tokens of a text, each as `Debug` prints it, or the fault of the text.
+/// The tokens of a text, each as `Debug` prints it, or the fault of the text, with a blank before each.
 fn answer(alloc: Global, asked: Asked, text: &[u8]) -> Result<String, Fail> {
     if text.len() >= 1 << 32 {
         return Err(Front::Memory.into());
@@ -25,26 +26,41 @@ fn answer(alloc: Global, asked: Asked, text: &[u8]) -> Result<String, Fail> {
                 let kind = &token.kind;
                 let at = token.at;
                 match asked {
-                    Asked::Kinds => write!(out, "{kind:?} ")?,
-                    Asked::Places => write!(out, "{kind:?}@{at} ")?,
+                    Asked::Kinds => write!(out, " {kind:?}")?,
+                    Asked::Places => write!(out, " {kind:?}@{at}")?,
                 }
             }
         }
         Err(Front::Refused(refusal)) => {
             let rule = refusal.rule;
             let at = refusal.place.offset;
-            write!(out, "{rule} at {at}")?;
+            write!(out, " {rule} at {at}")?;
         }
-        Err(Front::Memory) => write!(out, "out of memory")?,
+        Err(Front::Memory) => write!(out, " out of memory")?,
     }
     Ok(out)
 }
 
-/// Stops unless each text has its answer.
-fn hold(rt: &impl Abort, alloc: Global, asked: Asked, rows: &[(&[u8], &str)]) -> Result<(), Fail> {
-    for &(text, expected) in rows {
-        let found = answer(alloc, asked, text)?;
-        assert_eq!(rt; found.as_str(), expected);
+/// Stops unless a text has its answer.
+fn holds(
+    rt: &impl Abort,
+    alloc: Global,
+    asked: Asked,
+    text: &[u8],
+    expected: &str,
+) -> Result<(), Fail> {
+    let found = answer(alloc, asked, text)?;
+    assert_eq!(rt; found.as_str(), expected);
+    Ok(())
+}
+
+/// Stops unless each text of a table has its answer.
+fn hold(rt: &impl Abort, alloc: Global, asked: Asked, table: &str) -> Result<(), Fail> {
+    for row in table.split("\n# ") {
+        if !row.is_empty() {
+            let (text, expected) = cut(row, "\n=");
+            holds(rt, alloc, asked, text.as_bytes(), expected)?;
+        }
     }
     Ok(())
 }
@@ -54,19 +70,14 @@ fn tokens(rt: HostRuntime) -> Result<(), Fail> {
     hold(&rt, rt.alloc(), Asked::Places, TOKENS)
 }
 
-/// Numbers, dots, comments, and the longest token that stands at a place.
-const TOKENS: &[(&[u8], &str)] = &[
-    (b"1..2", "Number(1)@0 DotDot@1 Number(2)@3 "),
-    (b"0 0xFf 90", "Number(0)@0 Number(255)@2 Number(90)@7 "),
-    (
-        b"340282366920938463463374607431768211455",
-        "Number(340282366920938463463374607431768211455)@0 ",
-    ),
-    (
-        b"x/**/y // \xFF */\n/* // \" ! */z // end",
-        "Name(\"x\")@0 Name(\"y\")@5 Name(\"z\")@27 ",
-    ),
-];
+/// Numbers, dots, and the longest token that stands at a place.
+const TOKENS: &str = "
+# 1..2
+= Number(1)@0 DotDot@1 Number(2)@3
+# 0 0xFf 90
+= Number(0)@0 Number(255)@2 Number(90)@7
+# 340282366920938463463374607431768211455
+= Number(340282366920938463463374607431768211455)@0";
 
 #[test]
 fn kinds(rt: HostRuntime) -> Result<(), Fail> {
@@ -74,42 +85,21 @@ fn kinds(rt: HostRuntime) -> Result<(), Fail> {
 }
 
 /// The longest token that stands at a place, and every reserved word and symbol.
-const KINDS: &[(&[u8], &str)] = &[
-    (
-        b"==> => ===>",
-        "LongDoubleArrow Equal Greater Equal LongDoubleArrow ",
-    ),
-    (b"-->-- >--", "LongArrow Minus Minus Greater Minus Minus "),
-    (
-        b"::=...<=<<<",
-        "Colon Assign DotDot Dot LessEqual ShiftLeft Less ",
-    ),
-    (
-        b"ending end_ _end end",
-        "Name(\"ending\") Name(\"end_\") Name(\"_end\") End ",
-    ),
-    (
-        b"actor unit package import action initialize function procedure guard var do \
-             begin end if then elsif else while foreach for in repeat schedule fsm priority \
-             true false not and or div mod",
-        "Actor Unit Package Import Action Initialize Function Procedure Guard Var Do \
-             Begin End If Then Elsif Else While Foreach For In Repeat Schedule Fsm Priority \
-             True False Not And Or Div Mod ",
-    ),
-    (
-        b"endactor endunit endaction endinitialize endfunction endprocedure endif endwhile \
-             endforeach endbegin endschedule endpriority",
-        "EndActor EndUnit EndAction EndInitialize EndFunction EndProcedure EndIf EndWhile \
-             EndForeach EndBegin EndSchedule EndPriority ",
-    ),
-    (
-        b"==> --> := .. <= >= != << >> && || ( ) [ ] , ; : . + - * / = < > & | ^ ~",
-        "LongDoubleArrow LongArrow Assign DotDot LessEqual GreaterEqual NotEqual \
-             ShiftLeft ShiftRight AndAnd OrOr LeftParen RightParen LeftBracket RightBracket \
-             Comma Semicolon Colon Dot Plus Minus Star Slash Equal Less Greater Ampersand Bar \
-             Caret Tilde ",
-    ),
-];
+const KINDS: &str = "
+# ==> => ===>
+= LongDoubleArrow Equal Greater Equal LongDoubleArrow
+# -->-- >--
+= LongArrow Minus Minus Greater Minus Minus
+# ::=...<=<<<
+= Colon Assign DotDot Dot LessEqual ShiftLeft Less
+# ending end_ _end end
+= Name(\"ending\") Name(\"end_\") Name(\"_end\") End
+# actor unit package import action initialize function procedure guard var do begin end if then elsif else while foreach for in repeat schedule fsm priority true false not and or div mod
+= Actor Unit Package Import Action Initialize Function Procedure Guard Var Do Begin End If Then Elsif Else While Foreach For In Repeat Schedule Fsm Priority True False Not And Or Div Mod
+# endactor endunit endaction endinitialize endfunction endprocedure endif endwhile endforeach endbegin endschedule endpriority
+= EndActor EndUnit EndAction EndInitialize EndFunction EndProcedure EndIf EndWhile EndForeach EndBegin EndSchedule EndPriority
+# ==> --> := .. <= >= != << >> && || ( ) [ ] , ; : . + - * / = < > & | ^ ~
+= LongDoubleArrow LongArrow Assign DotDot LessEqual GreaterEqual NotEqual ShiftLeft ShiftRight AndAnd OrOr LeftParen RightParen LeftBracket RightBracket Comma Semicolon Colon Dot Plus Minus Star Slash Equal Less Greater Ampersand Bar Caret Tilde";
 
 #[test]
 fn faults(rt: HostRuntime) -> Result<(), Fail> {
@@ -117,18 +107,34 @@ fn faults(rt: HostRuntime) -> Result<(), Fail> {
 }
 
 /// Each rule that a text may break.
-const FAULTS: &[(&[u8], &str)] = &[
-    (b"340282366920938463463374607431768211456", "L3 at 0"),
-    (b"1.5", "L4 at 0"),
-    (b"3e", "L4 at 0"),
-    (b"0xFG", "L4 at 0"),
-    (b"007", "L6 at 0"),
-    (b"\"x\"", "L5 at 0"),
-    (b"\xFF", "L1 at 0"),
-    (b"a !b", "L1 at 2"),
-    (b"actor A() ==> : /*", "L2 at 16"),
-    (b"/*/", "L2 at 0"),
-];
+const FAULTS: &str = "
+# 340282366920938463463374607431768211456
+= L3 at 0
+# 1.5
+= L4 at 0
+# 3e
+= L4 at 0
+# 0xFG
+= L4 at 0
+# 007
+= L6 at 0
+# \"x\"
+= L5 at 0
+# a !b
+= L1 at 2
+# actor A() ==> : /*
+= L2 at 16
+# /*/
+= L2 at 0";
+
+#[test]
+fn a_byte_above_ascii(rt: HostRuntime) -> Result<(), Fail> {
+    // in comments, and outside
+    let text = b"x/**/y // \xFF */\n/* // \" ! */z // end";
+    let tokens = " Name(\"x\")@0 Name(\"y\")@5 Name(\"z\")@27";
+    holds(&rt, rt.alloc(), Asked::Places, text, tokens)?;
+    holds(&rt, rt.alloc(), Asked::Places, b"\xFF", " L1 at 0")
+}
 
 /// `actor` and a name of so many bytes.
 fn with_name(alloc: Global, size: usize) -> Result<Vec<u8>, Fail> {
@@ -153,9 +159,9 @@ fn has_length(rt: &impl Abort, alloc: Global, size: usize, expected: usize) -> R
 
 #[test]
 fn long_names(rt: HostRuntime) -> Result<(), Fail> {
-    // `Actor@0 Name("a..a")@6 `, and `Z11 at 6`
+    // ` Actor@0 Name("a..a")@6`, and ` Z11 at 6`
     has_length(&rt, rt.alloc(), MAX_NAME, MAX_NAME + 19)?;
-    has_length(&rt, rt.alloc(), MAX_NAME + 1, 8)
+    has_length(&rt, rt.alloc(), MAX_NAME + 1, 9)
 }
 
 #[test]

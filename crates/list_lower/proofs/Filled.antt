@@ -37,7 +37,7 @@ use Rattle.list_lower.proofs.Elements.{AtElements, DoesElements, does_list, does
 use Rattle.list_lower.proofs.Forms.{FillsAt, FillsEach, Ready, fills_either, fills_items, fills_more, fills_name, fills_none, fills_one, ready_still}
 use Rattle.list_lower.proofs.PartForms.{fills_part}
 use Rattle.list_lower.proofs.ApartLists.{fills_apart}
-use Rattle.list_lower.proofs.Generated.{IsMany, many_found}
+use Rattle.expr_lower.proofs.Generated.{IsMany, many_found}
 use Rattle.list_lower.proofs.Going.{IsSet, below_clear, went_keeps}
 use Rattle.list_lower.proofs.Loops.{does_each}
 use Rattle.list_lower.proofs.Steps.{cut_later, straight_reaches}

@@ -29,8 +29,8 @@ use Rattle.list_lower.proofs.Counters.{width}
 use Rattle.list_lower.proofs.Filled.{AreCounted, grows_elements, grows_fill, grows_fills}
 use Rattle.list_lower.proofs.FittedJumps.{fits_back, fits_none}
 use Rattle.list_lower.proofs.FittedParts.{fits_wide, load, store, store_in, then_exit, then_plain}
-use Rattle.list_lower.proofs.Generated.{IsGenerator, generator}
-use Rattle.list_lower.proofs.MeantIs.{meant_sized}
+use Rattle.expr_lower.proofs.Generated.{IsGenerator, generator}
+use Rattle.expr_lower.proofs.MeantIs.{meant_sized}
 use Rattle.list_lower.proofs.Shapes.{alike_sizes}
 
 module _ (code : Code) (callable limit : ℕ) where

@@ -8,7 +8,6 @@ pub mod Forms
 pub mod PartForms
 pub mod ApartForms
 pub mod ApartLists
-pub mod Generated
 pub mod Counters
 pub mod Nexts
 pub mod Going
@@ -18,6 +17,9 @@ pub mod Filled
 pub mod FittedJumps
 pub mod FittedParts
 pub mod Fitted
+pub mod Leaves
+pub mod TypeSizes
+pub mod ListStarts
 pub mod Weights
 pub mod Erased
 pub mod Putting
@@ -25,3 +27,5 @@ pub mod Adding
 pub mod Unaimed
 pub mod ApartItems
 pub mod Whole
+pub mod StartingLists
+pub mod AddingFunctions

@@ -25,9 +25,9 @@ use Rattle.list_lower.specs.Filling.{next_number}
 use Rattle.expr_lower.specs.Generators.{AllCount, Counted, counted_by}
 use Rattle.list_lower.proofs.Counters.{AtFirst, width}
 use Rattle.list_lower.proofs.Elements.{AtElements, DoesElements}
-use Rattle.list_lower.proofs.Generated.{IsGenerator, IsRange, bound_num, elements_are, generator, range}
+use Rattle.expr_lower.proofs.Generated.{IsGenerator, IsRange, bound_num, elements_are, generator, range}
 use Rattle.list_lower.proofs.Going.{IsSet, Went, cell_apart, set_number_held, set_went, went_join, went_keeps, went_more}
-use Rattle.list_lower.proofs.MeantIs.{meant_sized}
+use Rattle.expr_lower.proofs.MeantIs.{meant_sized}
 use Rattle.list_lower.proofs.Nexts.{GoesOn, at_last, compared, goes_on, next_high, next_num, not_last}
 use Rattle.list_lower.proofs.Shapes.{all_shaped, joined_count, joined_flat, joined_shaped, stand_two}
 use Rattle.list_lower.proofs.Steps.{cut_later}

@@ -19,7 +19,7 @@ use Rattle.expr_lower.specs.Parted.{sized}
 use Rattle.expr_lower.proofs.PartValues.{sized_is}
 use Rattle.expr_lower.specs.Meant.{literal_size, single_meant, size_of_arg}
 use Rattle.list_lower.specs.ShapeMeant.{items_of_type, list_of_each, list_sized, many_meant, shape_meant}
-use Rattle.list_lower.proofs.MeantIs.{arg_is, meant_is, meant_sized}
+use Rattle.expr_lower.proofs.MeantIs.{arg_is, meant_is, meant_sized}
 
 -- ---- lists that are allowed
 

@@ -7,3 +7,6 @@ pub mod Reserving
 pub mod GoingOn
 pub mod LeftOut
 pub mod FillWords
+pub mod ListStarting
+pub mod Telling
+pub mod StartWords

@@ -17,10 +17,11 @@ ghost use Rattle.expr_lower.specs.Words.{and_of, binary_of, call_of, if_of, inde
 use crate::apart::{items_seen, list_type, one_type, some_scalars};
 use crate::lists::fill;
 use crate::taking::take_row;
+use crate::truths::is_truth;
 use cal_ast::{BinOp, Expr, ExprForm, PrefixOp};
 use code_ir::Instr;
 use expr_lower::{
-    Callee, Draft, LowerFault, Named, Scope, binary_instr, deep_item_named, function_for, is_truth,
+    Callee, Draft, LowerFault, Named, Scope, binary_instr, deep_item_named, function_for,
     item_instr, link, list_named, negative, next_place, number, prefix_instr, put, put_call,
     put_const, rows_named, truth, variable, whole_offset,
 };

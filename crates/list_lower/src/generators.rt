@@ -1,14 +1,16 @@
 //! Generators of comprehensions as they are written.
 
-ghost use Rattle.std.specs.Prelude.{◌≡◌, map, option_map, pos, neg_ℤ};
-ghost use Rattle.std.specs.Prelude.{None, Some, if◌then◌else◌};
-ghost use Rattle.rvc_base.specs.Width.{is_num};
+ghost use Rattle.std.specs.Prelude.{◌≡◌, map, option_map, pos};
+ghost use Rattle.std.specs.Prelude.{None, Some};
+ghost use Rattle.rvc_base.specs.Arithmetic.{whole};
 ghost use Rattle.cal_ast.specs.View.{expr_tree, gen_tree};
 ghost use Rattle.list_lower.specs.CounterView.{counter_view, gens_of};
-ghost use Rattle.expr_lower.specs.Generators.{bound_of, counted_by, how_many, negative_of, spanned};
+ghost use Rattle.expr_lower.specs.Generators.{bound_of, counted_by, difference_of, how_many};
+ghost use Rattle.expr_lower.specs.Generators.{number_given, opposite_of, spanned};
 
 use crate::types::single_meant;
-use cal_ast::{Expr, ExprForm, Gen, PrefixOp};
+use cal_ast::{BinOp, Expr, ExprForm, Gen, PrefixOp};
+use rvc_base::arithmetic::{neg, sub};
 use rvc_base::{Num, Scalar};
 
 /// The variable of a generator, its type, and the numbers that it is: all from the first to the last.
@@ -38,20 +40,22 @@ pub(crate) fn counted_by<'a>(g: &'a Gen) -> Option<Counter<'a>>
     })
 }
 
-/// The number that a bound is, if it is a literal with a minus sign before it or without one.
+/// The number that a bound is, if it is written by literals and `-` alone.
 fn bound_of(e: &Expr) -> Option<Num>
     ensures { result ≡ bound_of (expr_tree e.now) }
 {
     match &e.form {
         ExprForm::Number(value) => literal(*value),
-        ExprForm::Prefix { op, of } => negative(*op, of),
+        ExprForm::Paren(inner) => bound_of(inner),
+        ExprForm::Prefix { op, of } => opposite(*op, bound_of(of)),
+        ExprForm::Binary { op, left, right } => difference(*op, bound_of(left), bound_of(right)),
         _ => None,
     }
 }
 
 /// The number that a literal is.
 fn literal(value: u128) -> Option<Num>
-    ensures { result ≡ (if is_num (pos value) then Some (pos value) else None) }
+    ensures { result ≡ number_given (whole (pos value)) }
 {
     match Num::try_from(value) {
         Ok(number) => Some(number),
@@ -59,27 +63,27 @@ fn literal(value: u128) -> Option<Num>
     }
 }
 
-/// The number that a literal with a sign before it is.
-fn negative(op: PrefixOp, e: &Expr) -> Option<Num>
-    ensures { result ≡ negative_of op (expr_tree e.now) }
+/// The number that a minus sign makes of another one.
+fn opposite(op: PrefixOp, number: Option<Num>) -> Option<Num>
+    ensures { result ≡ opposite_of op number }
 {
-    match op {
-        PrefixOp::Neg => match &e.form {
-            ExprForm::Number(value) => opposite(*value),
-            _ => None,
-        },
-        _ => None,
+    let number = number?;
+    if op != PrefixOp::Neg {
+        return None;
     }
+    neg(number).ok()
 }
 
-/// The opposite of a literal.
-fn opposite(value: u128) -> Option<Num>
-    ensures { result ≡ (if is_num (pos value) then Some (neg_ℤ (pos value)) else None) }
+/// The difference of two numbers.
+fn difference(op: BinOp, left: Option<Num>, right: Option<Num>) -> Option<Num>
+    ensures { result ≡ difference_of op left right }
 {
-    match Num::try_from(value) {
-        Ok(number) => Some(-number),
-        Err(_) => None,
+    let left = left?;
+    let right = right?;
+    if op != BinOp::Sub {
+        return None;
     }
+    sub(left, right).ok()
 }
 
 /// How many elements generators make, if 32 bits hold that.

@@ -15,11 +15,13 @@ mod routines;
 mod sizes;
 mod starts;
 mod taking;
+mod truths;
 mod types;
 
 pub use exprs::{lower, lower_args, lower_calling, lower_expr, lower_test, offset};
 pub use lists::{fill, fill_all, lower_list};
 pub use meanings::shape_meant;
 pub use routines::{lower_function, take_formals};
-pub use starts::start;
+pub use sizes::alike;
+pub use starts::{Row, leaf_of, start, start_list, start_local, take_list};
 pub use types::single_meant;

@@ -10,7 +10,7 @@ ghost use Rattle.expr_lower.specs.Routining.{left_out_formals};
 ghost use Rattle.expr_lower.specs.Seen.{seen};
 
 use crate::exprs::lower;
-use crate::starts::start;
+use crate::starts::start_local;
 use cal_model::{BoundFun, BoundLocal, Shape};
 use code_ir::{Instr, Routine};
 use expr_lower::{
@@ -26,8 +26,9 @@ use std::alloc::Global;
 ///
 /// # Errors
 ///
-/// `NotLowered` if a formal or a local is no single value, with the offset 0, or if a start of a local or the body has a
-/// part for which no code is made, with its offset. `TooLong` if the draft has 2 to the power of 32 instructions.
+/// `NotLowered` with the offset 0 if a formal is no single value or the sizes of a local's type aren't allowed, or if a
+/// start of a local or the body has a part for which no code is made, with its offset. `TooLong` if the draft has 2 to
+/// the power of 32 instructions.
 /// `TooManyCells` if the numbers of the cells that are used don't fit. `Memory` if memory runs out.
 pub fn lower_function(
     alloc: Global,
@@ -135,15 +136,10 @@ fn in_locals(
     let Some((first, rest)) = locals.split_first() else {
         return give_back(scope, f, draft);
     };
-    let Some(kind) = single(&first.shape) else {
-        return Err(LowerFault::NotLowered { at: 0 });
-    };
-    let cell = take_cell(draft)?;
-    start(scope, &first.start, cell, kind, draft)?;
-    let shape = Shape::Scalar(kind);
+    let cell = start_local(scope, first, draft)?;
     let frame = Frame {
         name: first.name.as_str(),
-        shape: &shape,
+        shape: &first.shape,
         cell,
         outer: scope.frame,
     };

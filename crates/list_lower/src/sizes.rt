@@ -7,7 +7,7 @@ ghost use Rattle.list_lower.specs.Filling.{alike};
 use cal_model::Shape;
 
 /// Whether two types are of lists of as many items at each depth.
-pub(crate) fn alike(one: &Shape, other: &Shape) -> bool
+pub fn alike(one: &Shape, other: &Shape) -> bool
     ensures { result ≡ alike (shape_view one.now) (shape_view other.now) }
 {
     match one {

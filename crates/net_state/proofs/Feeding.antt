@@ -1,6 +1,6 @@
 -- Tokens of a feed that come before a port.
 use Rattle.std.proofs.Common.{◌≡◌, ℕ, suc, ◌+◌, ◌-◌, ◌<◌, ◌≤◌, true, false, List, [], ◌∷◌, ◌++◌, ℤ, length, map, take, drop, refl, sym, ap, subst, ◌∙◌, ⊎_elim, inl, inr, arith, length-append, length-drop}
-use Rattle.std.specs.Prelude.{Option, None, Some, slice_get, slice_index_or}
+use Rattle.std.specs.Prelude.{Option, None, Some, Result, Ok, Err, OnErr, slice_get, slice_index_or}
 use Rattle.std.proofs.lemmas.List.{map-append, drop-drop}
 use Rattle.std.proofs.Math.Seq.{take-add}
 use Rattle.rvc_base.specs.declared.scalar.Scalar.{Scalar}
@@ -210,3 +210,8 @@ on_input (Some link) h = (link, refl, h)
 
 pub at_reader : (links : List Link) (l : ℕ) (link : Link) (P : Link → ℕ → ℕ → Type 0) → slice_get links l ≡ Some link → AtPort link P link.to → AtReader (slice_get links l) P
 at_reader links l link P at holds = subst (λ o. AtReader o P) (sym at) holds
+
+-- .. if a pull failed
+pub due_so : {A E : Type 0} (result : Result A E) (P Q : Type 0) → (P → Q) → OnErr result P → OnErr result Q
+due_so (Ok v) P Q so due = tt
+due_so (Err e) P Q so due = so due

@@ -14,6 +14,7 @@ pub mod Feeding
 pub mod Fed
 pub mod Firings
 pub mod Roomy
+pub mod Untaken
 pub mod Standstill
 pub mod Bursting
 pub mod Grown
@@ -22,3 +23,5 @@ pub mod Readied
 pub mod Surveying
 pub mod Shared
 pub mod Alone
+pub mod Arriving
+pub mod Noted

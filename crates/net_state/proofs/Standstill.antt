@@ -26,6 +26,7 @@ use Rattle.net_state.proofs.Gaining.{some_is, there_too}
 use Rattle.net_state.proofs.Coming.{by_bool, if_true, if_false, is_own_port, is_that_port, on_cell}
 use Rattle.net_state.proofs.Flows.{changed_at, changed_count, changed_so, inbox_alike, inbox_at, length_waiting}
 use Rattle.net_state.proofs.Moved.{waiting_all}
+use Rattle.net_state.proofs.Untaken.{untaken_waits}
 use Rattle.net_state.proofs.Firings.{LeafOf, leaf_of, give_is}
 use Rattle.net_state.proofs.Roomy.{IsRow, none_room, room_least, room_reached}
 
@@ -76,10 +77,10 @@ all_arrived_of (link ∷ links) (flow ∷ flows) each = (each zero link flow ref
 module _ {X : Type 0} (net : Network X) (cells : List (Cell X)) (links : List Link) (capacities waited : List ℕ) (s : State X) (is : IsNetOf net cells links)
     (stands : Stands net cells capacities s) (working : IsWorking cells links capacities waited) (rest : IsAtRest (held_of cells links capacities waited)) where
   at_links : (l : ℕ) (link : Link) → slice_get net.links l ≡ Some link → slice_get links l ≡ Some link
-  at_links l link there = sym (ap (λ ls. slice_get ls l) is.links_are) ∙ there
+  at_links = Rattle.net_state.proofs.Untaken.at_links net cells links capacities waited s is stands working
 
   apart_net : AreApart net.links
-  apart_net = subst AreApart (sym is.links_are) working.apart
+  apart_net = Rattle.net_state.proofs.Untaken.apart_net net cells links capacities waited s is stands working
 
   arrived_here : (l : ℕ) (link : Link) (flow : Flow) → slice_get net.links l ≡ Some link → slice_get s.flows l ≡ Some flow → is_input link ≡ false → flow.arrived ≡ length flow.sent
   arrived_here l link flow here there inner = by_end link.from refl
@@ -104,22 +105,9 @@ module _ {X : Type 0} (net : Network X) (cells : List (Cell X)) (links : List Li
   -- on inner and output links as many are untaken as were counted
   untaken_is : (l : ℕ) (link : Link) (flow : Flow) → slice_get net.links l ≡ Some link → slice_get s.flows l ≡ Some flow → is_input link ≡ false
       → untaken flow ≡ slice_index_or waited l 0
-  untaken_is l link flow here there inner = by_end link.to refl
-    where
-      by_end : (end : End) → link.to ≡ end → untaken flow ≡ slice_index_or waited l 0
-      by_end (AtNet port) to =
-          let none : length (waiting_at cells link.to) ≡ 0 = ap (λ e. length (waiting_at cells e)) to in
-          let gone : flow.taken ≡ flow.arrived = (stands.flows.each l link flow here there).gone (ap is_outside to) in
-          omega (arith, none, gone, rest.counted l link (at_links l link here) inner)
-      by_end (AtLeaf inst port) to =
-          let on = on_cell (slice_get cells inst.0) (λ c. port < c.actor.ins) (subst (IsReader cells) to (working.fits l link (at_links l link here)).reader) in
-          let leads : is_leaf_port inst.0 port link.to ≡ true = ap (is_leaf_port inst.0 port) to ∙ is_own_port inst.0 port in
-          let waits : length (waiting_at cells link.to) ≡ length (waiting flow) =
-          ap (λ e. length (waiting_at cells e)) to
-          ∙ (ap (λ o. length (tokens_of o port)) on.1
-          ∙ ap (λ ts. length ts) (stands.inboxes inst.0 on.0 on.1 port on.2 ∙ inbox_at inst.0 port net.links s.flows l link flow apart_net here there leads)) in
-          let many : length (waiting flow) ≡ flow.arrived - flow.taken = length_waiting flow (stands.flows.each l link flow here there).arrived in
-          omega (arith, waits, many, rest.counted l link (at_links l link here) inner)
+  untaken_is l link flow here there inner =
+      untaken_waits net cells links capacities waited s is stands working l link flow here there
+      ∙ sym (rest.counted l link (at_links l link here) inner)
 
   -- What lacks room in the state that ends judge.
 

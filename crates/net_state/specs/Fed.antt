@@ -1,6 +1,6 @@
 -- What filling did, by what the code holds: the cells, the reader of tokens, and the feeds.
 -- Trusted: part of what a promise means.
-use Rattle.std.specs.Prelude.{◌≡◌, ℕ, List, map, Result, IfOk}
+use Rattle.std.specs.Prelude.{◌≡◌, ℕ, List, map, Result, IfOk, OnErr}
 use Rattle.rvc_base.specs.declared.scalar.Scalar.{Scalar}
 use Rattle.rvc_io.specs.Feeds.{Inputs}
 use Rattle.net_model.specs.declared.wiring.Link.{Link}
@@ -8,7 +8,7 @@ use Rattle.net_model.specs.Cell.{Cell}
 use Rattle.port_files.specs.Coming.{Reading, coming_on}
 use Rattle.net_state.specs.declared.filling.Filled.{Filled}
 use Rattle.net_state.specs.declared.filling.Inlet.{Inlet}
-use Rattle.net_state.specs.Filling.{AreArrivals, AtPort, Fills, IsFilled, IsFull, SameRest, Takes, inflow}
+use Rattle.net_state.specs.Filling.{AreArrivals, AtPort, Fills, IsDue, IsDueFor, IsFilled, IsFull, SameRest, Takes, inflow}
 use Rattle.net_state.specs.Held.{Held, seen}
 use Rattle.net_state.specs.Moving.{HasRoomUpTo, IsInput}
 
@@ -57,6 +57,16 @@ module _ {C X S E : Type 0} (cell : C → Cell X) (feeds : S → Inputs) where
       IfOk result (λ filled. AtPort link (λ that j q. IsFilled kind j q capacity filled.rest
       (map cell new) (coming_on tokens_new.pulled (feeds feeds_new) feed)) link.to)
 
+  -- if a pull failed, it was due at the inlet
+  abbrev pub DueAt : Inlet → List C → Reading → Result Filled E → Type 0
+  DueAt inlet new tokens_new result =
+      OnErr result (IsDue inlet.inst.0 inlet.port inlet.capacity (map cell new) tokens_new)
+
+  -- .. and at the port at which a link ends
+  abbrev pub DueOn : Link → ℕ → List C → Reading → Result Filled E → Type 0
+  DueOn link capacity new tokens_new result = OnErr result
+      (AtPort link (λ that j q. IsDue j q capacity (map cell new) tokens_new) link.to)
+
   -- The same of a network.
 
   -- tokens of the feed came over link l
@@ -71,6 +81,10 @@ module _ {C X S E : Type 0} (cell : C → Cell X) (feeds : S → Inputs) where
   IsFullOn l feed new tokens_new feeds_new result =
       IfOk result (λ filled. IsFull l filled.rest (seen cell new)
       (inflow tokens_new (feeds feeds_new) feed))
+
+  -- if a pull failed, it was due for link l
+  abbrev pub DueForOn : ℕ → Held C → Reading → Result Filled E → Type 0
+  DueForOn l new tokens_new result = OnErr result (IsDueFor l (seen cell new) tokens_new)
 
   -- all tokens came that arrive at a delivery
   abbrev pub AllArriveOn : ℕ → ℕ → Held C → Reading → S → Result Filled E → Type 0

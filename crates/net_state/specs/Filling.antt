@@ -14,7 +14,7 @@ use Rattle.net_model.specs.Trace.{arrivals}
 use Rattle.net_model.specs.Cell.{Cell}
 use Rattle.net_model.specs.PortFile.{rest_of, tokens}
 use Rattle.net_model.specs.Ready.{tokens_of}
-use Rattle.port_files.specs.Coming.{EndsWith, Reading, coming_on}
+use Rattle.port_files.specs.Coming.{EndsWith, Reading, coming_on, is_short}
 use Rattle.net_state.specs.Held.{Held}
 use Rattle.net_state.specs.Moving.{EachGains, only_to}
 use Rattle.net_state.specs.Standing.{IsOpened, StandsIn, unarrived}
@@ -54,6 +54,11 @@ abbrev pub IsFilled : {X : Type 0} → Scalar → ℕ → ℕ → ℕ → Option
 IsFilled kind j q capacity None cells coming = length (tokens_of (slice_get cells j) q) ≡ capacity
 IsFilled kind j q capacity (Some rest) cells coming =
     (length (tokens_of (slice_get cells j) q) < capacity) × EndsWith kind rest coming
+
+-- A pull is due before port q of cell j: the port holds less than it may, and of what was pulled no whole token is left.
+pub record IsDue {X : Type 0} (j q capacity : ℕ) (cells : List (Cell X)) (reading : Reading) : Type 0 where
+  pub unfilled : length (tokens_of (slice_get cells j) q) < capacity
+  pub short : is_short reading ≡ true
 
 -- Input links.
 
@@ -102,6 +107,11 @@ abbrev pub IsFull : {X : Type 0} → ℕ → Option ℕ → Held (Cell X) → In
 IsFull l rest held feed = AtReader (slice_get held.links l)
     (λ link j q. IsFilled feed.kind j q
     (slice_index_or held.capacities l 0) rest held.cells feed.bytes)
+
+-- a pull is due for the link
+abbrev pub IsDueFor : {X : Type 0} → ℕ → Held (Cell X) → Reading → Type 0
+IsDueFor l held reading = AtReader (slice_get held.links l)
+    (λ link j q. IsDue j q (slice_index_or held.capacities l 0) held.cells reading)
 
 -- so many tokens are those that arrive on link l at a delivery, in each state whose unread tokens are the feed's
 abbrev pub AreArrivals : {X : Type 0} → ℕ → ℕ → Held (Cell X) → Inflow → Type 0

@@ -8,3 +8,4 @@ pub mod Fed
 pub mod Surveyed
 pub mod Made
 pub mod Sharing
+pub mod Reopening

@@ -5,7 +5,7 @@ ghost use Rattle.rvc_base.specs.Storing.{IsSize};
 ghost use Rattle.rvc_io.specs.Feeds.{PullsOnly, ReadFails};
 ghost use Rattle.net_model.specs.Ready.{tokens_of};
 ghost use Rattle.port_files.specs.Coming.{EndIsTrue};
-ghost use Rattle.net_state.specs.Fed.{Fed, FedOn, FilledOn, FilledUp, IsReadBy, KeepsRest};
+ghost use Rattle.net_state.specs.Fed.{DueAt, DueOn, Fed, FedOn, FilledOn, FilledUp, IsReadBy, KeepsRest};
 ghost use Rattle.net_state.specs.Filling.{AtPort};
 ghost use Rattle.net_state.specs.Moving.{HasRoomUpTo, IsInput};
 
@@ -57,6 +57,7 @@ pub(crate) fn fill_port<A: Firing, F: Feeds>(
     ensures within { HasRoomUpTo (map A.cell cells.new) inlet.now.inst.0 inlet.now.port
         inlet.now.capacity }
     ensures failed { OnErr result (ReadFails F.feeds feeds.old feeds.new) }
+    ensures due { DueAt A.cell F.feeds inlet.now cells.new tokens.new result }
     ensures kind { tokens.new.kind ≡ tokens.old.kind }
     ensures same_rest { KeepsRest F.feeds feed tokens.old tokens.new feeds.old feeds.new }
     ensures still_same_feed { EndIsTrue tokens.new ((F.feeds feeds.new).left feed) }
@@ -102,6 +103,7 @@ pub(crate) fn fill_link<A: Firing, F: Feeds>(
     ensures within { AtPort link.now
         (λ that j q. HasRoomUpTo (map A.cell cells.new) j q capacity) link.now.to }
     ensures failed { OnErr result (ReadFails F.feeds feeds.old feeds.new) }
+    ensures due { DueOn A.cell F.feeds link.now capacity cells.new tokens.new result }
     ensures kind { tokens.new.kind ≡ tokens.old.kind }
     ensures same_rest { KeepsRest F.feeds feed tokens.old tokens.new feeds.old feeds.new }
     ensures still_same_feed { EndIsTrue tokens.new ((F.feeds feeds.new).left feed) }

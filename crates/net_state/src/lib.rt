@@ -11,6 +11,7 @@ mod made;
 mod network;
 mod outlook;
 mod places;
+mod reopening;
 mod rooms;
 mod sharing;
 mod tables;

@@ -5,11 +5,12 @@ ghost use Rattle.rvc_io.specs.Feeds.{PullsOnly, ReadFails};
 ghost use Rattle.net_model.specs.Paced.{count_picked};
 ghost use Rattle.port_files.specs.Coming.{EndIsTrue};
 ghost use Rattle.net_state.specs.Beginning.{AreLawfulIn};
-ghost use Rattle.net_state.specs.Fed.{AllArriveOn, FillsOn, IsFullOn, KeepsRest};
+ghost use Rattle.net_state.specs.Fed.{AllArriveOn, DueForOn, FillsOn, IsFullOn, KeepsRest};
 ghost use Rattle.net_state.specs.Filling.{IsInputLink};
 ghost use Rattle.net_state.specs.Held.{AreCounted, CanWork, capacity_of, room_of, seen};
+ghost use Rattle.net_state.specs.Reopening.{FitWaited, OpensAgain};
 ghost use Rattle.net_state.specs.Moving.{IsFromCell, IsOutput, SameActors, SameMarks, carried_on};
-ghost use Rattle.net_state.specs.Sharing.{AreFresh, AreShares, WorkEach, share_of};
+ghost use Rattle.net_state.specs.Sharing.{AreFresh, AreShares, HaveArrived, WorkEach, share_of};
 ghost use Rattle.net_state.specs.Surveyed.{AreSettled, AreUntrapped, IsOutlook, NamesFound, NamesLink, StallsAt, StillStand, Tells};
 ghost use Rattle.net_state.specs.Working.{CanHold, GrewTo, HasAction, IsAtRest, IsLowestLacking, LacksAsEnds, LacksAt, LooksAt, MayBurst, MayWork, TriesAt, WorksAt, journal_of};
 ghost use Rattle.net_state.specs.Standing.{AreAllOut, IsTrueOfUnarrived, LeadInside, StandAtStart};
@@ -21,6 +22,7 @@ use crate::growing::grow_link;
 use crate::lacking::lowest_lacking;
 use crate::made::Bursts;
 use crate::outlook::{Outlook, Survey, with_look};
+use crate::reopening::open_again;
 use crate::sharing::{Crew, Part, Shares, burst_part};
 use crate::tables::{first_capacities, room_table, zeros};
 use crate::working::{burst_at, look_at, try_at};
@@ -276,7 +278,8 @@ impl<A: Firing> NetState<A> {
     ///
     /// # Errors
     ///
-    /// `Failed` if bytes couldn't be pulled (`failed`). What came before that stays.
+    /// `Failed` if bytes couldn't be pulled (`failed`), of which some were due: the link isn't full, and no whole token was
+    /// left of what was pulled (`due`). What came before that stays.
     pub fn fill<F: Feeds>(
         &mut self,
         link: LinkId,
@@ -293,6 +296,8 @@ impl<A: Firing> NetState<A> {
         ensures arrivals { AllArriveOn A.cell F.feeds link.0 feed self.old tokens.old feeds.old
             result }
         ensures rests { IsAtRest (seen A.cell self.old) → IsAtRest (seen A.cell self.new) }
+        ensures failed { OnErr result (ReadFails F.feeds feeds.old feeds.new) }
+        ensures due { DueForOn A.cell F.feeds link.0 self.new tokens.new result }
 
         // What stays.
         ensures same_actors { SameActors (map A.cell self.old.cells) (map A.cell self.new.cells) }
@@ -300,7 +305,6 @@ impl<A: Firing> NetState<A> {
         ensures links { self.new.links ≡ self.old.links }
         ensures capacities { self.new.capacities ≡ self.old.capacities }
         ensures waited { self.new.waited ≡ self.old.waited }
-        ensures failed { OnErr result (ReadFails F.feeds feeds.old feeds.new) }
         ensures kind { tokens.new.kind ≡ tokens.old.kind }
         ensures same_rest { KeepsRest F.feeds feed tokens.old tokens.new feeds.old feeds.new }
         ensures still_same_feed { EndIsTrue tokens.new ((F.feeds feeds.new).left feed) }
@@ -363,6 +367,35 @@ impl<A: Firing> NetState<A> {
             &mut self.rooms,
         );
     }
+
+    /// Notes for each link how many tokens waited at its reading end after the last delivery.
+    pub fn note_waited(&self, noted: &mut [u32])
+        requires as_many { length noted.old ≡ length self.now.links }
+        ensures noted { noted.new ≡ self.now.waited }
+        ensures fit { FitWaited (seen A.cell self.now) }
+    {
+        noted.copy_from_slice(&self.waited);
+    }
+
+    /// Fixes the rooms of output ports as a delivery left them that was made before the last one, after which so many
+    /// tokens waited at the reading end of each link. The network is at rest.
+    pub fn reopen(&mut self, noted: &[u32])
+        requires rest { IsAtRest (seen A.cell self.old) }
+        requires as_many { length noted.now ≡ length self.old.links }
+        ensures states { OpensAgain noted.now (seen A.cell self.old) (seen A.cell self.new) }
+        ensures cells { self.new.cells ≡ self.old.cells }
+        ensures links { self.new.links ≡ self.old.links }
+        ensures capacities { self.new.capacities ≡ self.old.capacities }
+    {
+        open_again(
+            &self.cells,
+            &self.links,
+            &self.capacities,
+            &mut self.waited,
+            &mut self.rooms,
+            noted,
+        );
+    }
 }
 
 impl<A: Firing + Send> NetState<A> {
@@ -387,6 +420,7 @@ impl<A: Firing + Send> NetState<A> {
         ensures work { WorkEach (share_of shares) 0 0 marks.now (seen A.cell self.old) result
             (seen A.cell self.new) }
         ensures few { result.fired ≤ 65536 * count_picked marks.now }
+        ensures arrived { HaveArrived (G.arrived gate.now) crew }
     {
         let part = Part {
             cell: 0,

@@ -4,7 +4,7 @@ ghost use Rattle.std.specs.Prelude.{◌≡◌, ◌*◌, ◌+◌, ◌≤◌, ◌<
 ghost use Rattle.std.specs.Thread.{IsSend, IsSync};
 ghost use Rattle.net_model.specs.Paced.{count_picked};
 ghost use Rattle.net_state.specs.Made.{joined as both_made};
-ghost use Rattle.net_state.specs.Sharing.{AreShares, EachBursts, IsPart, MakesAt, share_of};
+ghost use Rattle.net_state.specs.Sharing.{AreShares, EachBursts, HaveArrived, IsPart, MakesAt, share_of};
 ghost use Rattle.net_state.specs.Working.{HasRoomRow, MayBurst};
 
 use crate::made::{Bursts, joined, made_by, none_made};
@@ -66,6 +66,7 @@ pub(crate) fn burst_part<R: Threads + Sync, A: Firing + Send, G: Gate>(
     ensures each { EachBursts (share_of shares) part.cell part.before marks.now
         (map vec_items rooms.now) (map A.cell cells.old) result (map A.cell cells.new) }
     ensures few { result.fired ≤ 65536 * count_picked marks.now }
+    ensures arrived { HaveArrived (G.arrived gate.now) crew }
 {
     if crew.count < 2 {
         gate.arrive(crew.round, crew.first);
@@ -95,6 +96,7 @@ fn burst_halves<R: Threads + Sync, A: Firing + Send, G: Gate>(
         (map vec_items rooms.now) (map A.cell cells.old) (both_made result.1 result.0)
         (map A.cell cells.new) }
     ensures few { result.1.fired + result.0.fired ≤ 65536 * count_picked marks.now }
+    ensures arrived { HaveArrived (G.arrived gate.now) crew }
 {
     let (low_crew, high_crew) = crew_halves(crew);
     let picks = picks_of(part.picks, low_crew.count, crew.count);
@@ -142,6 +144,8 @@ fn burst_both<R: Threads + Sync, A: Firing + Send, G: Gate>(
         (map A.cell high_cells.new) }
     ensures low_few { result.1.fired ≤ 65536 * count_picked low_marks.now }
     ensures high_few { result.0.fired ≤ 65536 * count_picked high_marks.now }
+    ensures low_arrived { HaveArrived (G.arrived gate.now) low_crew }
+    ensures high_arrived { HaveArrived (G.arrived gate.now) high_crew }
 {
     join_mut(
         rt,
@@ -153,7 +157,8 @@ fn burst_both<R: Threads + Sync, A: Firing + Send, G: Gate>(
             ensures { EachBursts (share_of shares) high_part.cell high_part.before
                 high_marks.entry.now (map vec_items high_rooms.entry.now)
                 (map A.cell high_cells.entry.now) result (map A.cell high_cells.exit.now)
-                × (result.fired ≤ 65536 * count_picked high_marks.entry.now) }
+                × (result.fired ≤ 65536 * count_picked high_marks.entry.now)
+                × HaveArrived (G.arrived gate.entry.now) high_crew }
         {
             burst_part(
                 rt, gate, high_crew, shares, high_part, high_cells, high_rooms, high_marks,
@@ -167,7 +172,8 @@ fn burst_both<R: Threads + Sync, A: Firing + Send, G: Gate>(
             ensures { EachBursts (share_of shares) low_part.cell low_part.before
                 low_marks.entry.now (map vec_items low_rooms.entry.now)
                 (map A.cell low_cells.entry.now) result (map A.cell low_cells.exit.now)
-                × (result.fired ≤ 65536 * count_picked low_marks.entry.now) }
+                × (result.fired ≤ 65536 * count_picked low_marks.entry.now)
+                × HaveArrived (G.arrived gate.entry.now) low_crew }
         {
             burst_part(
                 rt, gate, low_crew, shares, low_part, low_cells, low_rooms, low_marks,
@@ -187,6 +193,9 @@ fn crew_halves(crew: Crew) -> (Crew, Crew)
     ensures all { result.0.count + result.1.count ≡ crew.count }
     ensures low_numbers { result.0.first + result.0.count < 2 ^ 32 }
     ensures high_numbers { result.1.first + result.1.count < 2 ^ 32 }
+    ensures low_begins { result.0.first ≡ crew.first }
+    ensures high_begins { result.1.first ≡ crew.first + result.0.count }
+    ensures rounds { (result.0.round ≡ crew.round) × (result.1.round ≡ crew.round) }
 {
     let count = crew.count / 2;
     let low = Crew { count, ..crew };

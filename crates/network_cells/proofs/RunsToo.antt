@@ -1,25 +1,46 @@
 -- What a run leaves, it leaves in a network that is alike.
-use Rattle.std.proofs.Common.{◌≡◌, ℕ, inl, inr, ⊎_elim, List, length, drop, refl, ap, subst, ◌∙◌}
+use Rattle.std.proofs.Common.{◌≡◌, ℕ, inl, inr, ⊎_elim, List, length, drop, refl, sym, ap, subst, ◌∙◌}
+use Rattle.std.specs.Prelude.{slice_get}
 use Rattle.rvc_io.specs.Channels.{Channels}
+use Rattle.rvc_io.specs.Feeds.{Inputs}
 use Rattle.trace_text.specs.declared.line.Line.{Line}
 use Rattle.net_model.specs.Network.{Network, kind_at}
 use Rattle.net_model.specs.State.{State, sent_to}
 use Rattle.net_model.specs.Cell.{Cell}
 use Rattle.net_model.specs.Alike.{Allowed, AreAlike, StatesAlike}
 use Rattle.net_model.specs.Paced.{Moment}
+use Rattle.net_model.specs.Counted.{rest_at}
 use Rattle.net_model.specs.PortFile.{all_encoded}
 use Rattle.net_model.specs.Trace.{KeepsFrom, PlaysFrom}
 use Rattle.net_model.proofs.Rounds.{begun_play, paced_play}
 use Rattle.round_runner.specs.declared.outcome.RunEnd.{RunEnd}
 use Rattle.round_runner.specs.declared.outcome.RunEnd.TheVariants as end
 use Rattle.round_runner.specs.Rounds.{Breaks, EachOut, OutGetsAll, OutGetsFront, out_bytes}
-use Rattle.round_runner.specs.Running.{Running, pace_of}
+use Rattle.round_runner.specs.Pulling.{NeedsPull, PullIsDue, token_size}
+use Rattle.round_runner.specs.Running.{Running, feed_of, pace_of}
 use Rattle.network_runner.specs.FromStart.{RunsBroken, RunsFromStart, RunsShort, RunsWhole, WritesWhole}
 use Rattle.network_cells.specs.RunAlike.{RunsAlike, without_cells}
 use Rattle.network_cells.proofs.Lawlike.{begun_alike, counted_alike, keep_alike, paced_alike}
 
+-- the same pull is due
+pub needs_alike : {X Y : Type 0} (related : ℕ → X → Y → Type 0) (allowed : Allowed) (net : Network X) (other : Network Y) → AreAlike related allowed net other
+    → (inputs : List (List ℕ)) (last : State X) (there : State Y) (feed : ℕ) (feeds : Inputs) → StatesAlike related allowed net last there → NeedsPull net inputs last feed feeds
+    → NeedsPull other inputs there feed feeds
+needs_alike related allowed net other alike inputs last there feed feeds ends needs = record {
+  l = needs.l;
+  link = needs.link;
+  flow = needs.flow;
+  left = needs.left;
+  link_at = ap (λ ls. slice_get ls needs.l) (sym alike.links) ∙ needs.link_at;
+  flow_at = ap (λ fs. slice_get fs needs.l) (sym ends.flows) ∙ needs.flow_at;
+  from_outside = needs.from_outside;
+  feed_is = needs.feed_is ∙ ap (λ ls. feed_of ls needs.l) alike.links;
+  left_is = needs.left_is;
+  due = subst (λ ports. PullIsDue (token_size ports needs.link.from) (rest_at ports inputs needs.link.from) needs.flow (length needs.left)) alike.ins needs.due;
+}
+
 module _ {X Y : Type 0} (related : ℕ → X → Y → Type 0) (allowed : Allowed) (net : Network X) (other : Network Y) (alike : AreAlike related allowed net other)
-    (inputs : List (List ℕ)) (budget : ℕ) (s : State X) (that : State Y) (states : StatesAlike related allowed net s that) (run new : Running (Cell X)) (old now : Channels) where
+    (inputs : List (List ℕ)) (budget : ℕ) (s : State X) (that : State Y) (states : StatesAlike related allowed net s that) (run new : Running (Cell X)) (feeds : Inputs) (old now : Channels) where
   abbrev run_there : Running (Cell Y)
   run_there = without_cells run
 
@@ -72,14 +93,15 @@ module _ {X Y : Type 0} (related : ℕ → X → Y → Type 0) (allowed : Allowe
         wrote = wrote_too whole.last paced.0 whole.lines paced.2 whole.permitted.plays whole.wrote;
       }
 
-  short_too : RunsShort net inputs budget s run new old now → RunsShort other inputs budget that run_there new_there old now
-  short_too short =
+  short_too : (feed : ℕ) → RunsShort net inputs budget s feed run new feeds old now → RunsShort other inputs budget that feed run_there new_there feeds old now
+  short_too feed short =
       let begun = begun_alike related allowed net other alike (pace_of run budget) s that short.lines short.reached states short.begun in
       let reached : Moment Y = record { state = begun.0; round = short.reached.round; idle = short.reached.idle; left = short.reached.left } in
       record {
         lines = short.lines;
         reached = reached;
         begun = begun.1;
+        needs = needs_alike related allowed net other alike inputs short.reached.state begun.0 feed feeds begun.2 short.needs;
         permitted = record {
           plays = begun_play other (pace_of run budget) that short.lines reached begun.1;
           keeps = keeps_there short.lines short.permitted.keeps;
@@ -116,14 +138,14 @@ module _ {X Y : Type 0} (related : ℕ → X → Y → Type 0) (allowed : Allowe
       })
       broken.begun_or_paced
 
-  pub from_start_too : (how : RunEnd) → RunsFromStart net inputs budget s how run new old now → RunsFromStart other inputs budget that how run_there new_there old now
+  pub from_start_too : (how : RunEnd) → RunsFromStart net inputs budget s how run new feeds old now → RunsFromStart other inputs budget that how run_there new_there feeds old now
   from_start_too end.Quiet leaves = whole_too end.Quiet leaves
   from_start_too (end.Trapped inst action trap) leaves = whole_too (end.Trapped inst action trap) leaves
   from_start_too (end.Stalled inst action link) leaves = whole_too (end.Stalled inst action link) leaves
   from_start_too end.Budget leaves = whole_too end.Budget leaves
-  from_start_too (end.ReadFault feed) leaves = short_too leaves
+  from_start_too (end.ReadFault feed) leaves = short_too feed leaves
   from_start_too (end.WriteFault channel) leaves = broken_too leaves
 
 pub runs_alike : {X Y : Type 0} (related : ℕ → X → Y → Type 0) (allowed : Allowed) → RunsAlike related allowed
-runs_alike related allowed net other inputs budget s that how run new old now alike states leaves =
-    from_start_too related allowed net other alike inputs budget s that states run new old now how leaves
+runs_alike related allowed net other inputs budget s that how run new feeds old now alike states leaves =
+    from_start_too related allowed net other alike inputs budget s that states run new feeds old now how leaves

@@ -140,9 +140,9 @@ pub same_paced_lines : SamePacedLines
 same_paced_lines c inputs pace lines flows is = (paced_forth c is inputs pace lines flows, paced_back_there c is inputs pace lines flows)
 
 pub cells_run_as_sources : CellsRunAsSources
-cells_run_as_sources c inputs budget how run new old now is leaves =
+cells_run_as_sources c inputs budget how run new feeds old now is leaves =
     from_start_too (stands_at c.actors) (may_come_at c.actors) (lowered_of c) c.net (alike c is) inputs budget (cells_start c inputs) (start_of c.net inputs) (begins_alike c is inputs)
-    run new old now how leaves
+    run new feeds old now how leaves
 
 pub lines_alike : LoweredLinesAlike
 lines_alike actors = (

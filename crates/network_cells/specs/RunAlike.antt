@@ -3,6 +3,7 @@
 -- Trusted: part of what a promise means.
 use Rattle.std.specs.Prelude.{ℕ, List, []}
 use Rattle.rvc_io.specs.Channels.{Channels}
+use Rattle.rvc_io.specs.Feeds.{Inputs}
 use Rattle.net_model.specs.Network.{Network}
 use Rattle.net_model.specs.State.{State}
 use Rattle.net_model.specs.Cell.{Cell}
@@ -28,6 +29,7 @@ without_cells run = record {
   kind = run.kind;
   burst = run.burst;
   grow = run.grow;
+  workers = run.workers;
   rounds = run.rounds;
   idle = run.idle;
   trace = run.trace;
@@ -40,7 +42,8 @@ without_cells run = record {
 abbrev pub RunsAlike : {X Y : Type 0} → (ℕ → X → Y → Type 0) → Allowed → Type 0
 RunsAlike {X} {Y} related allowed = (net : Network X) (other : Network Y) (inputs : List (List ℕ))
     (budget : ℕ) (s : State X) (that : State Y) (how : RunEnd) (run new : Running (Cell X))
-    (old now : Channels) → AreAlike related allowed net other
+    (feeds : Inputs) (old now : Channels) → AreAlike related allowed net other
     → StatesAlike related allowed net s that
-    → RunsFromStart net inputs budget s how run new old now
-    → RunsFromStart other inputs budget that how (without_cells run) (without_cells new) old now
+    → RunsFromStart net inputs budget s how run new feeds old now
+    → RunsFromStart other inputs budget that how (without_cells run) (without_cells new) feeds
+    old now

@@ -2,6 +2,7 @@
 -- Trusted: part of what a promise means.
 use Rattle.std.specs.Prelude.{◌≡◌, ℕ, ◌≤◌, ◌↔◌, List, map}
 use Rattle.rvc_io.specs.Channels.{Channels}
+use Rattle.rvc_io.specs.Feeds.{Inputs}
 use Rattle.trace_text.specs.declared.line.Line.{Line}
 use Rattle.cal_model.specs.Actor.{Actor}
 use Rattle.cal_model.specs.Selection.{State}
@@ -146,7 +147,8 @@ SamePacedLines = (c : Compiled) (inputs : List (List ℕ)) (pace : Pace) (lines 
 -- What a run of the cells leaves, from their start to its end, is what a run of the sources leaves from their start.
 abbrev pub CellsRunAsSources : Type 0
 CellsRunAsSources = (c : Compiled) (inputs : List (List ℕ)) (budget : ℕ) (how : RunEnd)
-    (run new : Running (Cell lowered.ActorState)) (old now : Channels) → IsCompiled c
-    → RunsFromStart (lowered_of c) inputs budget (cells_start c inputs) how run new old now
+    (run new : Running (Cell lowered.ActorState)) (feeds : Inputs) (old now : Channels)
+    → IsCompiled c
+    → RunsFromStart (lowered_of c) inputs budget (cells_start c inputs) how run new feeds old now
     → RunsFromStart c.net inputs budget (start_of c.net inputs) how (without_cells run)
-    (without_cells new) old now
+    (without_cells new) feeds old now

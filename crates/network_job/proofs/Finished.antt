@@ -1,5 +1,5 @@
 -- A job that was prepared and started: what its run leaves, or what it leaves if it can't be started.
-use Rattle.std.proofs.Common.{◌≡◌, ◌≢◌, ◌⊎◌, ⊎_elim, ℕ, false, List, length, map, refl, sym, ap, subst, ◌∙◌, arith}
+use Rattle.std.proofs.Common.{◌≡◌, ◌≢◌, ◌⊎◌, ⊎_elim, ℕ, suc, ◌+◌, ◌-◌, false, List, length, map, refl, sym, ap, subst, ◌∙◌, arith}
 use Rattle.std.specs.Prelude.{Err, string_bytes}
 use Rattle.std.proofs.lemmas.List.{length-map}
 use Rattle.rvc_base.specs.declared.round_kind.RoundKind.{RoundKind}
@@ -20,14 +20,17 @@ use Rattle.fnl_flatten.specs.declared.flat.Flat.{Flat}
 use Rattle.round_runner.specs.declared.outcome.RunEnd.{RunEnd}
 use Rattle.round_runner.specs.Running.{Running}
 use Rattle.round_runner.specs.Running as running
+use Rattle.network_runner.specs.Arriving.{Arrivals, RunArrives, Stage, stage_of}
 use Rattle.network_runner.specs.Asking.{CanRun, EndLeaves, HaveInputs, IsAtStart, WritesWithin, seen_run}
 use Rattle.network_runner.specs.FromStart.{RunsArePaced, RunsFromStart}
 use Rattle.network_runner.specs.Making.{CountNothing}
+use Rattle.network_runner.proofs.Arrived.{stage_is}
 use Rattle.port_words.specs.Matching.{names_of}
 use Rattle.port_words.specs.Opening.{ChannelFails, FeedsAreOpened, channels_of, feeds_of}
 use Rattle.network_job.specs.declared.outcome.JobFault.{JobFault}
 use Rattle.network_job.specs.declared.outcome.JobFault.TheVariants.{Memory, ReadFault, Refused, WriteFault}
 use Rattle.network_job.specs.Answering.{LeavesJob}
+use Rattle.network_job.specs.Arriving.{ArriveInEach}
 use Rattle.network_job.specs.Files.{AreInputs, OpensOnly, WritesOnly}
 use Rattle.network_job.specs.Leaving.{LeavesRun, Setting, WasBroken, ending_of, pace_of, setting_of}
 use Rattle.network_job.specs.Network.{CanRunAll, IsNetworkOf, plan_of}
@@ -98,11 +101,11 @@ module _ {C X : Type 0} (cell : C → Cell X) (cells : List (Cell X)) (flat : Fl
       → ((n : ℕ) → n ≢ 0 → (channels old).is_open n ≡ false) → FeedsAreOpened (feeds_of flat.links.items ins words) (feeds feeds_old) (feeds feeds_mid) → WritesHead trace outs words head (channels old) (channels mid)
       → WritesWithin run (channels mid) (channels now) → EndLeaves cell feeds channels run new feeds_mid feeds_new mid now job.budget how → TakesOver new.counts places counts
       → RunsArePaced X → BegunWithinBudget X → PacedWithinBudget X
-      → AreInputs inputs flat.links.items ins words (feeds feeds_old) → LeavesRun setting (ending_of how) counts (channels now)
+      → AreInputs inputs flat.links.items ins words (feeds feeds_old) → LeavesRun setting (ending_of how) counts (feeds feeds_new) (channels now)
   leaves_run feeds channels trace feeds_old feeds_mid feeds_new old mid now new how counts closed opened wrote within leaves taken runs_are_paced begun_law paced_law told =
       let begun : IsAtStart net inputs (seen_run cell run) (feeds feeds_mid) start = at_start (feeds feeds_old) (feeds feeds_mid) opened told in
-      let runs : RunsFromStart net inputs job.budget start how (seen_run cell run) (seen_run cell new) (channels mid) (channels now) =
-      runs_are_paced net inputs job.budget start how (seen_run cell run) (seen_run cell new) (channels mid) (channels now)
+      let runs : RunsFromStart net inputs job.budget start how (seen_run cell run) (seen_run cell new) (feeds feeds_new) (channels mid) (channels now) =
+      runs_are_paced net inputs job.budget start how (seen_run cell run) (seen_run cell new) (feeds feeds_new) (channels mid) (channels now)
       (record {
         wired = begun.stands.is_run_of.wired;
         lawful = begun.stands.is_run_of.lawful;
@@ -115,7 +118,7 @@ module _ {C X : Type 0} (cell : C → Cell X) (cells : List (Cell X)) (flat : Fl
       leaves_so net cells inputs is_ready.wired job flat.outs.items is_of.outs (seen_run cell run) head (channels mid) (channels now)
       (at_head trace outs words head (channels old) closed (channels mid) wrote) head_of_net prepared.begins.no_lines prepared.begins.no_output
       (writes_are cell cells flat words (plan_of job) kind run head places prepared) within.same_telling within.same_open
-      job.budget (seen_run cell new) pace_is counts places places_are taken begun_law paced_law how runs
+      job.budget (seen_run cell new) pace_is counts places places_are taken begun_law paced_law how (feeds feeds_new) runs
 
   -- it couldn't be started
 
@@ -125,7 +128,7 @@ module _ {C X : Type 0} (cell : C → Cell X) (cells : List (Cell X)) (flat : Fl
       broken_before net cells inputs is_ready.wired job flat.outs.items is_of.outs old closed trace (at_start feeds_old feeds_mid opened told).may_begin head channel now head_of_net fails
 
   pub leaves_unstarted : {S T : Type 0} (feeds : S → Inputs) (channels : T → Channels) (trace : List ℕ) (feeds_old feeds_new : S) (old now : T) (fault : JobFault) → ((n : ℕ) → n ≢ 0 → (channels old).is_open n ≡ false)
-      → Starts feeds channels flat words trace feeds_old feeds_new old now head (Err fault) → AreInputs inputs flat.links.items ins words (feeds feeds_old) → LeavesJob setting (Err fault) (channels now)
+      → Starts feeds channels flat words trace feeds_old feeds_new old now head (Err fault) → AreInputs inputs flat.links.items ins words (feeds feeds_old) → LeavesJob setting (Err fault) (feeds feeds_new) (channels now)
   leaves_unstarted feeds channels trace feeds_old feeds_new old now (Refused refusal) closed starts told = tt
   leaves_unstarted feeds channels trace feeds_old feeds_new old now Memory closed starts told = tt
   leaves_unstarted feeds channels trace feeds_old feeds_new old now (ReadFault feed) closed starts told = tt
@@ -164,3 +167,24 @@ module _ {S T : Type 0} (feeds : S → Inputs) (channels : T → Channels) (flat
   unstarted_channels Memory starts = absurd starts
   unstarted_channels (ReadFault feed) starts = same_channels (sym starts.1)
   unstarted_channels (WriteFault channel) starts = ⊎_elim (writes_before all_outs words trace channel (channels old) (channels now)) (head_channels channel) starts.1
+
+-- ---- who works
+
+module _ {C X : Type 0} (cell : C → Cell X) (cells : List (Cell X)) (flat : Flat) (job : Job) (kind : RoundKind) (kind_is : kind ≡ job.round) (run : Running C) (head : List ℕ) (places : Counts)
+    (prepared : IsPrepared cells flat (map port_text job.ports.items) (plan_of job) kind (seen_run cell run) head places) where
+  -- its workers arrived in each round
+  pub arrives_run : (arrived : ℕ → ℕ → Type 0) (new : Running C) (counts : Counts) → RunArrives arrived run new job.budget → TakesOver new.counts places counts → ArriveInEach arrived job (length cells) counts
+  arrives_run arrived new counts arrive taken =
+      let cells_are : length run.held.cells ≡ length cells = sym (length-map run.held.cells cell) ∙ ap length prepared.begins.cells_are in
+      let first : Stage = record { round = 1; idle = false; left = job.budget } in
+      let first_is : stage_of run job.budget ≡ first = stage_is (suc run.counts.rounds) 1 run.idle false job.budget job.budget (ap suc prepared.begins.no_rounds) prepared.begins.idle refl in
+      let left_is : run.counts.firings + job.budget - new.counts.firings ≡ job.budget - counts.firings = omega (arith, prepared.begins.no_firings, taken.firings) in
+      let last_is : stage_of new (run.counts.firings + job.budget - new.counts.firings) ≡ record { round = suc counts.rounds; idle = new.idle; left = job.budget - counts.firings } =
+      stage_is (suc new.counts.rounds) (suc counts.rounds) new.idle new.idle (run.counts.firings + job.budget - new.counts.firings) (job.budget - counts.firings) (ap suc (sym taken.rounds)) refl left_is in (
+        new.idle,
+        subst (λ at. Arrivals arrived job.round job.workers (length cells) first at) last_is
+            (subst (λ at. Arrivals arrived job.round job.workers (length cells) at (stage_of new (run.counts.firings + job.budget - new.counts.firings))) first_is
+            (subst (λ k. Arrivals arrived k job.workers (length cells) (stage_of run job.budget) (stage_of new (run.counts.firings + job.budget - new.counts.firings))) (prepared.begins.kind_is ∙ kind_is)
+            (subst (λ n. Arrivals arrived run.kind n (length cells) (stage_of run job.budget) (stage_of new (run.counts.firings + job.budget - new.counts.firings))) prepared.begins.workers
+            (subst (λ n. Arrivals arrived run.kind run.workers n (stage_of run job.budget) (stage_of new (run.counts.firings + job.budget - new.counts.firings))) cells_are arrive)))),
+      )

@@ -2,6 +2,7 @@
 use Rattle.std.proofs.Common.{◌≡◌, ◌≢◌, ◌⊎◌, inl, inr, ℕ, ◌+◌, true, false, List, [], ◌∷◌, ◌++◌, length, map, refl, sym, ap, subst, ◌∙◌, arith, append_assoc}
 use Rattle.std.specs.Prelude.{None, Some, slice_index_or, string_bytes}
 use Rattle.std.proofs.lemmas.List.{length-replicate}
+use Rattle.rvc_io.specs.Feeds.{Inputs}
 use Rattle.rvc_io.specs.Channels.{Channels}
 use Rattle.channel_writer.specs.Held.{HoldsFront}
 use Rattle.rvc_words.specs.Words.{PortText, port_text}
@@ -205,11 +206,12 @@ module _ {X : Type 0} (net : Network X) (cells : List (Cell X)) (inputs : List (
             spent = λ by_budget. counted.firings ∙ budget_spent net (pace_of job) start begun_law paced_law whole.ends_by.before line whole.last paced by_budget;
           }
 
-      cut : RunsShort net inputs budget start run new mid now → WasCut setting counts now
-      cut short = record {
+      cut : (feed : ℕ) (feeds : Inputs) → RunsShort net inputs budget start feed run new feeds mid now → WasCut setting counts feed feeds now
+      cut feed feeds short = record {
         lines = short.lines;
         reached = short.reached;
         begun = begun_so short.lines short.reached short.begun;
+        needs = short.needs;
         permitted = permitted_so short.lines short.reached.state short.permitted;
         wrote = wrote_whole short.lines short.reached.state short.wrote.trace short.wrote.outputs;
         counted = counted_so short.lines short.reached.state short.wrote.counted;
@@ -229,13 +231,13 @@ module _ {X : Type 0} (net : Network X) (cells : List (Cell X)) (inputs : List (
         wrote = wrote_prefixes breaks.lines breaks.last breaks.breaks.trace breaks.breaks.outputs;
       }
 
-      pub leaves_so : (how : RunEnd) → RunsFromStart net inputs budget start how run new mid now → LeavesRun setting (ending_of how) counts now
-      leaves_so end.Quiet runs = ended end.Quiet _ refl runs
-      leaves_so (end.Trapped inst action trap) runs = ended (end.Trapped inst action trap) _ refl runs
-      leaves_so (end.Stalled inst action link) runs = ended (end.Stalled inst action link) _ refl runs
-      leaves_so end.Budget runs = ended end.Budget _ refl runs
-      leaves_so (end.ReadFault feed) runs = cut runs
-      leaves_so (end.WriteFault channel) runs = broken runs
+      pub leaves_so : (how : RunEnd) (feeds : Inputs) → RunsFromStart net inputs budget start how run new feeds mid now → LeavesRun setting (ending_of how) counts feeds now
+      leaves_so end.Quiet feeds runs = ended end.Quiet _ refl runs
+      leaves_so (end.Trapped inst action trap) feeds runs = ended (end.Trapped inst action trap) _ refl runs
+      leaves_so (end.Stalled inst action link) feeds runs = ended (end.Stalled inst action link) _ refl runs
+      leaves_so end.Budget feeds runs = ended end.Budget _ refl runs
+      leaves_so (end.ReadFault feed) feeds runs = cut feed feeds runs
+      leaves_so (end.WriteFault channel) feeds runs = broken runs
 
   -- ---- a channel kept the rounds from going
 

@@ -77,14 +77,15 @@ NeverOpens (Err Memory) = Unit {0}
 NeverOpens (Err (ReadFault feed)) = ⊥
 NeverOpens (Err (WriteFault channel)) = ⊥
 
--- What a job leaves on its channels, by its answer. If a channel kept the rounds from going, each has a prefix of what
+-- What a job leaves on its channels and its feeds, by its answer. If a channel kept the rounds from going, each has a prefix of what
 -- lines give, as after one that couldn't be written later.
-abbrev pub LeavesJob : {X : Type 0} → Setting X → Result Outcome JobFault → Channels → Type 0
-LeavesJob run (Ok outcome) channels = LeavesRun run (ending_of outcome.end) outcome.counts channels
-LeavesJob run (Err (Refused refusal)) channels = Unit {0}
-LeavesJob run (Err Memory) channels = Unit {0}
-LeavesJob run (Err (ReadFault feed)) channels = Unit {0}
-LeavesJob run (Err (WriteFault channel)) channels = WasBroken run channels
+abbrev pub LeavesJob : {X : Type 0} → Setting X → Result Outcome JobFault → Inputs → Channels → Type 0
+LeavesJob run (Ok outcome) feeds channels =
+    LeavesRun run (ending_of outcome.end) outcome.counts feeds channels
+LeavesJob run (Err (Refused refusal)) feeds channels = Unit {0}
+LeavesJob run (Err Memory) feeds channels = Unit {0}
+LeavesJob run (Err (ReadFault feed)) feeds channels = Unit {0}
+LeavesJob run (Err (WriteFault channel)) feeds channels = WasBroken run channels
 
 -- All channels were opened, and then what stands before the first event couldn't be written whole to the trace's.
 pub record HeadFails (openings : List Opening) (channel : ℕ) (old new : Channels) : Type 0 where

@@ -2,6 +2,7 @@
 -- Trusted: part of what a promise means.
 use Rattle.std.specs.Prelude.{◌≡◌, ◌⊎◌, ℕ, ◌+◌, true, false, List, [], ◌∷◌, ◌++◌, map, Option, None, Some}
 use Rattle.rvc_io.specs.Channels.{Channels}
+use Rattle.rvc_io.specs.Feeds.{Inputs}
 use Rattle.rvc_words.specs.Words.{PortText, port_text}
 use Rattle.rvc_words.specs.declared.job.Job.{Job}
 use Rattle.trace_text.specs.declared.line.Line.{Line}
@@ -15,6 +16,7 @@ use Rattle.net_model.specs.Stable.{IsPrefix}
 use Rattle.net_model.specs.Trace.{bytes_out, text}
 use Rattle.round_runner.specs.declared.outcome.RunEnd.{RunEnd}
 use Rattle.round_runner.specs.declared.outcome.RunEnd.TheVariants.{Quiet, Trapped, Stalled, Budget, ReadFault, WriteFault}
+use Rattle.round_runner.specs.Pulling.{NeedsPull}
 use Rattle.network_runner.specs.FromStart.{PlaysAndKeeps}
 use Rattle.network_job.specs.Files.{output_file}
 
@@ -88,12 +90,13 @@ pub record HasEnded {X : Type 0} (run : Setting X) (end : Line) (counts : Counts
   pub counted : IsCounted run.net run.inputs run.start (before ++ end ∷ []) last counts
   pub spent : end ≡ BudgetLine → counts.firings ≡ run.pace.budget
 
--- A feed couldn't be read: the lines are begun. They were written whole, and the numbers count them.
-pub record WasCut {X : Type 0} (run : Setting X) (counts : Counts) (channels : Channels) :
-    Type 0 where
+-- A feed couldn't be read: the lines are begun. The delivery behind them has to pull from this feed, so they are those of
+-- all rounds that were made. They were written whole, and the numbers count them.
+pub record WasCut {X : Type 0} (run : Setting X) (counts : Counts) (feed : ℕ) (feeds : Inputs) (channels : Channels) : Type 0 where
   pub lines : List Line
   pub reached : Moment X
   pub begun : IsBegun run.net run.pace run.start lines reached
+  pub needs : NeedsPull run.net run.inputs reached.state feed feeds
   pub permitted : ArePermitted run lines reached.state
   pub wrote : Wrote run lines reached.state channels
   pub counted : IsCounted run.net run.inputs run.start lines reached.state counts
@@ -127,7 +130,7 @@ ending_of (ReadFault feed) = Unread feed
 ending_of (WriteFault channel) = Unwritten channel
 
 -- what a run leaves
-abbrev pub LeavesRun : {X : Type 0} → Setting X → Ending → Counts → Channels → Type 0
-LeavesRun run (Came end) counts channels = HasEnded run end counts channels
-LeavesRun run (Unread feed) counts channels = WasCut run counts channels
-LeavesRun run (Unwritten channel) counts channels = WasBroken run channels
+abbrev pub LeavesRun : {X : Type 0} → Setting X → Ending → Counts → Inputs → Channels → Type 0
+LeavesRun run (Came end) counts feeds channels = HasEnded run end counts channels
+LeavesRun run (Unread feed) counts feeds channels = WasCut run counts feed feeds channels
+LeavesRun run (Unwritten channel) counts feeds channels = WasBroken run channels

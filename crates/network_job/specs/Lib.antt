@@ -3,3 +3,4 @@ pub mod Files
 pub mod Leaving
 pub mod Answering
 pub mod Preparing
+pub mod Arriving

@@ -4,6 +4,7 @@ ghost use Rattle.std.specs.Prelude.{◌≡◌, ◌≢◌, ◌≤◌, ℕ, List, 
 ghost use Rattle.net_model.specs.Network.{Network};
 ghost use Rattle.net_model.specs.Ready.{given_state};
 ghost use Rattle.network_job.specs.Answering.{EndIsCaused, IfStarted, IfUnstarted, IsPermitted, IsRefused, IsUnread, IsUnwritten, LeavesJob, OnRefused, OnUnread, OnUnwritten};
+ghost use Rattle.network_job.specs.Arriving.{ArriveInEach};
 ghost use Rattle.network_job.specs.Files.{AreInputs, Keeps, OpensOnly, WritesOnly};
 ghost use Rattle.network_job.specs.Leaving.{setting_of};
 ghost use Rattle.network_job.specs.Network.{CanRunAll, IsNetworkOf, in_names, out_names, plan_of, words_of};
@@ -49,8 +50,10 @@ fn run_by<R: Threads + Sync, A: Firing + Send, P: Policy, F: Feeds, D: Drains, G
         → AreInputs inputs flat.now.links.items (in_names flat.now) (words_of job.now)
         (F.feeds feeds.old)
         → LeavesJob (setting_of net inputs (given_state net (map A.cell cells.items) inputs) job.now)
-        result (D.channels drains.new) }
+        result (F.feeds feeds.new) (D.channels drains.new) }
     ensures within { IfOk result (λ outcome. outcome.counts.firings ≤ job.now.budget) }
+    ensures arrive { IfOk result (λ outcome. ArriveInEach (G.arrived gate.now) job.now
+        (length cells.items) outcome.counts) }
 
     // When each answer comes, and what it says.
     ensures permitted { IfStarted result (IsPermitted flat.now job.now) }
@@ -101,10 +104,12 @@ fn run_by<R: Threads + Sync, A: Firing + Send, P: Policy, F: Feeds, D: Drains, G
 /// - `leaves`: for each network of these cells, and over the bytes that feeds tell under the files of its inputs (an input
 ///   that no word names has none): if the run came to its end, the trace's channel holds the text of paced lines, the last
 ///   of which is that end, the channel of each output that has a file holds the bytes of what was sent to it, the numbers
-///   count these lines, and no channel of another output was opened. If a feed couldn't be read the lines are begun. If a
-///   channel couldn't be opened or written, each that was opened has a prefix of what begun or paced lines give.
+///   count these lines, and no channel of another output was opened. If a feed couldn't be read the lines are begun, and they
+///   are those of all rounds that were made: the delivery behind them is the one that has to pull from that feed. If a channel
+///   couldn't be opened or written, each that was opened has a prefix of what begun or paced lines give.
 /// - `permitted`: if anything was opened, each port word names a port of its own, and the links don't grow too far.
 /// - `within`: no more firings were made than the job permits.
+/// - `arrive`: in each round that was made, each worker that worked has arrived at the gate.
 /// - `faults`: a run ends by a feed or a channel only if that was counted, and only by one that was opened.
 /// - `other_feeds`, `other_channels` and `report`: no other feed was opened, and no other channel was opened or written; so
 ///   channel 0 is as it was.
@@ -143,8 +148,10 @@ pub fn run_network<R: Threads + Sync, A: Firing + Send, F: Feeds, D: Drains, G: 
         → AreInputs inputs flat.now.links.items (in_names flat.now) (words_of job.now)
         (F.feeds feeds.old)
         → LeavesJob (setting_of net inputs (given_state net (map A.cell cells.items) inputs) job.now)
-        result (D.channels drains.new) }
+        result (F.feeds feeds.new) (D.channels drains.new) }
     ensures within { IfOk result (λ outcome. outcome.counts.firings ≤ job.now.budget) }
+    ensures arrive { IfOk result (λ outcome. ArriveInEach (G.arrived gate.now) job.now
+        (length cells.items) outcome.counts) }
 
     // When each answer comes, and what it says.
     ensures permitted { IfStarted result (IsPermitted flat.now job.now) }

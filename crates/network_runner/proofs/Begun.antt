@@ -40,7 +40,7 @@ use Rattle.round_runner.specs.declared.outcome.Plan.{Plan}
 use Rattle.round_runner.specs.Running.{AreFedBy, ComesBy, ComesNow, HasRest, Running, StandsWith, feed_of, has_feed}
 use Rattle.network_runner.specs.declared.sending.Outlet.{Outlet}
 use Rattle.network_runner.specs.Asking.{Begins, CanRun, HasInput, HasInputOn, IsAtStart, growth_left, kinds_of, seen_run}
-use Rattle.network_runner.specs.Keeping.{GivesWithin, GoesOn, HasParts, HaveJournals, IsOpenLink, ReaderFits, running_of}
+use Rattle.network_runner.specs.Keeping.{GivesWithin, GoesOn, HasParts, HaveJournals, IsOpenLink, ReaderFits, ReadsKind, running_of}
 use Rattle.network_runner.specs.Making.{AreOutletsOf, AreReadersOf, CountNothing, HasKind, IsReaderOf, ReadsAt}
 use Rattle.network_runner.specs.Sending.{HasOutlet}
 use Rattle.network_runner.proofs.Held.{growth_most}
@@ -152,6 +152,17 @@ fits_reader true ports opens link None has is = absurd (not_both (has_feed opens
 fits_reader true ports opens link (Some reading) has is = tt
 fits_reader false ports opens link None has is = tt
 fits_reader false ports opens link (Some reading) has is = absurd (not_both (has_feed opens link.from) has is.0)
+
+is_reader : (ports : List Port) (opens : List Bool) (link : Link) (reading : Reading) → IsReaderOf ports opens link (Some reading) → ReadsAt ports link.from reading
+is_reader ports opens link reading is = is.1
+
+reads_kind : (ports : List Port) (end : End) (reading : Reading) → ReadsAt ports end reading → ReadsKind (kinds_of ports) end reading.kind
+reads_kind ports (AtLeaf inst port) reading reads = reads
+reads_kind ports (AtNet port) reading reads = by_port (slice_get ports port) refl reads
+  where
+    by_port : (o : Option Port) → slice_get ports port ≡ o → HasKind o reading → slice_get (kinds_of ports) port ≡ Some reading.kind
+    by_port None at has = absurd has
+    by_port (Some found) at has = map_at (λ (p : Port). p.kind) ports port found at ∙ ap Some (sym has)
 
 -- A run may begin from cells as they are given.
 
@@ -304,6 +315,7 @@ module _ {C X : Type 0} (cell : C → Cell X) (cells : List C) (wiring : Wiring)
           (as_many_outlets ∙ sym (outs_are can.net (map cell cells) wiring can.is_of)) (wired_link l link at).to_port (wired_link l link at).inside outlets refl;
       reader_for_each = readers_are.count;
       readers = λ l link reader at here. fits_reader (has_feed wiring.open_ins.items link.from) wiring.ins.items wiring.open_ins.items link reader refl (readers_are.each l link reader at here);
+      kinds = λ l link reading at here. reads_kind wiring.ins.items link.from reading (is_reader wiring.ins.items wiring.open_ins.items link reading (readers_are.each l link (Some reading) at here));
       bursts = can.bursts;
       arrived_for_each = ap length counts_are.arrived ∙ length-replicate (length wiring.links.items) 0;
       rest_for_each = ap length counts_are.rests ∙ length-replicate (length wiring.links.items) 0;
@@ -399,12 +411,14 @@ module _ {C X : Type 0} (cell : C → Cell X) (cells : List C) (wiring : Wiring)
       kind_is = refl;
       burst = refl;
       grow = refl;
+      workers = refl;
       rounds = counts_are.rounds;
       idle = refl;
       unread = unread;
       no_lines = no_trace;
       no_output = no_output;
       no_firings = counts_are.firings;
+      no_rounds = counts_are.rounds;
       going = refl;
       states = at_start starts lawful;
     }

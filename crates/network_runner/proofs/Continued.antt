@@ -320,11 +320,12 @@ module _ {X : Type 0} (net : Network X) (inputs : List (List ℕ)) (budget left 
     no_bytes p = ap (λ ts. out_bytes net p s (sent_to p net.links so_far.reached.flows) ++ all_encoded (kind_at net.outs p) ts) (drop_all (sent_to p net.links so_far.reached.flows))
         ∙ append-nil (out_bytes net p s (sent_to p net.links so_far.reached.flows))
 
-    run_cut : CutOff net so_far.reached now next mid new → EndedEarly net inputs budget s run next old new
-    run_cut cut = record {
+    run_cut : (feed : ℕ) (feeds_new : Inputs) → CutOff net inputs so_far.reached feed now next feeds_new mid new → EndedEarly net inputs budget s feed run next feeds_new old new
+    run_cut feed feeds_new cut = record {
       blocks = so_far.blocks;
       last = so_far.reached;
       begun = (moment_of now so_far.reached left, so_far.rounds, refl);
+      needs = cut.needs;
       wrote = record {
         trace = subst (λ t. Appends 1 old new (run.trace ++ t)) (append-nil (text_of (all_lines so_far.blocks)))
             (then_all 1 old mid new run.trace now.trace (text_of (all_lines so_far.blocks)) tells so_far.trace [] cut.trace);
@@ -365,10 +366,10 @@ module _ {X : Type 0} (net : Network X) (inputs : List (List ℕ)) (budget left 
     }
 
     -- what the last round leaves is what the run leaves
-    pub run_ends : (how : RunEnd) (feeds_new : Inputs) → Leaves net inputs budget left so_far.reached (round.End how) now next feeds_new mid new → RunLeaves net inputs budget s how run next old new
+    pub run_ends : (how : RunEnd) (feeds_new : Inputs) → Leaves net inputs budget left so_far.reached (round.End how) now next feeds_new mid new → RunLeaves net inputs budget s how run next feeds_new old new
     run_ends end.Quiet feeds_new leaves = run_closes end.Quiet leaves
     run_ends (end.Trapped inst action trap) feeds_new leaves = run_closes (end.Trapped inst action trap) leaves
     run_ends (end.Stalled inst action link) feeds_new leaves = run_closes (end.Stalled inst action link) leaves
     run_ends end.Budget feeds_new leaves = run_closes end.Budget leaves
-    run_ends (end.ReadFault feed) feeds_new leaves = run_cut leaves
+    run_ends (end.ReadFault feed) feeds_new leaves = run_cut feed feeds_new leaves
     run_ends (end.WriteFault channel) feeds_new leaves = ⊎_elim run_breaks run_breaks_round leaves

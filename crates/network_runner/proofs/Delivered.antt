@@ -33,7 +33,7 @@ pub delivery_is : {X : Type 0} (net : Network X) (s : State X) → after_inputs 
 delivery_is net s = ap (λ flows. record s { flows = flows }) (both net.links s.flows)
 
 -- an input link isn't changed inside
-inside_same : {X : Type 0} (net : Network X) (s : State X) (l : ℕ) (link : Link) → slice_get net.links l ≡ Some link → is_input link ≡ true
+pub inside_same : {X : Type 0} (net : Network X) (s : State X) (l : ℕ) (link : Link) → slice_get net.links l ≡ Some link → is_input link ≡ true
     → slice_get (after_inside net s).flows l ≡ slice_get s.flows l
 inside_same net s l link at input = by_place l net.links s.flows at
   where

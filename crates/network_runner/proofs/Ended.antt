@@ -63,15 +63,16 @@ module _ {X : Type 0} (net : Network X) (inputs : List (List ℕ)) (budget left 
     };
   })
 
-  cut_put : CutSoFar net s run mid old now → PutsAll mid now last → CutOff net s run new old last
-  cut_put cut puts = record {
+  cut_put : (feed : ℕ) (feeds : Inputs) → CutSoFar net inputs s feed run mid feeds old now → PutsAll mid now last → CutOff net inputs s feed run new feeds old last
+  cut_put feed feeds cut puts = record {
+    needs = cut.needs;
     trace = all_put 1 old now last run.trace mid.trace [] tells cut.trace puts.trace;
     outputs = outs_all (λ p. sent_to p net.links s.flows) cut.outputs puts;
     counts = counts ∙ cut.counts;
   }
 
-  cut_broken : CutSoFar net s run mid old now → PutsFronts mid now last → BrokenOff net budget left s run old last
-  cut_broken cut puts = inl (record {
+  cut_broken : (feed : ℕ) (feeds : Inputs) → CutSoFar net inputs s feed run mid feeds old now → PutsFronts mid now last → BrokenOff net budget left s run old last
+  cut_broken feed feeds cut puts = inl (record {
     trace = front_put 1 old now last run.trace mid.trace [] tells cut.trace puts.trace;
     outputs = outs_front (λ p. sent_to p net.links s.flows) cut.outputs puts;
   })
@@ -100,6 +101,6 @@ module _ {X : Type 0} (net : Network X) (inputs : List (List ℕ)) (budget left 
   leaves_put (round.End (end.Stalled inst action link)) result feeds so_far puts same =
       by_end (end.Stalled inst action link) result feeds (closed_put (end.Stalled inst action link) so_far) (closed_broken (end.Stalled inst action link) so_far) puts
   leaves_put (round.End end.Budget) result feeds so_far puts same = by_end end.Budget result feeds (closed_put end.Budget so_far) (closed_broken end.Budget so_far) puts
-  leaves_put (round.End (end.ReadFault feed)) result feeds so_far puts same = by_end (end.ReadFault feed) result feeds (cut_put so_far) (cut_broken so_far) puts
+  leaves_put (round.End (end.ReadFault feed)) result feeds so_far puts same = by_end (end.ReadFault feed) result feeds (cut_put feed feeds so_far) (cut_broken feed feeds so_far) puts
   leaves_put (round.End (end.WriteFault channel)) result feeds so_far puts same =
       subst (λ a. Leaves net inputs budget left s a run new feeds old last) (sym puts.0) (subst (λ c. BrokenOff net budget left s run old c) (sym puts.1) so_far)

@@ -23,7 +23,7 @@ use Rattle.net_state.proofs.Gaining.{get_set_other, get_set_same, same_actor, so
 use Rattle.net_state.proofs.Coming.{by_bool, if_true, if_false}
 use Rattle.net_state.proofs.Kept.{same_then}
 use Rattle.round_runner.specs.Running.{AreFedBy, ComesBy, ComesNow, HasRest, count_inputs, feed_of}
-use Rattle.network_runner.specs.Filling.{CameOn, Fills, FillsOne, IsFeedOf, IsFilledOn, IsFullOrAll, ReadersFit, SameOpen, after_inputs, input_delivered, next_feed, with_flow}
+use Rattle.network_runner.specs.Filling.{CameOn, Fills, FillsOne, IsFeedOf, IsFilledOn, IsFullOrAll, ReadersFit, SameOpen, after_inputs, input_delivered, kind_read, next_feed, with_flow}
 
 -- Feeds are numbered upward.
 
@@ -54,7 +54,7 @@ beyond [] (suc l) few = refl
 beyond (x ∷ xs) zero few = absurd (omega (arith, few))
 beyond (x ∷ xs) (suc l) few = ap (λ ys. x ∷ ys) (beyond xs l (omega (arith, few)))
 
-some_at : {A : Type 0} (xs : List A) (k : ℕ) → k < length xs → (x : A) × (slice_get xs k ≡ Some x)
+pub some_at : {A : Type 0} (xs : List A) (k : ℕ) → k < length xs → (x : A) × (slice_get xs k ≡ Some x)
 some_at [] k low = absurd (omega (arith, low))
 some_at (x ∷ xs) zero low = (x, refl)
 some_at (x ∷ xs) (suc k) low = some_at xs k (omega (arith, low))
@@ -115,7 +115,7 @@ all_filled (suc n) (link ∷ links) (flow ∷ flows) few same =
     ap (λ fs. input_delivered link flow ∷ fs) (all_filled n links flows (omega (arith, few)) (omega (arith, same)))
 
 -- the flow of a link that wasn't filled yet
-ahead_filled : (n k : ℕ) (links : List Link) (flows : List Flow) → n ≤ k → slice_get (fill_flows n links flows) k ≡ slice_get flows k
+pub ahead_filled : (n k : ℕ) (links : List Link) (flows : List Flow) → n ≤ k → slice_get (fill_flows n links flows) k ≡ slice_get flows k
 ahead_filled n k [] flows high = refl
 ahead_filled n k (link ∷ links) [] high = refl
 ahead_filled zero k (link ∷ links) (flow ∷ flows) high = refl
@@ -150,6 +150,7 @@ pub record IsFilling {X : Type 0} (l feed : ℕ) (links : List Link) (old now : 
   pub fit : ReadersFit links readings feeds
   pub same_open : SameOpen fo feeds
   pub as_there : map is_some readings ≡ map is_some before
+  pub kinds : map kind_read readings ≡ map kind_read before
   pub as_many : length came ≡ length came_old
   pub actors : SameActors old.cells now.cells
   pub marks : SameMarks old.cells now.cells
@@ -372,6 +373,7 @@ filling_starts links held readings feeds came fit = record {
   fit = fit;
   same_open = record { same_names = λ name. refl; same_first = refl; same_open = λ feed. refl; faults_stay = omega arith };
   as_there = refl;
+  kinds = refl;
   as_many = refl;
   actors = record { count = refl; each = λ i before after was is. subst (IsSameActor before) (some_is before after (sym was ∙ is)) (same_actor before) };
   marks = λ i before after was is. ap (λ cell. cell.trapped) (some_is after before (sym is ∙ was));
@@ -386,6 +388,13 @@ still_there : (readings : List (Option Reading)) (l : ℕ) (reader after : Optio
 still_there [] l reader after at same = refl
 still_there (first ∷ readings) zero reader after at same = ap (λ b. b ∷ map is_some readings) (same ∙ ap is_some (sym (some_is first reader at)))
 still_there (first ∷ readings) (suc l) reader after at same = ap (λ bs. is_some first ∷ bs) (still_there readings l reader after at same)
+
+-- and it reads tokens of the same type
+still_kinds : (readings : List (Option Reading)) (l : ℕ) (reader after : Option Reading) → slice_get readings l ≡ Some reader → kind_read after ≡ kind_read reader
+    → map kind_read (slice_set readings l after) ≡ map kind_read readings
+still_kinds [] l reader after at same = refl
+still_kinds (first ∷ readings) zero reader after at same = ap (λ k. k ∷ map kind_read readings) (same ∙ ap kind_read (sym (some_is first reader at)))
+still_kinds (first ∷ readings) (suc l) reader after at same = ap (λ ks. kind_read first ∷ ks) (still_kinds readings l reader after at same)
 
 opens_then : (feed : ℕ) (a b c : Inputs) → 0 ≢ feed → SameOpen a b → PullsOnlyAt feed b c → SameOpen a c
 opens_then feed a b c other so_far pulls = record {
@@ -431,6 +440,9 @@ module _ {X : Type 0} (l feed : ℕ) (links : List Link) (old now new : Held (Ce
     pub there_after : map is_some (slice_set readings l after) ≡ map is_some before
     there_after = still_there readings l reader after there still ∙ so_far.as_there
 
+    pub kinds_after : kind_read after ≡ kind_read reader → map kind_read (slice_set readings l after) ≡ map kind_read before
+    kinds_after same = still_kinds readings l reader after there same ∙ so_far.kinds
+
     pub open_after : SameOpen fo fn
     open_after = opens_then feed fo feeds fn (λ first. (let is : feed ≡ suc (count_inputs (take l links)) = so_far.feed_is in omega (arith, first, is))) so_far.same_open pulls
 
@@ -443,9 +455,9 @@ module _ {X : Type 0} (l feed : ℕ) (links : List Link) (old now new : Held (Ce
 
       pub filling_more : (filled : Filled) → FillsOne l feed now new reader after feeds fn filled → links ≡ old.links → length came_old ≡ length links
           → new.links ≡ now.links → new.capacities ≡ now.capacities → new.waited ≡ now.waited
-          → (d : Link) (next : ℕ) → next ≡ next_feed feed (slice_index_or links l d)
+          → (d : Link) (next : ℕ) → next ≡ next_feed feed (slice_index_or links l d) → kind_read after ≡ kind_read reader
           → IsFilling (l + 1) next links old new before (slice_set readings l after) fo fn came_old (slice_set came l filled)
-      filling_more filled fills links_is as_many same_links same_capacities same_waited d next next_is =
+      filling_more filled fills links_is as_many same_links same_capacities same_waited d next next_is same_kind =
           let link = slice_index_or links l d in
           let at : slice_get links l ≡ Some link = at_place links l d link low refl in
           record {
@@ -462,6 +474,7 @@ module _ {X : Type 0} (l feed : ℕ) (links : List Link) (old now new : Held (Ce
             fit = fit_after;
             same_open = open_after;
             as_there = there_after;
+            kinds = kinds_after same_kind;
             as_many = length-set came l filled ∙ so_far.as_many;
             actors = actors_after;
             marks = marks_after;

@@ -16,9 +16,10 @@ use Rattle.network_runner.specs.declared.sending.Outlet.{Outlet}
 use Rattle.network_runner.specs.Asking.{IsFeed}
 use Rattle.network_runner.specs.Counting.{arrived_with, rests_with}
 use Rattle.network_runner.specs.Delivering.{Delivers}
-use Rattle.network_runner.specs.Filling.{IsFeedOf, ReadersFit, SameOpen}
-use Rattle.network_runner.specs.Keeping.{HasParts, ReaderFits}
+use Rattle.network_runner.specs.Filling.{IsFeedOf, ReadersFit, SameOpen, kind_read}
+use Rattle.network_runner.specs.Keeping.{HasParts, ReaderFits, ReadsKind}
 use Rattle.network_runner.specs.Stepping.{DeliversRun}
+use Rattle.network_runner.proofs.Unread.{get_map, reading_there}
 
 pub as_many_cells : {A B : Type 0} (f : A → B) (xs ys : List A) → length (map f xs) ≡ length (map f ys) → length xs ≡ length ys
 as_many_cells f xs ys same = sym (length-map xs f) ∙ (same ∙ length-map ys f)
@@ -96,10 +97,10 @@ fits_alike false (Some other) None same fits = cc
 fits_alike false (Some other) (Some reading) same fits = fits
 
 pub parts_kept : {C : Type 0} (old new : Running C) (links : List Link) (outlets : List Outlet) (came came_now n n_now cells : ℕ) → new.held.links ≡ links → length new.held.cells ≡ length old.held.cells
-    → came_now ≡ came → n_now ≡ n → map is_some new.readings ≡ map is_some old.readings → new.reads ≡ old.reads → new.burst ≡ old.burst → new.grow ≡ old.grow
+    → came_now ≡ came → n_now ≡ n → map is_some new.readings ≡ map is_some old.readings → map kind_read new.readings ≡ map kind_read old.readings → new.ins ≡ old.ins → new.reads ≡ old.reads → new.burst ≡ old.burst → new.grow ≡ old.grow
     → length new.counts.arrived.items ≡ length old.counts.arrived.items → length new.counts.rests.items ≡ length old.counts.rests.items → length new.counts.sent.items ≡ length old.counts.sent.items
     → HasParts old links outlets came n cells → HasParts new links outlets came_now n_now cells
-parts_kept old new links outlets came came_now n n_now cells links_are count came_is n_is there reads burst grow arrived rests sent parts = record {
+parts_kept old new links outlets came came_now n n_now cells links_are count came_is n_is there kinds ins reads burst grow arrived rests sent parts = record {
   links_are = links_are;
   few_links = parts.few_links;
   cells_are = parts.cells_are ∙ sym count;
@@ -113,6 +114,9 @@ parts_kept old new links outlets came came_now n n_now cells links_are count cam
   readers = λ l link reader at here.
       let was = there_alike new.readings old.readings l reader there here in
       subst (λ rs. ReaderFits (has_feed rs link.from) reader) (sym reads) (fits_alike (has_feed old.reads link.from) was.0 reader was.2 (parts.readers l link was.0 at was.1));
+  kinds = λ l link reading at here.
+      let was = reading_there old.readings l reading.kind (ap (λ ks. slice_get ks l) (sym kinds) ∙ get_map kind_read new.readings l (Some reading) here) in
+      subst (λ is. ReadsKind is link.from reading.kind) (sym ins) (subst (ReadsKind old.ins link.from) was.2 (parts.kinds l link was.0 at was.1));
   bursts = subst (λ b. (1 ≤ b) × (b ≤ 65536)) (sym burst) parts.bursts;
   arrived_for_each = arrived ∙ parts.arrived_for_each;
   rest_for_each = rests ∙ parts.rest_for_each;

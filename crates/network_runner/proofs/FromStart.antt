@@ -2,6 +2,7 @@
 use Rattle.std.proofs.Common.{◌≡◌, ◌⊎◌, ⊎_elim, inl, inr, ℕ, Bool, false, List, [], ◌∷◌, ◌++◌, refl, sym, ap, subst, ◌∙◌, append_assoc, append-nil}
 use Rattle.std.specs.Prelude.{Option, None, Some, option_to_list}
 use Rattle.rvc_io.specs.Channels.{Channels}
+use Rattle.rvc_io.specs.Feeds.{Inputs}
 use Rattle.trace_text.specs.declared.line.Line.{Line}
 use Rattle.trace_text.specs.declared.line.Line.TheVariants.{Deliver as DeliverLine}
 use Rattle.net_model.specs.Network.{Network}
@@ -14,11 +15,12 @@ use Rattle.round_runner.specs.declared.outcome.RoundEnd.TheVariants as round
 use Rattle.round_runner.specs.declared.outcome.RunEnd.{RunEnd}
 use Rattle.round_runner.specs.declared.outcome.RunEnd.TheVariants as end
 use Rattle.round_runner.specs.Rounds.{AreBegunBy, Answers, Breaks, Ended, EndedEarly, RunLeaves, RunWrote, all_lines}
+use Rattle.round_runner.specs.Pulling.{NeedsPull}
 use Rattle.round_runner.specs.Running.{Running, moment_of, pace_of}
 use Rattle.network_runner.specs.FromStart.{EndsBy, HasMadeNone, PlaysAndKeeps, RunsArePaced, RunsBroken, RunsFromStart, RunsShort, RunsWhole, WritesWhole}
 use Rattle.network_runner.proofs.Continued.{lines_more, rounds_more}
 
-module _ {X : Type 0} (net : Network X) (inputs : List (List ℕ)) (budget : ℕ) (s : State X) (run new : Running (Cell X)) (old now : Channels) (none : HasMadeNone net inputs run s) where
+module _ {X : Type 0} (net : Network X) (inputs : List (List ℕ)) (budget : ℕ) (s : State X) (run new : Running (Cell X)) (feeds : Inputs) (old now : Channels) (none : HasMadeNone net inputs run s) where
   first_is : moment_of run s budget ≡ first_moment (pace_of run budget) s
   first_is = by_parts run.rounds run.idle none.rounds none.idle
     where
@@ -78,13 +80,14 @@ module _ {X : Type 0} (net : Network X) (inputs : List (List ℕ)) (budget : ℕ
         wrote = writes_whole ended.last (all_lines ended.blocks ++ lines_of ended.final) ended.wrote;
       }
 
-  runs_short : EndedEarly net inputs budget s run new old now → RunsShort net inputs budget s run new old now
-  runs_short early =
+  runs_short : (feed : ℕ) → EndedEarly net inputs budget s feed run new feeds old now → RunsShort net inputs budget s feed run new feeds old now
+  runs_short feed early =
       let begun : IsBegun net (pace_of run budget) s (all_lines early.blocks) early.begun.0 = begins early.blocks early.begun.0 early.begun.1 in
       record {
         lines = all_lines early.blocks;
         reached = early.begun.0;
         begun = begun;
+        needs = subst (λ u. NeedsPull net inputs u feed feeds) (sym early.begun.2) early.needs;
         permitted = begun_permitted (all_lines early.blocks) early.begun.0 begun;
         wrote = subst (λ u. WritesWhole net inputs s u (all_lines early.blocks) run new old now) (sym early.begun.2) (writes_whole early.last (all_lines early.blocks) early.wrote);
       }
@@ -132,13 +135,13 @@ module _ {X : Type 0} (net : Network X) (inputs : List (List ℕ)) (budget : ℕ
       })
       (is_over final.close)
 
-  from_start : (how : RunEnd) → RunLeaves net inputs budget s how run new old now → RunsFromStart net inputs budget s how run new old now
+  from_start : (how : RunEnd) → RunLeaves net inputs budget s how run new feeds old now → RunsFromStart net inputs budget s how run new feeds old now
   from_start end.Quiet leaves = runs_whole end.Quiet leaves
   from_start (end.Trapped inst action trap) leaves = runs_whole (end.Trapped inst action trap) leaves
   from_start (end.Stalled inst action link) leaves = runs_whole (end.Stalled inst action link) leaves
   from_start end.Budget leaves = runs_whole end.Budget leaves
-  from_start (end.ReadFault feed) leaves = runs_short leaves
+  from_start (end.ReadFault feed) leaves = runs_short feed leaves
   from_start (end.WriteFault channel) leaves = runs_broken leaves.blocks leaves.final leaves.last leaves.begun leaves.breaks
 
 pub runs_are_paced : (X : Type 0) → RunsArePaced X
-runs_are_paced X net inputs budget s how run new old now none leaves = from_start net inputs budget s run new old now none how leaves
+runs_are_paced X net inputs budget s how run new feeds old now none leaves = from_start net inputs budget s run new feeds old now none how leaves

@@ -224,4 +224,5 @@ run_then a b c one two = record {
   same_kind = two.same_kind ∙ one.same_kind;
   same_burst = two.same_burst ∙ one.same_burst;
   same_grow = two.same_grow ∙ one.same_grow;
+  same_workers = two.same_workers ∙ one.same_workers;
 }

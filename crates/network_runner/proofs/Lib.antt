@@ -27,3 +27,5 @@ pub mod Continued
 pub mod Begun
 pub mod Onward
 pub mod FromStart
+pub mod Unread
+pub mod Arrived

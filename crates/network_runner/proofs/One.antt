@@ -100,7 +100,7 @@ stays_unfed link flow none = by_bool (is_input link)
 
 -- A link without a feed.
 
-unarrived_at : {o : Option Flow} (flow : Flow) → o ≡ Some flow → unarrived o ≡ drop flow.arrived flow.sent
+pub unarrived_at : {o : Option Flow} (flow : Flow) → o ≡ Some flow → unarrived o ≡ drop flow.arrived flow.sent
 unarrived_at flow there = ap unarrived there
 
 pub one_unfed : {X : Type 0} (l feed : ℕ) (held : Held (Cell X)) (feeds : Inputs) → FillsOne l feed held held None None feeds feeds (record { tokens = 0; rest = None })
@@ -131,10 +131,10 @@ is_input_of : (o : Option Link) (link : Link) → IsInputLink o → o ≡ Some l
 is_input_of None link is at = absurd is
 is_input_of (Some other) link is at = ap is_input (sym (some_is other link at)) ∙ is
 
-fed_at : {X : Type 0} (s : State X) (l : ℕ) (o : Option Link) (link : Link) (feed : Inflow) → o ≡ Some link → IsFed s l (Some link) feed → IsFed s l o feed
+pub fed_at : {X : Type 0} (s : State X) (l : ℕ) (o : Option Link) (link : Link) (feed : Inflow) → o ≡ Some link → IsFed s l (Some link) feed → IsFed s l o feed
 fed_at s l o link feed at fed = subst (λ p. IsFed s l p feed) (sym at) fed
 
-is_fed_at : {X : Type 0} (s : State X) (l : ℕ) (o : Option Link) (link : Link) (feed : Inflow) → o ≡ Some link → IsFed s l o feed → IsFed s l (Some link) feed
+pub is_fed_at : {X : Type 0} (s : State X) (l : ℕ) (o : Option Link) (link : Link) (feed : Inflow) → o ≡ Some link → IsFed s l o feed → IsFed s l (Some link) feed
 is_fed_at s l o link feed at fed = subst (λ p. IsFed s l p feed) at fed
 
 -- no token is left on the feed
@@ -144,11 +144,11 @@ none_to_come kind rest (Some bytes) ts ends come = sym come ∙ ends.0
 
 module _ {X : Type 0} (net : Network X) (held : Held (Cell X)) (s : State X) (stands : StandsIn net held s) (wired : IsWired net)
     (l : ℕ) (link : Link) (flow : Flow) (at : slice_get net.links l ≡ Some link) (there : slice_get s.flows l ≡ Some flow) where
-  is_held : IsHeld held.cells link flow (slice_index_or held.capacities l 0)
+  pub is_held : IsHeld held.cells link flow (slice_index_or held.capacities l 0)
   is_held = stands.stands.flows.each l link flow at there
 
   -- how many wait before the port
-  waits_at : (i p : ℕ) → link.to ≡ AtLeaf (record { 0 = i }) p → length (tokens_of (slice_get held.cells i) p) ≡ untaken flow
+  pub waits_at : (i p : ℕ) → link.to ≡ AtLeaf (record { 0 = i }) p → length (tokens_of (slice_get held.cells i) p) ≡ untaken flow
   waits_at i p to =
       let on = reader_there net held.cells held.links stands.is_of i p (subst (LeadsToPort net) to (wired.joined l link at).to_port) in
       ap (λ o. length (tokens_of o p)) on.1
@@ -175,7 +175,7 @@ module _ {X : Type 0} (net : Network X) (held : Held (Cell X)) (s : State X) (st
       (subst (λ k. AtPort k (λ that j q. IsFilled feed.kind j q (slice_index_or held.capacities l 0) rest held.cells feed.bytes) other.to) same full)
 
 -- the remainder of what is to come
-rest_after : (kind : Scalar) (rest : ℕ) (before after : Option (List ℕ)) → HasRest kind rest before → SameRest kind before after → HasRest kind rest after
+pub rest_after : (kind : Scalar) (rest : ℕ) (before after : Option (List ℕ)) → HasRest kind rest before → SameRest kind before after → HasRest kind rest after
 rest_after kind rest None after has same = absurd has
 rest_after kind rest (Some bytes) None has same = absurd same
 rest_after kind rest (Some bytes) (Some left) has same = same ∙ has

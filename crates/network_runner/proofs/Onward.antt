@@ -14,15 +14,17 @@ use Rattle.round_runner.specs.declared.outcome.RunEnd.{RunEnd}
 use Rattle.round_runner.specs.declared.outcome.RunEnd.TheVariants as end
 use Rattle.round_runner.specs.Rounds.{Leaves, Made}
 use Rattle.round_runner.specs.Running.{FeedsFit, Running, StandsWith, feed_of, has_feed}
+use Rattle.network_runner.specs.Arriving.{ArriveBy, RunArrives}
 use Rattle.network_runner.specs.Asking.{Advances, ChannelsFit, EndLeaves, FaultIsTrue, FiringsTo, IsFeed, IsSameRun, IsUntouched, RoundLeaves, WritesWithin, end_of, growth_left, one_if, seen_run}
 use Rattle.network_runner.specs.Filling.{SameOpen}
+use Rattle.network_runner.proofs.Arrived.{ArriveSoFar, arrive_all, arrive_more, arrive_none}
 use Rattle.network_runner.proofs.Continued.{RunSoFar, left_after, run_ends, run_goes_on, run_starts}
 use Rattle.network_runner.proofs.Finished.{within_then}
 use Rattle.network_runner.proofs.Going.{run_then}
 use Rattle.network_runner.proofs.Whole.{channel_too, within_too}
 
 -- From each state at which it stood, rounds were made that didn't end it. If it had ended before, nothing was touched.
-pub record IsOnward {C S T X : Type 0} (cell : C → Cell X) (feeds : S → Inputs) (channels : T → Channels) (old now : Running C) (feeds_old feeds_now : S) (drains_old drains_now : T) (budget left : ℕ) : Type 0 where
+pub record IsOnward {C S T X : Type 0} (cell : C → Cell X) (feeds : S → Inputs) (channels : T → Channels) (arrived : ℕ → ℕ → Type 0) (old now : Running C) (feeds_old feeds_now : S) (drains_old drains_now : T) (budget left : ℕ) : Type 0 where
   pub feeds_fit : FeedsFit now (feeds feeds_now)
   pub channels_fit : ChannelsFit now (channels drains_now)
   pub spent : now.counts.firings + left ≡ old.counts.firings + budget
@@ -33,6 +35,7 @@ pub record IsOnward {C S T X : Type 0} (cell : C → Cell X) (feeds : S → Inpu
   pub untouched : (how : RunEnd) → old.ended ≡ Some how → IsUntouched cell feeds channels old now feeds_old feeds_now drains_old drains_now
   pub states : old.ended ≡ None → (net : Network X) (inputs : List (List ℕ)) (s : State X) → StandsWith net inputs (seen_run cell old) (feeds feeds_old) s
       → RunSoFar net inputs budget left s (seen_run cell old) (seen_run cell now) (feeds feeds_now) (channels drains_old) (channels drains_now)
+  pub arrive : old.ended ≡ None → ArriveSoFar arrived old now budget left
 
 -- what is left to do
 abbrev pub still_to_do : {C : Type 0} → Running C → ℕ → ℕ
@@ -49,12 +52,13 @@ run_none run = record {
   same_kind = refl;
   same_burst = refl;
   same_grow = refl;
+  same_workers = refl;
 }
 
-pub onward_starts : {C S T X : Type 0} (cell : C → Cell X) (feeds : S → Inputs) (channels : T → Channels) (run : Running C) (feeds_now : S) (drains_now : T) (budget : ℕ)
+pub onward_starts : {C S T X : Type 0} (cell : C → Cell X) (feeds : S → Inputs) (channels : T → Channels) (arrived : ℕ → ℕ → Type 0) (run : Running C) (feeds_now : S) (drains_now : T) (budget : ℕ)
     → FeedsFit run (feeds feeds_now) → ChannelsFit run (channels drains_now)
-    → IsOnward cell feeds channels run run feeds_now feeds_now drains_now drains_now budget budget
-onward_starts cell feeds channels run feeds_now drains_now budget feeds_fit channels_fit = record {
+    → IsOnward cell feeds channels arrived run run feeds_now feeds_now drains_now drains_now budget budget
+onward_starts cell feeds channels arrived run feeds_now drains_now budget feeds_fit channels_fit = record {
   feeds_fit = feeds_fit;
   channels_fit = channels_fit;
   spent = refl;
@@ -64,6 +68,7 @@ onward_starts cell feeds channels run feeds_now drains_now budget feeds_fit chan
   going = λ e. e;
   untouched = λ how e. (refl, refl, refl);
   states = λ going net inputs s stands. run_starts net inputs budget s (seen_run cell run) (feeds feeds_now) (channels drains_now) stands;
+  arrive = λ going. arrive_none arrived run budget;
 }
 
 feeds_then : (a b c : Inputs) → SameOpen a b → SameOpen b c → SameOpen a c
@@ -104,14 +109,15 @@ feed_too now old feed links reads is = (
 )
 
 -- A round was made.
-module _ {C S T X : Type 0} (cell : C → Cell X) (feeds : S → Inputs) (channels : T → Channels) (old now next : Running C) (feeds_old feeds_now feeds_next : S) (drains_old drains_now drains_next : T) (budget left : ℕ) (answer : RoundEnd)
-    (onward : IsOnward cell feeds channels old now feeds_old feeds_now drains_old drains_now budget left)
+module _ {C S T X : Type 0} (cell : C → Cell X) (feeds : S → Inputs) (channels : T → Channels) (arrived : ℕ → ℕ → Type 0) (old now next : Running C) (feeds_old feeds_now feeds_next : S) (drains_old drains_now drains_next : T) (budget left : ℕ) (answer : RoundEnd)
+    (onward : IsOnward cell feeds channels arrived old now feeds_old feeds_now drains_old drains_now budget left)
     (leaves : RoundLeaves cell feeds channels now next feeds_now feeds_next drains_now drains_next left answer)
     (faults : now.ended ≡ None → FaultIsTrue cell feeds channels now next feeds_now feeds_next drains_now drains_next (end_of answer))
     (firings : now.ended ≡ None → FiringsTo answer now.counts.firings next.counts.firings)
     (within : next.counts.firings ≤ now.counts.firings + left)
     (ended : now.ended ≡ None → next.ended ≡ end_of answer)
     (advances : IfNone (end_of answer) (Advances now next))
+    (arrives : now.ended ≡ None → ArriveBy arrived answer left now next)
     (same_end : (how : RunEnd) → now.ended ≡ Some how → answer ≡ round.End how)
     (untouched : (how : RunEnd) → now.ended ≡ Some how → IsUntouched cell feeds channels now next feeds_now feeds_next drains_now drains_next)
     (same_run : IsSameRun (seen_run cell now) (seen_run cell next))
@@ -147,7 +153,7 @@ module _ {C S T X : Type 0} (cell : C → Cell X) (feeds : S → Inputs) (channe
       omega (arith, fired, within)
 
   pub onward_more : (left_new : ℕ) → end_of answer ≡ None → left_new ≡ left_after answer left
-      → IsOnward cell feeds channels old next feeds_old feeds_next drains_old drains_next budget left_new
+      → IsOnward cell feeds channels arrived old next feeds_old feeds_next drains_old drains_next budget left_new
   onward_more left_new going left_is = record {
     feeds_fit = feeds_fit;
     channels_fit = record {
@@ -167,6 +173,9 @@ module _ {C S T X : Type 0} (cell : C → Cell X) (feeds : S → Inputs) (channe
         let so_far = onward.states e net inputs s stands in
         run_goes_on net inputs budget left s (seen_run cell old) (seen_run cell now) (feeds feeds_now) (channels drains_old) (channels drains_now) so_far stands.stands.stands.flows.count onward.same_run onward.others.same_telling
         answer left_new (seen_run cell next) (feeds feeds_next) (channels drains_next) (made net inputs budget so_far.reached (leaves (not_ended going) net inputs budget so_far.reached so_far.stands)) going left_is;
+    arrive = λ e.
+        let now_is : next.counts.firings + left_after answer left ≡ now.counts.firings + left = firings_left answer left now.counts.firings next.counts.firings going (firings (not_ended going)) within in
+        arrive_more cell arrived old now budget left (onward.arrive e) onward.same_run next answer left_new going (arrives (not_ended going)) (ap (λ n. next.counts.firings + n) left_is ∙ now_is);
   }
     where
       made : (net : Network X) (inputs : List (List ℕ)) (most : ℕ) (reached : State X) → Leaves net inputs most left reached answer (seen_run cell now) (seen_run cell next) (feeds feeds_next) (channels drains_now) (channels drains_next)
@@ -201,6 +210,10 @@ module _ {C S T X : Type 0} (cell : C → Cell X) (feeds : S → Inputs) (channe
         (seen_run cell next) (channels drains_next) how (feeds feeds_next)
         (subst (λ a. Leaves net inputs budget left so_far.reached a (seen_run cell now) (seen_run cell next) (feeds feeds_next) (channels drains_now) (channels drains_next)) is
         (leaves (onward.going going) net inputs budget so_far.reached so_far.stands))
+
+    pub run_arrive : old.ended ≡ None → RunArrives arrived old next budget
+    run_arrive going = arrive_all cell arrived old now budget left (onward.arrive going) onward.same_run next onward.spent how
+        (subst (λ a. ArriveBy arrived a left now next) is (arrives (onward.going going)))
 
     later : (o : RunEnd) → FaultIsTrue cell feeds channels now next feeds_now feeds_next drains_now drains_next (Some o) → FaultIsTrue cell feeds channels old next feeds_old feeds_next drains_old drains_next (Some o)
     later (end.ReadFault feed) fault = (

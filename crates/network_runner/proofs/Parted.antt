@@ -48,6 +48,7 @@ module _ {C : Type 0} (held : Held C) (ins : List Port) (reads : List Bool) (out
     led_to = parts.led_to;
     reader_for_each = parts.reader_for_each;
     readers = parts.readers;
+    kinds = parts.kinds;
     bursts = parts.bursts;
     arrived_for_each = parts.arrived_for_each;
     rest_for_each = parts.rest_for_each;

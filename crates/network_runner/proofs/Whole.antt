@@ -2,6 +2,7 @@
 use Rattle.std.proofs.Common.{◌≡◌, ◌⊎◌, ℕ, ◌+◌, true, false, List, [], ◌∷◌, ◌++◌, length, drop, refl, sym, ap, subst, ◌∙◌, append-nil}
 use Rattle.std.specs.Prelude.{slice_index_or}
 use Rattle.rvc_io.specs.Channels.{Channels}
+use Rattle.rvc_io.specs.Feeds.{Inputs}
 use Rattle.channel_writer.specs.Held.{WritesOn}
 use Rattle.net_model.specs.Network.{Network, kind_at}
 use Rattle.net_model.specs.State.{State, sent_to}
@@ -11,6 +12,7 @@ use Rattle.net_model.specs.PortFile.{all_encoded}
 use Rattle.net_state.proofs.Gaining.{same_actor, some_is}
 use Rattle.round_runner.specs.declared.outcome.RoundEnd.{RoundEnd}
 use Rattle.round_runner.specs.Rounds.{text_of}
+use Rattle.round_runner.specs.Pulling.{NeedsPull}
 use Rattle.round_runner.specs.Running.{Running, buffer}
 use Rattle.network_runner.specs.Asking.{IsChannel, IsSameRun, WritesWithin, seen_run}
 use Rattle.network_runner.specs.Stepping.{CutSoFar, KeepsOthers, SendsFront, WritesFront, with_buffers}
@@ -35,6 +37,7 @@ run_written cell run trace buffers = record {
   same_kind = refl;
   same_burst = refl;
   same_grow = refl;
+  same_workers = refl;
 }
 
 pub others_seen : {C X : Type 0} (cell : C → Cell X) (run new : Running C) → KeepsOthers run new → KeepsOthers (seen_run cell run) (seen_run cell new)
@@ -57,8 +60,10 @@ pub drop_all : {A : Type 0} (xs : List A) → drop (length xs) xs ≡ []
 drop_all [] = refl
 drop_all (x ∷ xs) = drop_all xs
 
-pub cut_now : {X : Type 0} (net : Network X) (s : State X) (run new : Running (Cell X)) (old : Channels) → new.trace ≡ run.trace → new.buffers ≡ run.buffers → new.counts ≡ run.counts → CutSoFar net s run new old old
-cut_now net s run new old trace buffers counts = record {
+pub cut_now : {X : Type 0} (net : Network X) (inputs : List (List ℕ)) (s : State X) (feed : ℕ) (run new : Running (Cell X)) (feeds : Inputs) (old : Channels) → NeedsPull net inputs s feed feeds
+    → new.trace ≡ run.trace → new.buffers ≡ run.buffers → new.counts ≡ run.counts → CutSoFar net inputs s feed run new feeds old old
+cut_now net inputs s feed run new feeds old needs trace buffers counts = record {
+  needs = needs;
   trace = nothing 1 run.trace new.trace [] trace refl;
   outputs = λ p is. nothing (2 + p) (buffer run p) (buffer new p) (all_encoded (kind_at net.outs p) (drop (length (sent_to p net.links s.flows)) (sent_to p net.links s.flows))) (ap (λ bs. slice_index_or bs p []) buffers)
       (ap (all_encoded (kind_at net.outs p)) (drop_all (sent_to p net.links s.flows)));

@@ -42,6 +42,7 @@ seen_run cell run = record {
   kind = run.kind;
   burst = run.burst;
   grow = run.grow;
+  workers = run.workers;
   rounds = run.rounds;
   idle = run.idle;
   trace = run.trace;
@@ -107,6 +108,7 @@ pub record Begins {X : Type 0} (cells : List (Cell X)) (wiring : Wiring) (plan :
   pub kind_is : run.kind ≡ kind
   pub burst : run.burst ≡ plan.burst
   pub grow : run.grow ≡ plan.grow
+  pub workers : run.workers ≡ plan.workers
   pub rounds : run.rounds ≡ 0
   pub idle : run.idle ≡ false
   pub unread : (l : ℕ) (reading : Reading) → slice_get run.readings l ≡ Some (Some reading)
@@ -114,6 +116,7 @@ pub record Begins {X : Type 0} (cells : List (Cell X)) (wiring : Wiring) (plan :
   pub no_lines : run.trace ≡ []
   pub no_output : (p : ℕ) → buffer run p ≡ []
   pub no_firings : run.counts.firings ≡ 0
+  pub no_rounds : run.counts.rounds ≡ 0
   pub going : run.ended ≡ None
   pub states : (net : Network X) (inputs : List (List ℕ)) (feeds : Inputs)
       → IsNetworkOf net cells wiring → IsReady net plan.grow plan.burst cells
@@ -179,6 +182,7 @@ pub record IsSameRun {X : Type 0} (old new : Running (Cell X)) : Type 0 where
   pub same_kind : new.kind ≡ old.kind
   pub same_burst : new.burst ≡ old.burst
   pub same_grow : new.grow ≡ old.grow
+  pub same_workers : new.workers ≡ old.workers
 
 -- no channel was opened or closed, and those that don't belong to the run hold what they held
 pub record WritesWithin {C : Type 0} (run : Running C) (old new : Channels) : Type 0 where
@@ -217,4 +221,4 @@ module _ {C S T X : Type 0} (cell : C → Cell X) (feeds : S → Inputs) (channe
   EndLeaves budget how = old.ended ≡ None → (net : Network X) (inputs : List (List ℕ))
       (s : State X) → StandsWith net inputs (seen_run cell old) (feeds feeds_old) s
       → RunLeaves net inputs budget s how (seen_run cell old) (seen_run cell new)
-      (channels drains_old) (channels drains_new)
+      (feeds feeds_new) (channels drains_old) (channels drains_new)

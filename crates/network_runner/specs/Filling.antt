@@ -1,7 +1,7 @@
 -- What a delivery of the input links does: each is filled from its feed.
--- Trusted but for `with_flow`, `IsFullOrAll`, `IsFilledOn`, `FillsOne`, `FillsLink` and `next_feed`: part of what a
--- promise means.
-use Rattle.std.specs.Prelude.{◌≡◌, ◌⊎◌, ℕ, suc, ◌≤◌, Bool, true, false, List, length, Result, IfOk, OnOk, slice_get, slice_set, Option, None, Some, if◌then◌else◌}
+-- Trusted but for `with_flow`, `IsFullOrAll`, `IsFilledOn`, `FillsOne`, `FillsLink`, `FailsLink` and `next_feed`: part of
+-- what a promise means.
+use Rattle.std.specs.Prelude.{◌≡◌, ◌⊎◌, ℕ, suc, ◌≤◌, Bool, true, false, List, length, map, Result, IfOk, OnErr, OnOk, slice_get, slice_set, Option, None, Some, if◌then◌else◌}
 use Rattle.rvc_io.specs.Feeds.{Inputs}
 use Rattle.port_files.specs.Coming.{EndIsTrue, Reading}
 use Rattle.net_model.specs.declared.wiring.Link.{Link}
@@ -11,11 +11,14 @@ use Rattle.net_model.specs.Event.{each_flow}
 use Rattle.net_model.specs.Trace.{arrivals, delivered}
 use Rattle.net_model.specs.Cell.{Cell}
 use Rattle.net_model.specs.Counted.{is_short, rest_at}
+use Rattle.net_model.specs.PortFile.{token_bytes}
+use Rattle.rvc_base.specs.declared.scalar.Scalar.{Scalar}
 use Rattle.net_model.specs.Wired.{IsWired}
 use Rattle.net_state.specs.declared.filling.Filled.{Filled}
 use Rattle.net_state.specs.Held.{Held, seen}
-use Rattle.net_state.specs.Standing.{StandsSince}
+use Rattle.net_state.specs.Standing.{StandsIn, StandsSince}
 use Rattle.net_state.specs.Working.{AreFed, IsAtRest}
+use Rattle.round_runner.specs.Pulling.{PullIsDue}
 use Rattle.round_runner.specs.Running.{AreFedBy, ComesNow, feed_of}
 
 -- a delivery of the input links alone
@@ -69,6 +72,59 @@ pub record FillsOne {X : Type 0} (l feed : ℕ) (old new : Held (Cell X)) (befor
       → (is_input link ≡ true → ComesNow s l link feed rest before feeds_old)
       → IsFilledOn net s l feed rest link flow new after feeds_new filled
   pub rests : IsAtRest old → IsAtRest new
+
+-- A feed couldn't be read.
+
+-- the type of the tokens of a reader, if there is one
+abbrev pub kind_read : Option Reading → Option Scalar
+kind_read None = None
+kind_read (Some reading) = Some reading.kind
+
+-- a pull is due from a feed, of which this is left
+abbrev pub IsDueFrom : (kind : Scalar) (rest : ℕ) → Flow → Option (List ℕ) → Type 0
+IsDueFrom kind rest flow left =
+    (bytes : List ℕ) × (left ≡ Some bytes) × PullIsDue (token_bytes kind) rest flow (length bytes)
+
+-- In each state of a wired network that was just opened a pull is due from the feed of link l.
+abbrev pub FailsFor : {X : Type 0} → (l feed : ℕ) → Held (Cell X) → Option Reading → Inputs → Inputs
+    → Type 0
+FailsFor l feed old None feeds_old feeds_new = ⊥
+FailsFor {X} l feed old (Some reading) feeds_old feeds_new = (net : Network X) (s : State X) (rest : ℕ)
+    (link : Link) (flow : Flow) → StandsSince net old s s → IsWired net
+    → slice_get net.links l ≡ Some link → slice_get s.flows l ≡ Some flow → is_input link ≡ true
+    → ComesNow s l link feed rest (Some reading) feeds_old
+    → IsDueFrom reading.kind rest flow (feeds_new.left feed)
+
+-- .. on link l of a network, over these bytes of its inputs
+pub record IsDueOn {X : Type 0} (net : Network X) (inputs : List (List ℕ)) (s : State X) (l : ℕ) (link : Link) (kind : Scalar) (left : Option (List ℕ)) : Type 0 where
+  pub flow : Flow
+  pub there : slice_get s.flows l ≡ Some flow
+  pub due : IsDueFrom kind (rest_at net.ins inputs link.from) flow left
+
+-- One of the links couldn't be filled from its feed. It has a reader of tokens of this type, and in each of these states a
+-- pull is due from its feed.
+pub record Stops {X : Type 0} (links : List Link) (before : List (Option Reading)) (feed : ℕ) (Stand : Network X → State X → Type 0) (feeds_old feeds_new : Inputs) : Type 0 where
+  pub l : ℕ
+  pub link : Link
+  pub kind : Scalar
+  pub link_at : slice_get links l ≡ Some link
+  pub read_at : slice_get (map kind_read before) l ≡ Some (Some kind)
+  pub from_outside : is_input link ≡ true
+  pub feed_is : feed ≡ feed_of links l
+  pub states : (net : Network X) (inputs : List (List ℕ)) (s : State X) → Stand net s → IsWired net
+      → AreFedBy net inputs s before feeds_old
+      → IsDueOn net inputs s l link kind (feeds_new.left feed)
+
+-- .. of a network that was just opened, and of one whose delivery is to be made
+abbrev pub StopsOpened : {X : Type 0} → List Link → List (Option Reading) → (feed : ℕ)
+    → Held (Cell X) → Inputs → Inputs → Type 0
+StopsOpened links before feed old feeds_old feeds_new =
+    Stops links before feed (λ net s. StandsSince net old s s) feeds_old feeds_new
+
+abbrev pub StopsDelivery : {X : Type 0} → List Link → List (Option Reading) → (feed : ℕ)
+    → Held (Cell X) → Inputs → Inputs → Type 0
+StopsDelivery links before feed old feeds_old feeds_new =
+    Stops links before feed (λ net s. StandsIn net old s) feeds_old feeds_new
 
 -- All input links.
 
@@ -136,6 +192,11 @@ module _ {C X S E : Type 0} (cell : C → Cell X) (feeds : S → Inputs) where
   FillsLink l feed old new before after feeds_old feeds_new result =
       IfOk result (λ filled. FillsOne l feed (seen cell old) (seen cell new) before after
       (feeds feeds_old) (feeds feeds_new) filled)
+
+  -- if the feed couldn't be read, a pull was due
+  abbrev pub FailsLink : ℕ → ℕ → Held C → Option Reading → S → S → Result Filled E → Type 0
+  FailsLink l feed old before feeds_old feeds_new result =
+      OnErr result (FailsFor l feed (seen cell old) before (feeds feeds_old) (feeds feeds_new))
 
   abbrev pub FillsAll : Held C → Held C → List (Option Reading) → List (Option Reading) → S → S
       → List Filled → Result Unit E → Type 0

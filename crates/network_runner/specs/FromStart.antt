@@ -2,6 +2,7 @@
 -- Trusted: part of what a promise means.
 use Rattle.std.specs.Prelude.{◌≡◌, ◌⊎◌, ℕ, false, List, [], ◌∷◌, ◌++◌, Some}
 use Rattle.rvc_io.specs.Channels.{Channels}
+use Rattle.rvc_io.specs.Feeds.{Inputs}
 use Rattle.trace_text.specs.declared.line.Line.{Line}
 use Rattle.net_model.specs.Network.{Network}
 use Rattle.net_model.specs.State.{State, sent_to}
@@ -15,6 +16,7 @@ use Rattle.net_model.specs.Wired.{IsWired}
 use Rattle.round_runner.specs.declared.outcome.RunEnd.{RunEnd}
 use Rattle.round_runner.specs.declared.outcome.RunEnd.TheVariants as end
 use Rattle.round_runner.specs.Rounds.{Breaks, EachOut, OutGetsAll, RunLeaves, TraceGetsAll, end_line, text_of}
+use Rattle.round_runner.specs.Pulling.{NeedsPull}
 use Rattle.round_runner.specs.Running.{Running, pace_of}
 
 -- the lines play from the state at the start, and at each moment the links hold at most their capacities
@@ -44,11 +46,13 @@ pub record RunsWhole {X : Type 0} (net : Network X) (inputs : List (List ℕ)) (
   pub permitted : PlaysAndKeeps net run.grow s last lines
   pub wrote : WritesWhole net inputs s last lines run new old now
 
--- A feed couldn't be read: the lines are begun.
-pub record RunsShort {X : Type 0} (net : Network X) (inputs : List (List ℕ)) (budget : ℕ) (s : State X) (run new : Running (Cell X)) (old now : Channels) : Type 0 where
+-- A feed couldn't be read: the lines are begun. The delivery behind them has to pull from the feed, so they are those of all
+-- rounds that were made.
+pub record RunsShort {X : Type 0} (net : Network X) (inputs : List (List ℕ)) (budget : ℕ) (s : State X) (feed : ℕ) (run new : Running (Cell X)) (feeds : Inputs) (old now : Channels) : Type 0 where
   pub lines : List Line
   pub reached : Moment X
   pub begun : IsBegun net (pace_of run budget) s lines reached
+  pub needs : NeedsPull net inputs reached.state feed feeds
   pub permitted : PlaysAndKeeps net run.grow s reached.state lines
   pub wrote : WritesWhole net inputs s reached.state lines run new old now
 
@@ -63,18 +67,18 @@ pub record RunsBroken {X : Type 0} (net : Network X) (budget : ℕ) (s : State X
 
 -- what a run from its start leaves, by its end
 abbrev pub RunsFromStart : {X : Type 0} → Network X → List (List ℕ) → ℕ → State X → RunEnd
-    → Running (Cell X) → Running (Cell X) → Channels → Channels → Type 0
-RunsFromStart net inputs budget s end.Quiet run new old now =
+    → Running (Cell X) → Running (Cell X) → Inputs → Channels → Channels → Type 0
+RunsFromStart net inputs budget s end.Quiet run new feeds old now =
     RunsWhole net inputs budget s end.Quiet run new old now
-RunsFromStart net inputs budget s (end.Trapped inst action trap) run new old now =
+RunsFromStart net inputs budget s (end.Trapped inst action trap) run new feeds old now =
     RunsWhole net inputs budget s (end.Trapped inst action trap) run new old now
-RunsFromStart net inputs budget s (end.Stalled inst action link) run new old now =
+RunsFromStart net inputs budget s (end.Stalled inst action link) run new feeds old now =
     RunsWhole net inputs budget s (end.Stalled inst action link) run new old now
-RunsFromStart net inputs budget s end.Budget run new old now =
+RunsFromStart net inputs budget s end.Budget run new feeds old now =
     RunsWhole net inputs budget s end.Budget run new old now
-RunsFromStart net inputs budget s (end.ReadFault feed) run new old now =
-    RunsShort net inputs budget s run new old now
-RunsFromStart net inputs budget s (end.WriteFault channel) run new old now =
+RunsFromStart net inputs budget s (end.ReadFault feed) run new feeds old now =
+    RunsShort net inputs budget s feed run new feeds old now
+RunsFromStart net inputs budget s (end.WriteFault channel) run new feeds old now =
     RunsBroken net budget s run old now
 
 -- a runner that has made no round, at a state in which a run may begin
@@ -89,6 +93,6 @@ pub record HasMadeNone {X : Type 0} (net : Network X) (inputs : List (List ℕ))
 -- The law: what such a runner's run leaves is that.
 abbrev pub RunsArePaced : (X : Type 0) → Type 0
 RunsArePaced X = (net : Network X) (inputs : List (List ℕ)) (budget : ℕ) (s : State X) (how : RunEnd)
-    (run new : Running (Cell X)) (old now : Channels) → HasMadeNone net inputs run s
-    → RunLeaves net inputs budget s how run new old now
-    → RunsFromStart net inputs budget s how run new old now
+    (run new : Running (Cell X)) (feeds : Inputs) (old now : Channels) → HasMadeNone net inputs run s
+    → RunLeaves net inputs budget s how run new feeds old now
+    → RunsFromStart net inputs budget s how run new feeds old now

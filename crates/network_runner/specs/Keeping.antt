@@ -2,6 +2,7 @@
 -- Not trusted: no promise is read with it.
 use Rattle.std.specs.Prelude.{◌≡◌, ℕ, ◌+◌, ◌*◌, ◌≤◌, ◌<◌, Bool, true, false, List, length, map, slice_get, slice_index_or, Option, None, Some}
 use Rattle.rvc_base.specs.declared.round_kind.RoundKind.{RoundKind}
+use Rattle.rvc_base.specs.declared.scalar.Scalar.{Scalar}
 use Rattle.rvc_base.specs.Storing.{IsSize}
 use Rattle.port_files.specs.Coming.{Reading}
 use Rattle.net_model.specs.declared.wiring.Counts.{Counts}
@@ -37,6 +38,7 @@ running_of held ins reads outlets readings kind plan idle trace writers counts e
   kind = kind;
   burst = plan.burst;
   grow = plan.grow;
+  workers = plan.workers;
   rounds = counts.rounds;
   idle = idle;
   trace = trace;
@@ -51,6 +53,11 @@ ReaderFits true None = ⊥
 ReaderFits true (Some reading) = Unit {0}
 ReaderFits false None = Unit {0}
 ReaderFits false (Some reading) = ⊥
+
+-- a reader gives tokens of the type of the network's port
+abbrev pub ReadsKind : List Scalar → End → Scalar → Type 0
+ReadsKind ins (AtLeaf inst port) kind = ⊥
+ReadsKind ins (AtNet port) kind = slice_get ins port ≡ Some kind
 
 -- the parts of a runner that no call changes fit each other
 pub record HasParts {C : Type 0} (run : Running C) (links : List Link) (outlets : List Outlet) (came writers cells : ℕ) : Type 0 where
@@ -67,6 +74,9 @@ pub record HasParts {C : Type 0} (run : Running C) (links : List Link) (outlets 
   pub reader_for_each : length run.readings ≡ length links
   pub readers : (l : ℕ) (link : Link) (reader : Option Reading) → slice_get links l ≡ Some link
       → slice_get run.readings l ≡ Some reader → ReaderFits (has_feed run.reads link.from) reader
+  pub kinds : (l : ℕ) (link : Link) (reading : Reading) → slice_get links l ≡ Some link
+      → slice_get run.readings l ≡ Some (Some reading)
+      → ReadsKind run.ins link.from reading.kind
   pub bursts : (1 ≤ run.burst) × (run.burst ≤ 65536)
   pub arrived_for_each : length run.counts.arrived.items ≡ length links
   pub rest_for_each : length run.counts.rests.items ≡ length links

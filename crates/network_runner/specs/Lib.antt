@@ -12,3 +12,4 @@ pub mod Counting
 pub mod Stepping
 pub mod Putting
 pub mod FromStart
+pub mod Arriving

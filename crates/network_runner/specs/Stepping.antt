@@ -19,6 +19,7 @@ use Rattle.round_runner.specs.declared.outcome.RunEnd.{RunEnd}
 use Rattle.round_runner.specs.declared.outcome.RunEnd.TheVariants as end
 use Rattle.round_runner.specs.Firings.{journals}
 use Rattle.round_runner.specs.Rounds.{Answers, BrokenOff, CountsOn, EachOut, Made, OutGetsFront, OutGetsSome, TraceGetsFront, TraceGetsSome, text_of}
+use Rattle.round_runner.specs.Pulling.{NeedsPull}
 use Rattle.round_runner.specs.Running.{IsRunOf, Running, StandsWith, buffer, moment_of, pace_of}
 use Rattle.network_runner.specs.declared.firing.Turn.{Turn}
 use Rattle.network_runner.specs.Asking.{seen_run}
@@ -112,6 +113,11 @@ pub record DeliversRun {X : Type 0} (run new : Running (Cell X)) (feeds_old feed
       → StandsWith net inputs run feeds_old s
       → IsDelivered net inputs s new.held new.readings feeds_new came
 
+-- It couldn't be, since of this feed, from which it has to pull, nothing could be read.
+abbrev pub StopsRun : {X : Type 0} → Running (Cell X) → (feed : ℕ) → Inputs → Inputs → Type 0
+StopsRun {X} run feed feeds_old feeds_new = (net : Network X) (inputs : List (List ℕ)) (s : State X)
+    → StandsWith net inputs run feeds_old s → NeedsPull net inputs s feed feeds_new
+
 -- by what the next round is made
 abbrev pub turn_of : {C : Type 0} → Running C → ℕ → Turn
 turn_of run left = record {
@@ -158,8 +164,9 @@ pub record ClosedSoFar {X : Type 0} (net : Network X) (inputs : List (List ℕ))
   pub outputs : EachOut net run (OutGetsSome run new old now) s (λ p. sent_to p net.links last.flows)
   pub counts : CountsOn net inputs s (lines_of block) last run.counts new.counts
 
--- a feed couldn't be read
-pub record CutSoFar {X : Type 0} (net : Network X) (s : State X) (run new : Running (Cell X)) (old now : Channels) : Type 0 where
+-- a feed couldn't be read, of which the delivery has to pull
+pub record CutSoFar {X : Type 0} (net : Network X) (inputs : List (List ℕ)) (s : State X) (feed : ℕ) (run new : Running (Cell X)) (feeds : Inputs) (old now : Channels) : Type 0 where
+  pub needs : NeedsPull net inputs s feed feeds
   pub trace : TraceGetsSome run new old now []
   pub outputs : EachOut net run (OutGetsSome run new old now) s (λ p. sent_to p net.links s.flows)
   pub counts : new.counts ≡ run.counts
@@ -182,7 +189,7 @@ LeavesSoFar net inputs budget left s (round.End (end.Stalled inst action link)) 
 LeavesSoFar net inputs budget left s (round.End end.Budget) run new feeds old now =
     ClosedSoFar net inputs budget left s end.Budget run new old now
 LeavesSoFar net inputs budget left s (round.End (end.ReadFault feed)) run new feeds old now =
-    CutSoFar net s run new old now
+    CutSoFar net inputs s feed run new feeds old now
 LeavesSoFar net inputs budget left s (round.End (end.WriteFault channel)) run new feeds old now =
     BrokenOff net budget left s run old now
 

@@ -2,9 +2,10 @@
 
 ghost use Rattle.std.specs.Prelude.{◌≡◌, ◌≤◌, IfErr, OnErr, is_some, length, map};
 ghost use Rattle.rvc_io.specs.Feeds.{ReadFails};
+ghost use Rattle.net_state.specs.Held.{seen};
 ghost use Rattle.net_state.specs.Moving.{SameActors, SameMarks};
 ghost use Rattle.network_runner.specs.Delivering.{DeliversAll};
-ghost use Rattle.network_runner.specs.Filling.{IsFeedOf, ReadersFit, SameOpen};
+ghost use Rattle.network_runner.specs.Filling.{IsFeedOf, ReadersFit, SameOpen, StopsDelivery, kind_read};
 
 use crate::feeding::{ReadFault, fill_all};
 use net_model::{Firing, Link};
@@ -17,7 +18,8 @@ use rvc_io::Feeds;
 ///
 /// # Errors
 ///
-/// `ReadFault` if a feed couldn't be read (`failed`): that of a link that has a reader (`feed`).
+/// `ReadFault` if a feed couldn't be read (`failed`): that of a link that has a reader (`feed`), and from which this delivery
+/// has to pull (`stops`).
 pub fn deliver_all<A: Firing, F: Feeds>(
     net: &mut NetState<A>,
     links: &[Link],
@@ -33,10 +35,13 @@ pub fn deliver_all<A: Firing, F: Feeds>(
         feeds.new came.new result }
     ensures failed { OnErr result (ReadFails F.feeds feeds.old feeds.new) }
     ensures feed { IfErr result (λ fault. IsFeedOf links.now readers.new fault.feed) }
+    ensures stops { IfErr result (λ fault. StopsDelivery links.now readers.old fault.feed
+        (seen A.cell net.old) (F.feeds feeds.old) (F.feeds feeds.new)) }
     ensures still_fit { ReadersFit links.now readers.new (F.feeds feeds.new) }
 
     // What stays.
     ensures still_there { map is_some readers.new ≡ map is_some readers.old }
+    ensures same_kinds { map kind_read readers.new ≡ map kind_read readers.old }
     ensures still_as_many { length came.new ≡ length came.old }
     ensures same_open { SameOpen (F.feeds feeds.old) (F.feeds feeds.new) }
     ensures same_actors { SameActors (map A.cell net.old.cells) (map A.cell net.new.cells) }

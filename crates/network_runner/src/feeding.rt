@@ -6,7 +6,7 @@ ghost use Rattle.port_files.specs.Coming.{EndIsTrue};
 ghost use Rattle.net_state.specs.Filling.{IsInputLink};
 ghost use Rattle.net_state.specs.Held.{seen};
 ghost use Rattle.net_state.specs.Moving.{SameActors, SameMarks};
-ghost use Rattle.network_runner.specs.Filling.{FillsAll, FillsLink, IsFeedOf, ReadersFit, SameOpen, next_feed};
+ghost use Rattle.network_runner.specs.Filling.{FailsLink, FillsAll, FillsLink, IsFeedOf, ReadersFit, SameOpen, StopsOpened, kind_read, next_feed};
 
 use net_model::{End, Firing, Link};
 use net_state::{Filled, NetState};
@@ -28,7 +28,8 @@ pub struct ReadFault {
 ///
 /// # Errors
 ///
-/// `ReadFault` if a feed couldn't be read (`failed`): that of a link that has a reader (`feed`).
+/// `ReadFault` if a feed couldn't be read (`failed`): that of a link that has a reader (`feed`), and from which this delivery
+/// has to pull (`stops`).
 pub fn fill_all<A: Firing, F: Feeds>(
     net: &mut NetState<A>,
     links: &[Link],
@@ -44,10 +45,13 @@ pub fn fill_all<A: Firing, F: Feeds>(
         feeds.new came.new result }
     ensures failed { OnErr result (ReadFails F.feeds feeds.old feeds.new) }
     ensures feed { IfErr result (λ fault. IsFeedOf links.now readers.new fault.feed) }
+    ensures stops { IfErr result (λ fault. StopsOpened links.now readers.old fault.feed
+        (seen A.cell net.old) (F.feeds feeds.old) (F.feeds feeds.new)) }
     ensures still_fit { ReadersFit links.now readers.new (F.feeds feeds.new) }
 
     // What stays.
     ensures still_there { map is_some readers.new ≡ map is_some readers.old }
+    ensures same_kinds { map kind_read readers.new ≡ map kind_read readers.old }
     ensures still_as_many { length came.new ≡ length came.old }
     ensures same_open { SameOpen (F.feeds feeds.old) (F.feeds feeds.new) }
     ensures same_actors { SameActors (map A.cell net.old.cells) (map A.cell net.new.cells) }
@@ -94,11 +98,14 @@ fn fill_one<A: Firing, F: Feeds>(
         feeds.old feeds.new result }
     ensures failed { OnErr result (ReadFails F.feeds feeds.old feeds.new) }
     ensures read { OnErr result (is_some reader.old ≡ true) }
+    ensures due { FailsLink A.cell F.feeds link.0 feed net.old reader.old feeds.old feeds.new
+        result }
     ensures still_same_feed { IfSome reader.new (λ reading.
         EndIsTrue reading ((F.feeds feeds.new).left feed)) }
 
     // What stays.
     ensures still_there { is_some reader.new ≡ is_some reader.old }
+    ensures same_kind { kind_read reader.new ≡ kind_read reader.old }
     ensures unread { IfNone reader.old (F.feeds feeds.new ≡ F.feeds feeds.old) }
     ensures elsewhere { PullsOnly F.feeds feeds.old feeds.new feed }
     ensures same_actors { SameActors (map A.cell net.old.cells) (map A.cell net.new.cells) }

@@ -6,6 +6,7 @@ ghost use Rattle.net_state.specs.Moving.{SameActors};
 ghost use Rattle.net_state.specs.Surveyed.{AreUntrapped};
 ghost use Rattle.net_state.specs.Working.{IsAtRest};
 ghost use Rattle.net_state.specs.Sharing.{AreFresh};
+ghost use Rattle.network_runner.specs.Arriving.{WorkersArrive, stage_by};
 ghost use Rattle.network_runner.specs.Closing.{GrowsBy};
 ghost use Rattle.network_runner.specs.Rounding.{CanGrow, ClosedBy, CountsTo, IfGoing, IsNoFault, MakesRound, MayClose, is_trap};
 
@@ -69,6 +70,8 @@ pub fn make_firings<R: Threads + Sync, A: Firing + Send, P: Policy, G: Gate>(
     ensures not_idle_again { result.answer ≡ RoundEnd.Idle → turn.now.idle ≡ false }
     ensures grows { GrowsBy result.answer turn.now.grow net.old.capacities net.new.capacities }
     ensures untrapped { IfGoing result.answer (AreUntrapped (map A.cell net.new.cells)) }
+    ensures arrive { WorkersArrive (G.arrived gate.now) (P.kind policy.old) workers
+        (length marks.old) (stage_by turn.now) }
 
     // What stays.
     ensures kind { P.kind policy.new ≡ P.kind policy.old }
@@ -124,6 +127,8 @@ pub fn fire_round<R: Threads + Sync, A: Firing + Send, P: Policy, G: Gate>(
     ensures not_idle_again { result.answer ≡ RoundEnd.Idle → turn.now.idle ≡ false }
     ensures grows { GrowsBy result.answer turn.now.grow net.old.capacities net.new.capacities }
     ensures untrapped { is_trap result.answer ≡ false → AreUntrapped (map A.cell net.new.cells) }
+    ensures arrive { WorkersArrive (G.arrived gate.now) (P.kind policy.old) workers
+        (length marks.old) (stage_by turn.now) }
 
     // What stays.
     ensures kind { P.kind policy.new ≡ P.kind policy.old }

@@ -9,11 +9,12 @@ ghost use Rattle.net_state.specs.Held.{seen};
 ghost use Rattle.net_state.specs.Working.{IsAtRest};
 ghost use Rattle.round_runner.specs.declared.outcome.RunEnd.{RunEnd as HowEnded};
 ghost use Rattle.round_runner.specs.Running.{FeedsFit};
+ghost use Rattle.network_runner.specs.Arriving.{ArriveBy, RoundArrives, RunArrives};
 ghost use Rattle.network_runner.specs.Asking.{Advances, Begins, CanRun, ChannelsFit, EndLeaves, FaultIsTrue, FiringsTo, IsChannel, IsFeed, IsSameRun, IsUntouched, RoundLeaves, WritesWithin, end_of, seen_run};
 ghost use Rattle.network_runner.specs.Filling.{SameOpen};
 ghost use Rattle.network_runner.specs.Noting.{NotesFront, NotesRound};
 ghost use Rattle.network_runner.specs.Rounding.{IsNoFault};
-ghost use Rattle.network_runner.specs.Stepping.{DeliversRun, FiresRun, IsOutChannel, KeepsOthers, PutsAll, PutsBy, PutsFronts, RoundLeavesSoFar, SameButEnd, SendsFront, SendsOut, WritesFront, WritesRound, with_buffers};
+ghost use Rattle.network_runner.specs.Stepping.{DeliversRun, FiresRun, IsOutChannel, KeepsOthers, PutsAll, PutsBy, PutsFronts, RoundLeavesSoFar, SameButEnd, SendsFront, SendsOut, StopsRun, WritesFront, WritesRound, with_buffers};
 
 use crate::counting::{count_arrived, count_sent};
 use crate::delivering::deliver_all;
@@ -143,7 +144,8 @@ impl<A: Firing + Send, P: Policy> Runner<A, P> {
     ///
     /// The feeds and channels that the wiring needs are open, and are the same ones in each call. `rt` is for the threads
     /// of more workers than one: what a round leaves doesn't depend on how many there are. `gate` is told of each worker
-    /// that works in the round as it starts.
+    /// that works in the round as it starts (`arrive`): of as many as instances are picked, if each of these may fire once at
+    /// least, and else of worker 0 alone.
     ///
     /// # Errors
     ///
@@ -172,6 +174,10 @@ impl<A: Firing + Send, P: Policy> Runner<A, P> {
         ensures ended { self.old.ended ≡ None → self.new.ended ≡ end_of result }
         ensures advances { IfNone (end_of result) (Advances self.old self.new) }
 
+        // Who works.
+        ensures arrive { self.old.ended ≡ None
+            → ArriveBy (G.arrived gate.now) result left self.old self.new }
+
         // After an end.
         ensures same_end { (how : HowEnded) → self.old.ended ≡ Some how → result ≡ RoundEnd.End how }
         ensures untouched { (how : HowEnded) → self.old.ended ≡ Some how → IsUntouched A.cell F.feeds
@@ -194,12 +200,14 @@ impl<A: Firing + Send, P: Policy> Runner<A, P> {
     /// further call answers that end and touches nothing.
     ///
     /// The feeds and channels that the wiring needs are open, and are the same ones in each call. `rt` is for the threads
-    /// of more workers than one, as in a round. `gate` is told in each round of each worker that works as it starts.
+    /// of more workers than one, as in a round. `gate` is told in each round of each worker that works as it starts
+    /// (`arrive`).
     ///
     /// # Errors
     ///
     /// The run ends in `ReadFault` if a feed couldn't be read, and in `WriteFault` if a channel couldn't be written: the
-    /// failure was counted (`faults`).
+    /// failure was counted (`faults`). After a `ReadFault` the lines of all rounds that were made are written: the delivery
+    /// behind the last of them is the one that has to pull from this feed (`leaves`).
     pub fn run<R: Threads + Sync, F: Feeds, D: Drains, G: Gate>(
         &mut self,
         rt: &R,
@@ -219,6 +227,10 @@ impl<A: Firing + Send, P: Policy> Runner<A, P> {
             self.new feeds.old feeds.new drains.old drains.new (Some result) }
         ensures within { self.new.counts.firings ≤ self.old.counts.firings + budget }
         ensures ended { self.new.ended ≡ Some result }
+
+        // Who works.
+        ensures arrive { self.old.ended ≡ None
+            → RunArrives (G.arrived gate.now) self.old self.new budget }
 
         // After an end.
         ensures same_end { (how : HowEnded) → self.old.ended ≡ Some how → result ≡ how }
@@ -273,6 +285,7 @@ impl<A: Firing + Send, P: Policy> Runner<A, P> {
         ensures within { self.new.counts.firings ≤ self.old.counts.firings + left }
         ensures ended { IfNone (end_of result) (self.new.ended ≡ None) }
         ensures advances { IfNone (end_of result) (Advances self.old self.new) }
+        ensures arrive { ArriveBy (G.arrived gate.now) result left self.old self.new }
         ensures same_run { IsSameRun (seen_run A.cell self.old) (seen_run A.cell self.new) }
         ensures feeds_fit { FeedsFit self.new (F.feeds feeds.new) }
         ensures same_feeds { SameOpen (F.feeds feeds.old) (F.feeds feeds.new) }
@@ -341,6 +354,8 @@ impl<A: Firing + Send, P: Policy> Runner<A, P> {
             (seen_run A.cell self.new) (F.feeds feeds.old) (F.feeds feeds.new)) }
         ensures failed { OnErr result (ReadFails F.feeds feeds.old feeds.new) }
         ensures feed { IfErr result (λ fault. IsFeed self.old fault.feed) }
+        ensures stops { IfErr result (λ fault. StopsRun (seen_run A.cell self.old) fault.feed
+            (F.feeds feeds.old) (F.feeds feeds.new)) }
         ensures not_counted { OnErr result (self.new.counts ≡ self.old.counts) }
         ensures same_capacities { self.new.held.capacities ≡ self.old.held.capacities }
         ensures same_firings { self.new.counts.firings ≡ self.old.counts.firings }
@@ -368,6 +383,7 @@ impl<A: Firing + Send, P: Policy> Runner<A, P> {
         ensures fires { FiresRun left result (seen_run A.cell self.old) (seen_run A.cell self.new) }
         ensures ended { self.new.ended ≡ end_of result }
         ensures advances { IfNone (end_of result) (Advances self.old self.new) }
+        ensures arrive { RoundArrives (G.arrived gate.now) self.old left }
         ensures no_fault { IsNoFault result }
         ensures same_run { IsSameRun (seen_run A.cell self.old) (seen_run A.cell self.new) }
         ensures same_trace { self.new.trace ≡ self.old.trace }

@@ -1,5 +1,5 @@
 -- The bytes and the tokens that are still to come on a feed.
--- Trusted but for `is_short`: part of what a promise means.
+-- Trusted: part of what a promise means.
 use Rattle.std.specs.Prelude.{◌≡◌, ℕ, ◌<◌, Bool, true, ◌&&◌, not, List, [], ◌∷◌, ◌++◌, ℤ, Option, None, Some, length, nat_lt}
 use Rattle.rvc_io.specs.Feeds.{Inputs}
 use Rattle.rvc_base.specs.declared.scalar.Scalar.{Scalar}

@@ -76,8 +76,8 @@ impl TokenFeed {
     ///
     /// # Errors
     ///
-    /// `Failed` if bytes couldn't be pulled: the failure was counted (`failed`), and the tokens still to come are those
-    /// that were to come before (`failed_coming`).
+    /// `Failed` if bytes couldn't be pulled: the failure was counted (`failed`), the tokens still to come are those that
+    /// were to come before (`failed_coming`), and of what was pulled no whole token is left (`failed_short`).
     pub fn next<F: Feeds>(&mut self, feed: u32, feeds: &mut F) -> Next
         requires open { (F.feeds feeds.old).is_open feed ≡ true }
         requires same_feed { EndIsTrue self.old ((F.feeds feeds.old).left feed) }
@@ -94,6 +94,7 @@ impl TokenFeed {
         ensures failed { OnFailed result (ReadFails F.feeds feeds.old feeds.new) }
         ensures failed_coming { OnFailed result (KeepsComing F.feeds feeds.old feeds.new feed
             self.old.pulled self.new.pulled) }
+        ensures failed_short { OnFailed result (is_short self.new ≡ true) }
         ensures kind { self.new.kind ≡ self.old.kind }
         ensures still_same_feed { EndIsTrue self.new ((F.feeds feeds.new).left feed) }
         ensures elsewhere { PullsOnly F.feeds feeds.old feeds.new feed }
@@ -120,6 +121,7 @@ impl TokenFeed {
         ensures coming { KeepsComing F.feeds feeds.old feeds.new feed self.old.pulled
             self.new.pulled }
         ensures failed { OnErr result (ReadFails F.feeds feeds.old feeds.new) }
+        ensures failed_short { OnErr result (is_short self.new ≡ true) }
         ensures kind { self.new.kind ≡ self.old.kind }
         ensures still_same_feed { EndIsTrue self.new ((F.feeds feeds.new).left feed) }
         ensures elsewhere { PullsOnly F.feeds feeds.old feeds.new feed }
@@ -142,6 +144,7 @@ impl TokenFeed {
         ensures coming { KeepsComing F.feeds feeds.old feeds.new feed self.old.pulled
             self.new.pulled }
         ensures failed { OnErr result (ReadFails F.feeds feeds.old feeds.new) }
+        ensures failed_same { OnErr result (self.new ≡ self.old) }
         ensures kind { self.new.kind ≡ self.old.kind }
         ensures still_same_feed { EndIsTrue self.new ((F.feeds feeds.new).left feed) }
         ensures elsewhere { PullsOnly F.feeds feeds.old feeds.new feed }

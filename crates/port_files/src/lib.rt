@@ -7,8 +7,6 @@
 mod coding;
 mod feed;
 mod piece;
-#[cfg(test)]
-mod tests;
 
 pub use coding::encode;
 pub use feed::{Next, TokenFeed};

@@ -10,8 +10,6 @@ mod closing;
 mod cycle;
 mod order;
 mod table;
-#[cfg(test)]
-mod tests;
 
 pub use closing::{OrderFault, close};
 pub use order::Order;

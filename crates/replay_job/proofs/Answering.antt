@@ -44,7 +44,7 @@ use Rattle.network_commands.specs.Steps.{IsPut, about_words, status_of_build}
 use Rattle.network_commands.proofs.Putting.{last_alone, line_answered, put_answered}
 use Rattle.network_commands.proofs.Words.{none_wrong}
 use Rattle.replay_job.specs.Ends.{Comes, IsJudgedOrOutside, IsNoVerdict, IsRefusedFor, by_files, by_growth, by_words}
-use Rattle.replay_job.specs.Replays.{ConformsToReplay, IsReadFeed, IsToReplay, OpensFeeds, OpensForReplay, RefusesReplay, in_growth, in_job}
+use Rattle.replay_job.specs.Replays.{ConformsToReplay, IsReplayFeed, IsToReplay, OpensFeeds, OpensForReplay, RefusesReplay, in_growth, in_job}
 use Rattle.replay_job.specs.Steps.{ImageJudged, ImageReplayed, IsForbidden, IsPermitted, about_image, lines_of, status_of, status_of_fault}
 use Rattle.replay_job.specs.declared.outcome.NotReplayed.{NotReplayed}
 use Rattle.replay_job.specs.declared.outcome.NotReplayed.TheVariants as stop
@@ -117,8 +117,10 @@ module _ (cmd : Command) (image : Image) (names : Names) (law : SourcesAreActorN
       subst (λ ls. FeedFails (replay_feeds (string_bytes cmd.job.trace) ls (port_names net.ins) (words_of cmd)) feed cmd.feeds cmd.feeds_after) (sym links_are)
       (subst (λ ps. FeedFails (replay_feeds (string_bytes cmd.job.trace) image.flat.links.items ps (words_of cmd)) feed cmd.feeds cmd.feeds_after) (sym ins_are) fails)
 
-  read_feed : (feed : ℕ) → IsReadFeed image.flat.links.items feed → IsReadFeed net.links feed
-  read_feed feed is = subst (λ ls. IsReadFeed ls feed) (sym links_are) is
+  read_feed : (feed : ℕ) → IsReplayFeed image.flat.links.items (asks.in_names image.flat) (asks.words_of cmd.job) feed → IsReplayFeed net.links (port_names net.ins) (words_of cmd) feed
+  read_feed feed is =
+      subst (λ ls. IsReplayFeed ls (port_names net.ins) (words_of cmd) feed) (sym links_are)
+      (subst (λ ps. IsReplayFeed image.flat.links.items ps (words_of cmd) feed) (sym ins_are) is)
 
   -- ---- each answer
 

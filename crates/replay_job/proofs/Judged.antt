@@ -1,5 +1,5 @@
 -- A replay over cells that are joined as a flat network says: what is asked of it, and what it judges.
-use Rattle.std.proofs.Common.{◌≡◌, inr, ℕ, ◌≤◌, true, List, length, map, refl, sym, ap, subst, ◌∙◌, arith}
+use Rattle.std.proofs.Common.{◌≡◌, ◌⊎◌, inr, ℕ, ◌≤◌, true, List, length, map, refl, sym, ap, subst, ◌∙◌, arith}
 use Rattle.std.specs.Prelude.{Some, slice_get, string_bytes}
 use Rattle.std.specs.declared.result.Result.TheVariants.{Ok, Err}
 use Rattle.std.proofs.lemmas.List.{length-map}
@@ -17,17 +17,17 @@ use Rattle.network_job.specs.Files.{AreInputs}
 use Rattle.network_job.specs.Network.{CanRunAll, IsNetworkOf, in_names, plan_of, words_of}
 use Rattle.network_job.proofs.Wired.{is_wirings}
 use Rattle.run_job.proofs.Reported.{risen_from}
-use Rattle.trace_replay.specs.Feeding.{OnlyPulls, feed_of}
+use Rattle.trace_replay.specs.declared.bytes.TheConstants.{TRACE_FEED}
+use Rattle.trace_replay.specs.Feeding.{IsFeedOf, OnlyPulls, feed_of, has_feed}
 use Rattle.trace_replay.specs.Reading.{NamesFeed, OnReadFault}
-use Rattle.trace_replay.specs.Replaying.{CanReplay, IsEndTold, IsReplayOf, has_feed}
+use Rattle.trace_replay.specs.Replaying.{CanReplay, IsEndTold, IsReplayOf}
 use Rattle.trace_replay.specs.declared.replayed.Replayed.{Replayed}
 use Rattle.trace_replay.specs.declared.why.ReplayFault.{ReplayFault}
 use Rattle.trace_replay.specs.declared.why.ReplayFault.TheVariants as judged
-use Rattle.replay_job.specs.Replays.{IsReadFeed}
 use Rattle.replay_job.specs.Steps.{IsPermitted, IsPrepared, LeavesFeeds, Opens, trial_of}
 use Rattle.replay_job.specs.declared.outcome.NotReplayed.TheVariants as stop
 use Rattle.replay_job.proofs.Named.{many_names, named_so}
-use Rattle.replay_job.proofs.Opened.{input_open, inputs_told, opens_all, opens_then, trace_left, trace_open}
+use Rattle.replay_job.proofs.Opened.{input_open, inputs_told, is_read, opens_all, opens_then, trace_left, trace_open}
 
 -- cells that are ready for bursts of some length are ready for none
 unburst : {X : Type 0} (net : Network X) (grow burst : ℕ) (cells : List (Cell X)) → IsReady net grow burst cells → IsReady net grow 0 cells
@@ -91,14 +91,16 @@ module _ {X : Type 0} (cells : List (Cell X)) (flat : Flat) (job : Job) (can_run
     pub run_leaves : (now : Inputs) (replayed : Replayed) → IsPermitted flat job → OnlyPulls new now → LeavesFeeds flat job old now (Ok replayed)
     run_leaves now replayed permitted pulls = (permitted, opens now pulls)
 
-    pub fault_leaves : (now : Inputs) (fault : ReplayFault) → IsPermitted flat job → OnlyPulls new now → OnReadFault {T = Replayed} (Err fault) (HasRisen new.faults now.faults) → NamesFeed wiring.links.items fault
+    pub fault_leaves : (now : Inputs) (fault : ReplayFault) → IsPermitted flat job → OnlyPulls new now → OnReadFault {T = Replayed} (Err fault) (HasRisen new.faults now.faults) → NamesFeed wiring.links.items wiring.open_ins.items fault
         → LeavesFeeds flat job old now (Err (stop.Fault fault))
     fault_leaves now (judged.NotRun line why) permitted pulls failed feed = (permitted, opens now pulls)
     fault_leaves now (judged.ReadFault feed) permitted pulls failed named = (
       permitted,
       inr (
         risen_from old.faults new.faults now.faults opened.faults_stay failed,
-        subst (λ links. IsReadFeed links feed) prepared.wiring_is.is_of.links named,
+        is_read flat.links.items (in_names flat) (words_of job) feed
+            (subst (λ links. (feed ≡ TRACE_FEED) ⊎ IsFeedOf links (has_files (in_names flat) (words_of job)) feed) prepared.wiring_is.is_of.links
+            (subst (λ marks. (feed ≡ TRACE_FEED) ⊎ IsFeedOf wiring.links.items marks feed) prepared.wiring_is.reads named)),
         opens now pulls,
       ),
     )

@@ -1,5 +1,5 @@
 -- What stands on the feeds of a replay once they are opened.
-use Rattle.std.proofs.Common.{◌≡◌, inl, inr, ℕ, zero, suc, Bool, true, List, [], ◌∷◌, take, refl, sym, ap, subst, ◌∙◌, arith, Contains}
+use Rattle.std.proofs.Common.{◌≡◌, ◌⊎◌, inl, inr, ℕ, zero, suc, Bool, true, List, [], ◌∷◌, take, refl, sym, ap, subst, ◌∙◌, arith, Contains}
 use Rattle.std.specs.Prelude.{Option, None, Some, is_some, slice_get, slice_index_or, if◌then◌else◌}
 use Rattle.std.proofs.lemmas.List.Elements.{Contains-append_cases, Contains-append_right}
 use Rattle.rvc_io.specs.Feeds.{Inputs}
@@ -12,8 +12,9 @@ use Rattle.port_words.specs.Opening.{FeedsAreOpened, IsApart, Opening, feeds_of,
 use Rattle.round_runner.specs.Running as running
 use Rattle.network_job.specs.Files.{AreInputs, ComesUnder, IsUnder}
 use Rattle.network_job.proofs.Numbered.{fed_file, feed_in, is_feed, opening, port_mark}
-use Rattle.trace_replay.specs.Feeding.{OnlyPulls, count_inputs, feed_of}
-use Rattle.trace_replay.specs.Replaying.{IsEndTold, IsInputTold, has_feed}
+use Rattle.trace_replay.specs.declared.bytes.TheConstants.{TRACE_FEED}
+use Rattle.trace_replay.specs.Feeding.{IsFeedOf as IsFeedRead, OnlyPulls, count_inputs, feed_of, has_feed}
+use Rattle.trace_replay.specs.Replaying.{IsEndTold, IsInputTold}
 use Rattle.replay_job.specs.Replays.{IsReplayFeed, OpensForReplay}
 
 -- ---- numbers of feeds
@@ -28,6 +29,13 @@ feed_same links l = ap suc (many_same (take l links))
 fed_same : (marks : List Bool) (end : End) → has_feed marks end ≡ running.has_feed marks end
 fed_same marks (AtLeaf inst port) = refl
 fed_same marks (AtNet port) = refl
+
+-- what replay reads is the trace, or the file of an input
+pub is_read : (links : List Link) (ins : List (List ℕ)) (words : List PortText) (feed : ℕ) → (feed ≡ TRACE_FEED) ⊎ IsFeedRead links (has_files ins words) feed → IsReplayFeed links ins words feed
+is_read links ins words feed (inl trace) = inl trace
+is_read links ins words feed (inr (l, link, at, fed, is)) =
+    let found = fed_file link.from ins words (sym (fed_same (has_files ins words) link.from) ∙ fed) in
+    inr (record { l = l; link = link; is_there = at; file = found.0; has_file = found.1; feed_is = is ∙ feed_same links l })
 
 in_one : (x o : Opening) → Contains (x ∷ []) o → x ≡ o
 in_one x o (zero, h, e) = e

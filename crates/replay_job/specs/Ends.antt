@@ -24,7 +24,7 @@ use Rattle.rvc_engine.specs.NotBuilt.{LacksForm}
 use Rattle.rvc_engine.specs.Refused.{RefusesTop}
 use Rattle.network_commands.specs.Answers.{FileUnread, HasWrongWord}
 use Rattle.network_commands.specs.Commands.{AreCertified, Command, IsOfCommand, OpenedNothing, about_files, about_net, port_names, top_of, words_of}
-use Rattle.replay_job.specs.Replays.{IsReadFeed, IsToReplay, OpensFeeds, WhateverIsTold}
+use Rattle.replay_job.specs.Replays.{IsReplayFeed, IsToReplay, OpensFeeds, WhateverIsTold}
 
 -- ---- a trace that was judged
 
@@ -67,10 +67,10 @@ FeedUnopened cmd net feed =
     FeedFails (replay_feeds (string_bytes cmd.job.trace) net.links (port_names net.ins) (words_of cmd))
     feed cmd.feeds cmd.feeds_after
 
--- the trace or an input couldn't be read, which was counted
+-- the trace or an input that has a file couldn't be read, which was counted
 pub record FeedBroke (cmd : Command) (net : Network State) (feed : ℕ) : Type 0 where
   pub counted : HasRisen cmd.feeds.faults cmd.feeds_after.faults
-  pub is_feed : IsReadFeed net.links feed
+  pub is_feed : IsReplayFeed net.links (port_names net.ins) (words_of cmd) feed
   pub feeds : OpensFeeds cmd net
 
 pub record WasUnread (cmd : Command) (feed : ℕ) (about : About) : Type 0 where

@@ -14,7 +14,6 @@ use Rattle.source_network.specs.Files.{Asked}
 use Rattle.source_network.specs.Library.{IsLibraryNetwork}
 use Rattle.grown_links.specs.Growth.{GrowTooFar, IsGrownTooMuch}
 use Rattle.network_job.specs.Files.{IsFeedOf}
-use Rattle.trace_replay.specs.Feeding as reading
 use Rattle.trace_replay.specs.Judging.{Trial}
 use Rattle.network_commands.specs.Commands.{AreGiven, Command, IsOfCommand, RefusesJob, port_names, words_of}
 
@@ -63,10 +62,6 @@ WhateverIsTold cmd net P = (inputs : List (List ℕ)) (text : List ℕ) → AreG
 -- the feed of the trace, or that of a link from an input that has a file
 abbrev pub IsReplayFeed : List Link → (ins : List (List ℕ)) → List PortText → (feed : ℕ) → Type 0
 IsReplayFeed links ins words feed = (feed ≡ 0) ⊎ IsFeedOf links ins words feed
-
--- the feed of the trace, or that of a link from an input
-abbrev pub IsReadFeed : List Link → (feed : ℕ) → Type 0
-IsReadFeed links feed = (feed ≡ 0) ⊎ reading.IsFeedOf links feed
 
 -- no feed but the trace's and those of inputs that have files was opened or closed
 pub record OpensForReplay (links : List Link) (ins : List (List ℕ)) (words : List PortText) (old new : Inputs) : Type 0 where

@@ -40,7 +40,7 @@ use Rattle.run_report.specs.declared.status.Status.TheVariants as status
 use Rattle.network_commands.specs.Commands.{count_none, port_names}
 use Rattle.network_commands.specs.Steps.{IsPut}
 use Rattle.replay_job.specs.Naming.{names_of_instances}
-use Rattle.replay_job.specs.Replays.{IsReadFeed, OpensForReplay}
+use Rattle.replay_job.specs.Replays.{IsReplayFeed, OpensForReplay}
 use Rattle.replay_job.specs.declared.outcome.NotReplayed.{NotReplayed}
 use Rattle.replay_job.specs.declared.outcome.NotReplayed.TheVariants as stop
 
@@ -101,7 +101,8 @@ module _ (flat : Flat) (job : Job) (old new : Inputs) where
   abbrev pub IsUnread : (feed : ℕ) → Type 0
   IsUnread feed =
       FeedFails (replay_feeds (string_bytes job.trace) flat.links.items (in_names flat) (words_of job)) feed old new
-      ⊎ (HasRisen old.faults new.faults × IsReadFeed flat.links.items feed × Opens)
+      ⊎ (HasRisen old.faults new.faults
+      × IsReplayFeed flat.links.items (in_names flat) (words_of job) feed × Opens)
 
   -- what is left, by the answer, and why that came
   abbrev pub LeavesFeeds : Result Replayed NotReplayed → Type 0

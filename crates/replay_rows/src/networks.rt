@@ -19,6 +19,12 @@ pub(crate) enum Net {
     Ring,
     /// Two ways of different length meet, one of which holds one token.
     Pair,
+    /// The same, and an actor beside them that takes one token of the input, of which its link holds four.
+    Beside,
+    /// The same, but the link holds one.
+    Short,
+    /// Two ways as in `Pair`, and one that holds one token to an actor that takes one.
+    Behind,
 }
 
 const BYTE: Scalar = Scalar::Uint(8);
@@ -43,11 +49,41 @@ const PAIR: &[Row] = &[
     ((2, 0), (NET, 0), 512),
 ];
 
+const BESIDE: &[Row] = &[
+    ((NET, 0), (0, 0), 512),
+    ((0, 0), (1, 0), 512),
+    ((1, 0), (2, 0), 512),
+    ((0, 0), (2, 1), 1),
+    ((NET, 0), (3, 0), 4),
+    ((2, 0), (NET, 0), 512),
+];
+
+const SHORT: &[Row] = &[
+    ((NET, 0), (0, 0), 512),
+    ((0, 0), (1, 0), 512),
+    ((1, 0), (2, 0), 512),
+    ((0, 0), (2, 1), 1),
+    ((NET, 0), (3, 0), 1),
+    ((2, 0), (NET, 0), 512),
+];
+
+const BEHIND: &[Row] = &[
+    ((NET, 0), (0, 0), 512),
+    ((0, 0), (1, 0), 512),
+    ((1, 0), (2, 0), 512),
+    ((0, 0), (2, 1), 1),
+    ((0, 0), (3, 0), 1),
+    ((2, 0), (NET, 0), 512),
+];
+
 fn rows(named: Net) -> &'static [Row] {
     match named {
         Net::Inc | Net::Wide | Net::Div => ONE,
         Net::Ring => RING,
         Net::Pair => PAIR,
+        Net::Beside => BESIDE,
+        Net::Short => SHORT,
+        Net::Behind => BEHIND,
     }
 }
 
@@ -57,6 +93,9 @@ fn instances(named: Net) -> &'static [Named] {
         Net::Div => &[Named::Div],
         Net::Ring => &[Named::Race, Named::Race],
         Net::Pair => &[Named::Copy, Named::Sum, Named::Join],
+        Net::Beside | Net::Short | Net::Behind => {
+            &[Named::Copy, Named::Sum, Named::Join, Named::Race]
+        }
     }
 }
 
@@ -67,6 +106,7 @@ fn paths(named: Net) -> &'static [&'static str] {
         Net::Div => &["Div Div"],
         Net::Ring => &["p Race", "q Race"],
         Net::Pair => &["c Copy", "s Sum", "j Join"],
+        Net::Beside | Net::Short | Net::Behind => &["c Copy", "s Sum", "j Join", "r Race"],
     }
 }
 

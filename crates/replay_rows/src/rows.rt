@@ -110,6 +110,59 @@ const ROWS: &[Row] = &[
         "rvc-trace 2 3 5 4\ni 0 c Copy\ni 1 s Sum\ni 2 j Join\nr\nf 0 0\nr\ns 0 0 3\n",
         Answer::Fails(8, Why::End),
     ),
+    // Links that grow behind firings that sent nothing.
+    (
+        Net::Beside,
+        &[1, 2, 3, 4],
+        4,
+        "rvc-trace 2 4 6 4\ni 0 c Copy\ni 1 s Sum\ni 2 j Join\ni 3 r Race\nr\nf 0 0\nr\nf 3 0\ng 3 2\nf 0 0\nr\nb\n",
+        Answer::Ends(Line::Budget, 3, 3),
+    ),
+    (
+        Net::Behind,
+        &[1, 2, 3, 4],
+        4,
+        "rvc-trace 2 4 6 4\ni 0 c Copy\ni 1 s Sum\ni 2 j Join\ni 3 r Race\nr\nf 0 0\nr\nf 3 0\ng 3 2\nr\nf 0 0\nr\nb\n",
+        Answer::Ends(Line::Budget, 3, 4),
+    ),
+    // The rooms are those of the last delivery.
+    (
+        Net::Behind,
+        &[1, 2, 3, 4],
+        4,
+        "rvc-trace 2 4 6 4\ni 0 c Copy\ni 1 s Sum\ni 2 j Join\ni 3 r Race\nr\nf 0 0\nr\nf 3 0\ng 3 2\nf 0 0\n",
+        Answer::Fails(11, Why::NoRoom),
+    ),
+    // The network isn't stalled, something hasn't arrived, and the link grows to another capacity.
+    (
+        Net::Beside,
+        &[1, 2, 3, 4],
+        4,
+        "rvc-trace 2 4 6 4\ni 0 c Copy\ni 1 s Sum\ni 2 j Join\ni 3 r Race\nr\nf 0 0\nr\ng 3 2\n",
+        Answer::Fails(9, Why::End),
+    ),
+    (
+        Net::Beside,
+        &[1, 2, 3, 4],
+        4,
+        "rvc-trace 2 4 6 4\ni 0 c Copy\ni 1 s Sum\ni 2 j Join\ni 3 r Race\nr\nf 3 0\nf 0 0\ng 3 2\n",
+        Answer::Fails(9, Why::End),
+    ),
+    (
+        Net::Beside,
+        &[1, 2, 3, 4],
+        4,
+        "rvc-trace 2 4 6 4\ni 0 c Copy\ni 1 s Sum\ni 2 j Join\ni 3 r Race\nr\nf 0 0\nr\nf 3 0\ng 3 3\n",
+        Answer::Fails(10, Why::End),
+    ),
+    // More of the input is to come on the link of which a token was taken.
+    (
+        Net::Short,
+        &[1, 2, 3, 4],
+        4,
+        "rvc-trace 2 4 6 4\ni 0 c Copy\ni 1 s Sum\ni 2 j Join\ni 3 r Race\nr\nf 0 0\nr\nf 3 0\ng 3 2\n",
+        Answer::Fails(10, Why::End),
+    ),
     // Each cause.
     (
         Net::Inc,

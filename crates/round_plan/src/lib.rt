@@ -5,8 +5,6 @@ mod all;
 mod policy;
 mod seed;
 mod shares;
-#[cfg(test)]
-mod tests;
 mod turn;
 
 pub use all::AllPolicy;

@@ -1,6 +1,4 @@
 mod Written
 mod UpTo
 mod Marks
-mod Stepping
-mod Halving
 mod Sharing

@@ -1,6 +1,6 @@
 -- The bursts of a round: how the leaves fire one after another, and what came of it.
 -- Trusted: part of what a promise means.
-use Rattle.std.specs.Prelude.{◌≡◌, ℕ, ◌<◌, List, [], length, slice_get, slice_index_or, Bool, Option, None, Some}
+use Rattle.std.specs.Prelude.{◌≡◌, ℕ, ◌<◌, List, [], length, min, nat_le, slice_get, slice_index_or, Bool, Option, None, Some, if◌then◌else◌}
 use Rattle.trace_text.specs.declared.line.Line.{Line}
 use Rattle.trace_text.specs.declared.line.Line.TheVariants.{Trap as TrapLine}
 use Rattle.net_model.specs.Network.{Network}
@@ -15,6 +15,7 @@ use Rattle.net_state.specs.Working.{AreFed, HasAction, IsAtRest, LooksFed, journ
 use Rattle.net_state.specs.declared.made.Bursts.{Bursts}
 use Rattle.net_state.specs.declared.made.Lacking.{Lacking}
 use Rattle.net_state.specs.declared.made.Trapped.{Trapped}
+use Rattle.net_state.specs.declared.sharing.Crew.{Crew}
 use Rattle.net_model.specs.declared.firing.Look.TheVariants as look
 use Rattle.net_state.specs.Surveyed.{AreUntrapped, LacksFirst}
 
@@ -47,6 +48,12 @@ pub record Bursted {X : Type 0} (share : Share) (marks : List Bool) (fired : ℕ
 abbrev pub shares : ℕ → ℕ → List Bool → Share
 shares burst left marks =
     record { burst = burst; left = left; picks = count_picked marks }
+
+-- The workers of a crew that work: as many as leaves are picked, if each of these has a firing at least, and else the
+-- first one alone.
+abbrev pub at_work : Crew → (left picks : ℕ) → Crew
+at_work crew left picks =
+    record crew { count = if nat_le picks left then min crew.count picks else 1 }
 
 -- the same as it is answered
 abbrev pub BurstedBy : {C X : Type 0} → (C → Cell X) → ℕ → ℕ → List Bool → Bursts → Held C → Held C

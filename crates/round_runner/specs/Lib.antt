@@ -1,8 +1,8 @@
 pub mod Choosing
-pub mod Pieces
 pub mod Sending
 pub mod Writing
 pub mod Firings
 pub mod Bursting
 pub mod Running
+pub mod Pulling
 pub mod Rounds

@@ -20,6 +20,7 @@ use Rattle.round_runner.specs.declared.outcome.RoundEnd.{RoundEnd}
 use Rattle.round_runner.specs.declared.outcome.RoundEnd.TheVariants as round
 use Rattle.round_runner.specs.declared.outcome.RunEnd.{RunEnd}
 use Rattle.round_runner.specs.declared.outcome.RunEnd.TheVariants as end
+use Rattle.round_runner.specs.Pulling.{NeedsPull}
 use Rattle.round_runner.specs.Running.{Running, StandsWith, buffer, moment_of, pace_of}
 
 -- What is written.
@@ -114,8 +115,9 @@ pub record Closed {X : Type 0} (net : Network X) (inputs : List (List ℕ)) (bud
   pub outputs : EachOut net run (OutGetsAll run old now) s (λ p. sent_to p net.links last.flows)
   pub counts : CountsOn net inputs s (lines_of block) last run.counts new.counts
 
--- A feed couldn't be read: no line is written, and nothing stays buffered.
-pub record CutOff {X : Type 0} (net : Network X) (s : State X) (run new : Running (Cell X)) (old now : Channels) : Type 0 where
+-- A feed couldn't be read, of which the delivery has to pull: no line is written, and nothing stays buffered.
+pub record CutOff {X : Type 0} (net : Network X) (inputs : List (List ℕ)) (s : State X) (feed : ℕ) (run new : Running (Cell X)) (feeds : Inputs) (old now : Channels) : Type 0 where
+  pub needs : NeedsPull net inputs s feed feeds
   pub trace : TraceGetsAll run old now []
   pub outputs : EachOut net run (OutGetsAll run old now) s (λ p. sent_to p net.links s.flows)
   pub counts : new.counts ≡ run.counts
@@ -154,7 +156,7 @@ Leaves net inputs budget left s (round.End (end.Stalled inst action link)) run n
 Leaves net inputs budget left s (round.End end.Budget) run new feeds old now =
     Closed net inputs budget left s end.Budget run new old now
 Leaves net inputs budget left s (round.End (end.ReadFault feed)) run new feeds old now =
-    CutOff net s run new old now
+    CutOff net inputs s feed run new feeds old now
 Leaves net inputs budget left s (round.End (end.WriteFault channel)) run new feeds old now =
     BrokenOff net budget left s run old now
 
@@ -187,11 +189,12 @@ pub record Ended {X : Type 0} (net : Network X) (inputs : List (List ℕ)) (budg
   pub answers : Answers (round.End how) final
   pub wrote : RunWrote net inputs s last (all_lines blocks ++ lines_of final) run new old now
 
--- a feed couldn't be read after these rounds
-pub record EndedEarly {X : Type 0} (net : Network X) (inputs : List (List ℕ)) (budget : ℕ) (s : State X) (run new : Running (Cell X)) (old now : Channels) : Type 0 where
+-- A feed couldn't be read after these rounds, of which the next delivery has to pull: so they are all that were made.
+pub record EndedEarly {X : Type 0} (net : Network X) (inputs : List (List ℕ)) (budget : ℕ) (s : State X) (feed : ℕ) (run new : Running (Cell X)) (feeds : Inputs) (old now : Channels) : Type 0 where
   pub blocks : List Block
   pub last : State X
   pub begun : AreBegunBy net (pace_of run budget) (moment_of run s budget) blocks None last
+  pub needs : NeedsPull net inputs last feed feeds
   pub wrote : RunWrote net inputs s last (all_lines blocks) run new old now
 
 -- a channel couldn't be written after these rounds, or in the last of them
@@ -204,16 +207,16 @@ pub record EndedBroken {X : Type 0} (net : Network X) (budget : ℕ) (s : State 
 
 -- what a run leaves, by its end
 abbrev pub RunLeaves : {X : Type 0} → Network X → List (List ℕ) → ℕ → State X → RunEnd
-    → Running (Cell X) → Running (Cell X) → Channels → Channels → Type 0
-RunLeaves net inputs budget s end.Quiet run new old now =
+    → Running (Cell X) → Running (Cell X) → Inputs → Channels → Channels → Type 0
+RunLeaves net inputs budget s end.Quiet run new feeds old now =
     Ended net inputs budget s end.Quiet run new old now
-RunLeaves net inputs budget s (end.Trapped inst action trap) run new old now =
+RunLeaves net inputs budget s (end.Trapped inst action trap) run new feeds old now =
     Ended net inputs budget s (end.Trapped inst action trap) run new old now
-RunLeaves net inputs budget s (end.Stalled inst action link) run new old now =
+RunLeaves net inputs budget s (end.Stalled inst action link) run new feeds old now =
     Ended net inputs budget s (end.Stalled inst action link) run new old now
-RunLeaves net inputs budget s end.Budget run new old now =
+RunLeaves net inputs budget s end.Budget run new feeds old now =
     Ended net inputs budget s end.Budget run new old now
-RunLeaves net inputs budget s (end.ReadFault feed) run new old now =
-    EndedEarly net inputs budget s run new old now
-RunLeaves net inputs budget s (end.WriteFault channel) run new old now =
+RunLeaves net inputs budget s (end.ReadFault feed) run new feeds old now =
+    EndedEarly net inputs budget s feed run new feeds old now
+RunLeaves net inputs budget s (end.WriteFault channel) run new feeds old now =
     EndedBroken net budget s run old now

@@ -35,6 +35,8 @@ pub record Running (C : Type 0) : Type 0 where
   pub kind : RoundKind
   pub burst : ℕ
   pub grow : ℕ
+  -- how many workers share the instances of a round, at most
+  pub workers : ℕ
   -- how many rounds were made, and whether the last one fired nothing
   pub rounds : ℕ
   pub idle : Bool

@@ -3,8 +3,8 @@
 ghost use Rattle.std.specs.Prelude.{◌≡◌, ◌≤◌, ◌<◌, ◌+◌, ◌^◌, length, map};
 ghost use Rattle.net_model.specs.Paced.{count_picked};
 ghost use Rattle.net_state.specs.Made.{first_of, lacking_by, trapped_by};
-ghost use Rattle.net_state.specs.Sharing.{AreFresh, AreShares};
-ghost use Rattle.round_runner.specs.Bursting.{BurstedBy, IdleBy};
+ghost use Rattle.net_state.specs.Sharing.{AreFresh, AreShares, HaveArrived};
+ghost use Rattle.round_runner.specs.Bursting.{BurstedBy, IdleBy, at_work};
 
 use crate::choosing::count_marks;
 use crate::limits::limit_for;
@@ -43,6 +43,8 @@ pub fn burst_each<R: Threads + Sync, A: Firing + Send, G: Gate>(
     ensures links { net.new.links ≡ net.old.links }
     ensures capacities { net.new.capacities ≡ net.old.capacities }
     ensures waited { net.new.waited ≡ net.old.waited }
+    ensures arrived { HaveArrived (G.arrived gate.now)
+        (at_work crew left (count_picked marks.now)) }
 {
     let picks = count_marks(marks);
     if u64::from(picks) <= left {
@@ -74,6 +76,7 @@ fn burst_shared<R: Threads + Sync, A: Firing + Send, G: Gate>(
     ensures links { net.new.links ≡ net.old.links }
     ensures capacities { net.new.capacities ≡ net.old.capacities }
     ensures waited { net.new.waited ≡ net.old.waited }
+    ensures arrived { HaveArrived (G.arrived gate.now) crew }
 {
     net.burst_each(rt, gate, crew, shares, marks)
 }

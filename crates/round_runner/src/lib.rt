@@ -8,7 +8,6 @@ mod choosing;
 mod limits;
 mod noting;
 mod outcome;
-mod piece;
 mod sending;
 
 pub use bursting::burst_each;
@@ -17,7 +16,6 @@ pub use limits::limit_for;
 pub use net_state::{Bursts, Crew, Lacking, Trapped};
 pub use noting::{note, note_firings};
 pub use outcome::{Plan, RoundEnd, RunEnd};
-pub use piece::{CellPiece, work_each};
 pub use sending::send_along;
 
 /// The channel of the trace.

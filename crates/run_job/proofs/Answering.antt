@@ -143,7 +143,7 @@ module _ (job : Job) (library : loading.Library) (misses faults : loading.Counts
   certified = record { said = image.uncertified.items; judged = has.judged; counted = refl }
 
   abbrev Leaves : Result Outcome JobFault → Type 0
-  Leaves came = (inputs : List (List ℕ)) → AreGiven cmd net inputs → LeavesJob (run_over cmd net inputs) came between
+  Leaves came = (inputs : List (List ℕ)) → AreGiven cmd net inputs → LeavesJob (run_over cmd net inputs) came feeds_new between
 
   leaves_of : (came : Result Outcome JobFault) → CellsRan image job feeds feeds_new old between came → Leaves came
   leaves_of came ran inputs given = ran.leaves actors net inputs has is given
@@ -160,7 +160,7 @@ module _ (job : Job) (library : loading.Library) (misses faults : loading.Counts
 
   -- a run that came to its end
   some_ran : (line : Line) (counts : Counts) → IsPermitted image.flat job → counts.firings ≤ job.budget → TouchesOnly cmd net
-      → ((inputs : List (List ℕ)) → AreGiven cmd net inputs → LeavesRun (run_over cmd net inputs) (Came line) counts between)
+      → ((inputs : List (List ℕ)) → AreGiven cmd net inputs → LeavesRun (run_over cmd net inputs) (Came line) counts feeds_new between)
       → Ran cmd net line counts (lines_at image names job (Ok (record { end = end.Quiet; counts = counts }))) (about_image image names job)
   unfolding to_run files
   some_ran line counts permitted within touches leaves = record {
@@ -178,7 +178,7 @@ module _ (job : Job) (library : loading.Library) (misses faults : loading.Counts
 
   how_ended : (how : RunEnd) (counts : Counts) → IsPermitted image.flat job → counts.firings ≤ job.budget → TouchesOnly cmd net
       → EndIsCaused image.flat.links.items (asks.in_names image.flat) (asks.out_names image.flat) (asks.words_of job) feeds feeds_new old between how
-      → ((inputs : List (List ℕ)) → AreGiven cmd net inputs → LeavesRun (run_over cmd net inputs) (ending_of how) counts between)
+      → ((inputs : List (List ℕ)) → AreGiven cmd net inputs → LeavesRun (run_over cmd net inputs) (ending_of how) counts feeds_new between)
       → Comes cmd (status_at how counts.firings) (lines_at image names job (Ok (record { end = end.Quiet; counts = counts }))) (about_image image names job)
   unfolding to_run files
   how_ended end.Quiet counts permitted within touches caused leaves = (net, record { counts = counts; ran = some_ran _ counts permitted within touches leaves })
@@ -195,7 +195,7 @@ module _ (job : Job) (library : loading.Library) (misses faults : loading.Counts
         is_feed = subst (λ ls. IsFeedOf ls (port_names net.ins) (asks.words_of job) feed) (sym links_are)
             (subst (λ ps. IsFeedOf image.flat.links.items ps (asks.words_of job) feed) (sym ins_are) caused.1);
         counts = counts;
-        leaves = λ inputs given. cut (run_over cmd net inputs) between new only counts (leaves inputs given);
+        leaves = λ inputs given. cut (run_over cmd net inputs) between new only counts feed feeds_new (leaves inputs given);
         within = within;
         touches = touches;
       });

@@ -37,20 +37,20 @@ pub same_names : (ports : List Port) (own : List NetPort) → own ≡ map port_o
 same_names ports own is = ap port_names is ∙ map-map (λ port. port.name) port_of ports
 
 -- what runs of cells leave, over all networks of them
-abbrev pub LeavesCells : List (Cell lowered.ActorState) → Image → Job → Inputs → Channels → Result Outcome JobFault → Type 0
-LeavesCells cells image job feeds channels came = (net : Network lowered.ActorState) (inputs : List (List ℕ)) → asks.IsNetworkOf net cells image.flat
+abbrev pub LeavesCells : List (Cell lowered.ActorState) → Image → Job → Inputs → Inputs → Channels → Result Outcome JobFault → Type 0
+LeavesCells cells image job feeds feeds_new channels came = (net : Network lowered.ActorState) (inputs : List (List ℕ)) → asks.IsNetworkOf net cells image.flat
     → AreInputs inputs image.flat.links.items (asks.in_names image.flat) (asks.words_of job) feeds
-    → LeavesJob (setting_of net inputs (given_state net cells inputs) job) came channels
+    → LeavesJob (setting_of net inputs (given_state net cells inputs) job) came feeds_new channels
 
 module _ (image : Image) (actors : List Actor) (net : Network ActorState) (has : HasImage image actors net) (is : IsActorNetwork actors net)
     (job : Job) (within : IsWithin (job_text job)) (cells : List (Cell lowered.ActorState)) (are : AreCellsOf (map arc_value image.codes.items) image.flat.links.items job.burst job.grow cells) where
-  pub source_leaves : (feeds : Inputs) (channels : Channels) (came : Result Outcome JobFault) (inputs : List (List ℕ)) → LeavesCells cells image job feeds channels came
+  pub source_leaves : (feeds feeds_new : Inputs) (channels : Channels) (came : Result Outcome JobFault) (inputs : List (List ℕ)) → LeavesCells cells image job feeds feeds_new channels came
       → AreInputs inputs net.links (port_names net.ins) (asks.words_of job) feeds
-      → LeavesJob (setting_of net inputs (start_of net inputs) job) came channels
-  source_leaves feeds channels came inputs leaves given =
+      → LeavesJob (setting_of net inputs (start_of net inputs) job) came feeds_new channels
+  source_leaves feeds feeds_new channels came inputs leaves given =
       job_too actors (map arc_value image.codes.items) net is (stand image actors net has is) inputs
       (given_state (lowered_network (map arc_value image.codes.items) net) cells inputs) (start_of net inputs)
-      (starts image actors net has is job within cells are inputs) job channels came
+      (starts image actors net has is job within cells are inputs) job channels came feeds_new
       (leaves (lowered_network (map arc_value image.codes.items) net) inputs (is_network image actors net has is job within cells are)
       (subst (λ links. AreInputs inputs links (asks.in_names image.flat) (asks.words_of job) feeds) (has.is_net).wiring.links
       (subst (λ ins. AreInputs inputs net.links ins (asks.words_of job) feeds) (same_names image.flat.ins.items net.ins (has.is_net).wiring.ins) given)))

@@ -1,5 +1,6 @@
 -- The report is put behind what a run leaves, and changes nothing of that.
 use Rattle.std.proofs.Common.{◌≡◌, ◌≢◌, inl, inr, ℕ, ◌+◌, ◌≤◌, List, [], ◌∷◌, ◌++◌, refl, sym, ap, ◌∙◌, arith}
+use Rattle.rvc_io.specs.Feeds.{Inputs}
 use Rattle.rvc_io.specs.Channels.{Channels, WritesOnlyAt}
 use Rattle.rvc_io.specs.Count.{HasRisen}
 use Rattle.trace_text.specs.declared.line.Line.{Line}
@@ -66,11 +67,12 @@ module _ {X : Type 0} (run : Setting X) (old new : Channels) (only : WritesOnlyA
     spent = h.spent;
   }
 
-  pub cut : (counts : Counts) → WasCut run counts old → WasCut run counts new
-  cut counts h = record {
+  pub cut : (counts : Counts) (feed : ℕ) (feeds : Inputs) → WasCut run counts feed feeds old → WasCut run counts feed feeds new
+  cut counts feed feeds h = record {
     lines = h.lines;
     reached = h.reached;
     begun = h.begun;
+    needs = h.needs;
     permitted = h.permitted;
     wrote = wrote h.lines h.reached.state h.wrote;
     counted = h.counted;

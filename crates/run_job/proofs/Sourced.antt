@@ -3,6 +3,7 @@ use Rattle.std.proofs.Common.{◌≡◌, inl, inr, ⊎_elim, ℕ, ◌+◌, List,
 use Rattle.std.specs.declared.result.Result.{Result}
 use Rattle.std.specs.declared.result.Result.TheVariants.{Ok, Err}
 use Rattle.rvc_io.specs.Channels.{Channels}
+use Rattle.rvc_io.specs.Feeds.{Inputs}
 use Rattle.rvc_words.specs.declared.job.Job.{Job}
 use Rattle.trace_text.specs.declared.line.Line.{Line}
 use Rattle.cal_model.specs.Actor.{Actor}
@@ -20,6 +21,7 @@ use Rattle.net_model.proofs.Rounds.{begun_play, paced_play}
 use Rattle.network_cells.specs.Sources.{IsActorNetwork, StandForActors, lowered_network, may_come_at, stands_at}
 use Rattle.network_cells.proofs.Lawlike.{begun_alike, bytes_alike, counted_alike, keep_alike, paced_alike, texts_alike}
 use Rattle.network_cells.proofs.LikeSources.{lowered_alike}
+use Rattle.network_cells.proofs.RunsToo.{needs_alike}
 use Rattle.network_job.specs.Answering.{LeavesJob}
 use Rattle.network_job.specs.Leaving.{Came, Ending, HasEnded, Holds, HoldsPrefix, LeavesRun, Setting, Unread, Unwritten, WasBroken, WasCut, Wrote, WrotePrefixes, ending_of, pace_of, setting_of}
 use Rattle.network_job.specs.declared.outcome.JobFault.{JobFault}
@@ -114,13 +116,14 @@ module _ (actors : List Actor) (codes : List coded.Actor) (net : Network ActorSt
         spent = ended.spent;
       }
 
-  cut_too : (counts : Counts) → WasCut of_cells counts channels → WasCut of_sources counts channels
-  cut_too counts cut =
+  cut_too : (counts : Counts) (feed : ℕ) (feeds : Inputs) → WasCut of_cells counts feed feeds channels → WasCut of_sources counts feed feeds channels
+  cut_too counts feed feeds cut =
       let too = begun_too cut.lines cut.reached cut.begun in
       record {
         lines = cut.lines;
         reached = too.there;
         begun = too.begun;
+        needs = needs_alike (stands_at actors) (may_come_at actors) (lowered_network codes net) net alike inputs cut.reached.state too.there.state feed feeds too.ends cut.needs;
         permitted = record {
           plays = begun_play net (pace_of job) that cut.lines too.there too.begun;
           keeps = keeps_too cut.lines cut.permitted.keeps;
@@ -157,14 +160,14 @@ module _ (actors : List Actor) (codes : List coded.Actor) (net : Network ActorSt
       })
       broken.begun_or_paced
 
-  run_too : (ending : Ending) (counts : Counts) → LeavesRun of_cells ending counts channels → LeavesRun of_sources ending counts channels
-  run_too (Came line) counts leaves = ended_too line counts leaves
-  run_too (Unread feed) counts leaves = cut_too counts leaves
-  run_too (Unwritten channel) counts leaves = broken_too leaves
+  run_too : (ending : Ending) (counts : Counts) (feeds : Inputs) → LeavesRun of_cells ending counts feeds channels → LeavesRun of_sources ending counts feeds channels
+  run_too (Came line) counts feeds leaves = ended_too line counts leaves
+  run_too (Unread feed) counts feeds leaves = cut_too counts feed feeds leaves
+  run_too (Unwritten channel) counts feeds leaves = broken_too leaves
 
-  pub job_too : (came : Result Outcome JobFault) → LeavesJob of_cells came channels → LeavesJob of_sources came channels
-  job_too (Ok outcome) leaves = run_too (ending_of outcome.end) outcome.counts leaves
-  job_too (Err (fault.Refused refusal)) leaves = tt
-  job_too (Err fault.Memory) leaves = tt
-  job_too (Err (fault.ReadFault feed)) leaves = tt
-  job_too (Err (fault.WriteFault channel)) leaves = broken_too leaves
+  pub job_too : (came : Result Outcome JobFault) (feeds : Inputs) → LeavesJob of_cells came feeds channels → LeavesJob of_sources came feeds channels
+  job_too (Ok outcome) feeds leaves = run_too (ending_of outcome.end) outcome.counts feeds leaves
+  job_too (Err (fault.Refused refusal)) feeds leaves = tt
+  job_too (Err fault.Memory) feeds leaves = tt
+  job_too (Err (fault.ReadFault feed)) feeds leaves = tt
+  job_too (Err (fault.WriteFault channel)) feeds leaves = broken_too leaves

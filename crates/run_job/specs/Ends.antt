@@ -69,13 +69,14 @@ pub record FeedUnopened (cmd : Command) (net : Network State) (feed : ℕ) : Typ
       cmd.feeds_after
   pub only_report : WritesOnlyAt 0 cmd.channels cmd.channels_after
 
--- A feed couldn't be read, which was counted: the trace and the outputs have what begun lines give.
+-- A feed couldn't be read, which was counted: the trace and the outputs have what begun lines give, those of all rounds that
+-- were made, and the delivery behind them has to pull from this feed.
 pub record FeedBroke (cmd : Command) (net : Network State) (feed : ℕ) : Type 0 where
   pub counted : HasRisen cmd.feeds.faults cmd.feeds_after.faults
   pub is_feed : IsFeedOf net.links (port_names net.ins) (words_of cmd) feed
   pub counts : Counts
   pub leaves : (inputs : List (List ℕ)) → AreGiven cmd net inputs
-      → WasCut (run_over cmd net inputs) counts cmd.channels_after
+      → WasCut (run_over cmd net inputs) counts feed cmd.feeds_after cmd.channels_after
   pub within : counts.firings ≤ cmd.job.budget
   pub touches : TouchesOnly cmd net
 

@@ -99,7 +99,7 @@ pub record CellsRan (image : Image) (job : Job) (feeds feeds_new : Inputs) (old 
   pub leaves : (actors : List Actor) (net : Network State) (inputs : List (List ℕ))
       → HasImage image actors net → IsActorNetwork actors net
       → AreInputs inputs net.links (port_names net.ins) (asks.words_of job) feeds
-      → LeavesJob (setting_of net inputs (start_of net inputs) job) came new
+      → LeavesJob (setting_of net inputs (start_of net inputs) job) came feeds_new new
   pub within : IfOk came (λ outcome. outcome.counts.firings ≤ job.budget)
   pub permitted : IfStarted came (IsPermitted image.flat job)
   pub refused : OnRefused came (IsRefused image.flat job)

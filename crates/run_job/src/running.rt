@@ -54,7 +54,8 @@ use std::thread::Threads;
 ///   Z12 at the command line, for links that may grow too far. `ReadFault` of a file: that reading failed, and was counted.
 ///   `OutOfMemory`: an allocation was refused. With these nothing is opened, and no channel is written but that of the report.
 /// - `ReadFault` of a feed, which was counted: it couldn't be opened, and no channel was; or it couldn't be read, and the
-///   trace and the outputs have what begun lines give, without an end.
+///   trace and the outputs have what begun lines give, without an end: those of all rounds that were made, behind which the
+///   next delivery has to pull from this feed.
 /// - `WriteFault`, which was counted: of channel 1 or an output's, and then each channel that was opened has a prefix of what
 ///   begun or paced lines give; of channel 0 if the report couldn't be put, of which it has a prefix, and then the others have
 ///   what they have by the status that couldn't be told.

@@ -38,12 +38,12 @@ module _ {C X : Type 0} (cell : C → Cell X) (cells : List (Cell X)) (wiring : 
   pub leaves_from : {S T : Type 0} (feeds : S → Inputs) (channels : T → Channels) (new : Running C) (feeds_old feeds_new : S) (drains_old drains_new : T) (budget : ℕ) (how : RunEnd)
       → RunsArePaced X → EndLeaves cell feeds channels run new feeds_old feeds_new drains_old drains_new budget how
       → (net : Network X) (inputs : List (List ℕ)) → IsNetworkOf net cells wiring → IsReady net plan.grow plan.burst cells → HaveInputs inputs wiring.links.items wiring.open_ins.items (feeds feeds_old)
-      → RunsFromStart net inputs budget (given_state net cells inputs) how (seen_run cell run) (seen_run cell new) (channels drains_old) (channels drains_new)
+      → RunsFromStart net inputs budget (given_state net cells inputs) how (seen_run cell run) (seen_run cell new) (feeds feeds_new) (channels drains_old) (channels drains_new)
   leaves_from feeds channels new feeds_old feeds_new drains_old drains_new budget how law leaves net inputs is_of ready told =
       let told_there : HaveInputs inputs run.held.links run.reads (feeds feeds_old) =
       subst (λ links. HaveInputs inputs links run.reads (feeds feeds_old)) (sym begins.links_are) (subst (λ reads. HaveInputs inputs wiring.links.items reads (feeds feeds_old)) (sym begins.reads) told) in
       let start : IsAtStart net inputs (seen_run cell run) (feeds feeds_old) (given_state net cells inputs) = begins.states net inputs (feeds feeds_old) is_of ready told_there in
-      law net inputs budget (given_state net cells inputs) how (seen_run cell run) (seen_run cell new) (channels drains_old) (channels drains_new)
+      law net inputs budget (given_state net cells inputs) how (seen_run cell run) (seen_run cell new) (feeds feeds_new) (channels drains_old) (channels drains_new)
       (record {
         wired = start.stands.is_run_of.wired;
         lawful = start.stands.is_run_of.lawful;
@@ -58,7 +58,7 @@ module _ {C X : Type 0} (cell : C → Cell X) (cells : List (Cell X)) (wiring : 
   pub ran_from : {S T : Type 0} (feeds : S → Inputs) (channels : T → Channels) (new : Running C) (feeds_old feeds_new : S) (drains_old drains_new : T) (budget : ℕ) (ran : Ran)
       → RunsArePaced X → EndLeaves cell feeds channels run new feeds_old feeds_new drains_old drains_new budget ran.end
       → ran.firings ≡ new.counts.firings → ran.rounds ≡ new.counts.rounds → ran.arrived ≡ first_or_0 new.counts.arrived.items → ran.sent ≡ first_or_0 new.counts.sent.items
-      → RanFrom cells wiring plan kind budget (feeds feeds_old) (channels drains_old) (channels drains_new) ran
+      → RanFrom cells wiring plan kind budget (feeds feeds_old) (feeds feeds_new) (channels drains_old) (channels drains_new) ran
   ran_from feeds channels new feeds_old feeds_new drains_old drains_new budget ran law leaves firings rounds arrived sent = record {
     run = seen_run cell run;
     new = seen_run cell new;

@@ -104,7 +104,8 @@ pub fn run_network<R: Threads + Sync, P: Policy, F: Feeds, D: Drains, G: Gate>(
     requires feeds { AreFeedsOpen ready.wiring (F.feeds feeds.old) }
     requires channels { AreChannelsOpen ready.wiring (D.channels drains.old) }
     ensures leaves { IfOk result (RanFrom (map seen ready.cells.items) ready.wiring ready.plan
-        (P.kind policy) budget (F.feeds feeds.old) (D.channels drains.old) (D.channels drains.new)) }
+        (P.kind policy) budget (F.feeds feeds.old) (F.feeds feeds.new) (D.channels drains.old)
+        (D.channels drains.new)) }
     ensures within { IfOk result (λ ran. ran.firings ≤ budget) }
     ensures read_faults { IfOk result (λ ran. (feed : ℕ) → ran.end ≡ RunEnd.ReadFault feed
         → ReadFails F.feeds feeds.old feeds.new) }

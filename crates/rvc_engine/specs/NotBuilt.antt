@@ -28,7 +28,7 @@ use Rattle.rvc_engine.specs.declared.fault.BuildFault.TheVariants.{Refused, Read
 -- ---- forms without code
 
 -- An actor lacks code, at this offset of its file: a part that stands there has a form for which none is made yet; or no part
--- is left out, but the code of its actions isn't seen to keep the facts that they rely on, and the offset is the actor's own.
+-- is left out, but an instruction of the code may not stand where it does, and the offset is the actor's own.
 pub data LacksCode (actor : Actor) (scope : Scope) : (at : ℕ) → Type 0 where
   of_part : (b : Bound) (at : ℕ) → actor_of b ≡ actor → IsActorFault b (lowering.NotLowered at)
       → LacksCode actor scope at

@@ -146,7 +146,6 @@ fn left_over(files: &NetworkFiles, checked: &Checked, failed: NotCompiled) -> Bu
 {
     match failed.fault {
         ActorFault::Memory => BuildFault::Memory,
-        ActorFault::TooLarge => BuildFault::Memory,
         ActorFault::NotLowered { at } => match place_of(files, checked, failed.place) {
             Ok(place) => not_built(place.file, at),
             Err(Memory) => BuildFault::Memory,

@@ -13,8 +13,6 @@ mod library;
 mod mem_drains;
 mod mem_feeds;
 mod mem_library;
-#[cfg(test)]
-mod tests;
 
 pub use drains::Drains;
 pub use feeds::Feeds;

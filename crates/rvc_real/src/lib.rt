@@ -8,8 +8,6 @@ mod file_drains;
 mod file_feeds;
 mod folder_library;
 mod open_files;
-#[cfg(test)]
-mod tests;
 
 pub use file_drains::FileDrains;
 pub use file_feeds::FileFeeds;

@@ -4,7 +4,5 @@
 
 mod fsm;
 mod table;
-#[cfg(test)]
-mod tests;
 
 pub use fsm::{Fsm, FsmFault, Step, build};

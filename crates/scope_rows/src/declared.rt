@@ -1,64 +1,12 @@
 //! The names that files declare themselves, as text, or the second declaration of one.
 
 use crate::rows::{fault_shown, file_of};
+use crate::table::{answered, cut, role_of};
 use cal_ast::Body;
 use cal_scope::{FileNames, Inside, Role, ScopeFault};
 use std::alloc::Global;
 use std::process::Abort;
 use std::test::Fail;
-
-/// Files, the name that is asked for with what it is to be, and its text in full.
-const FILES: &[(&str, (&str, Role), &str)] = &[
-    (
-        "actor A ( int p ) ==> : int v ; function f ( ) --> int : 1 end end",
-        ("p", Role::Variable),
-        "p",
-    ),
-    (
-        "actor A ( int p ) ==> : int v ; function f ( ) --> int : 1 end end",
-        ("f", Role::Function),
-        "f",
-    ),
-    (
-        "actor A ( ) ==> : procedure q ( ) begin end end",
-        ("q", Role::Procedure),
-        "q",
-    ),
-    (
-        "actor A ( ) ==> : procedure q ( ) begin end end",
-        ("v", Role::Variable),
-        "S1 at 0",
-    ),
-    // the second declaration of a name
-    (
-        "actor A ( int p ) ==> : int p ; end",
-        ("p", Role::Variable),
-        "S2 at 24",
-    ),
-    (
-        "actor A ( int p , int p ) ==> : end",
-        ("p", Role::Variable),
-        "S2 at 18",
-    ),
-    (
-        "actor A ( ) ==> : int f ; function f ( ) --> int : 1 end end",
-        ("f", Role::Variable),
-        "S2 at 26",
-    ),
-    // a port, a tag and a state are names of other kinds
-    (
-        "actor A ( ) int In ==> : int In ; In : action ==> end schedule fsm In : In ( In ) --> In ; end end",
-        ("In", Role::Variable),
-        "In",
-    ),
-    // of a unit the class stands before the name
-    ("unit U : int k = 1 ; end", ("k", Role::Variable), "lib.U.k"),
-    (
-        "unit U : int k = 1 ; int k = 2 ; end",
-        ("k", Role::Variable),
-        "S2 at 21",
-    ),
-];
 
 /// The names that a file declares.
 fn declared(a: Global, body: &Body) -> Result<FileNames, ScopeFault> {
@@ -85,13 +33,47 @@ fn answer(a: Global, text: &str, name: &str, role: Role) -> Result<String, Fail>
     }
 }
 
+/// Stops unless the name of a row has its answer.
+fn hold_row(rt: &impl Abort, a: Global, row: &str) -> Result<(), Fail> {
+    let (asked, want) = answered(row);
+    let (role, rest) = cut(asked, " ");
+    let (name, text) = cut(rest, " in ");
+    let found = answer(a, text, name, role_of(role))?;
+    let holds = found.as_str() == want;
+    assert!(rt; holds, "{text} gives {found}");
+    Ok(())
+}
+
 #[test]
 fn names_that_files_declare(rt: HostRuntime) -> Result<(), Fail> {
-    let a = rt.alloc();
-    for &(text, (name, role), want) in FILES {
-        let found = answer(a, text, name, role)?;
-        let holds = found.as_str() == want;
-        assert!(rt; holds, "{text} gives {found}");
+    for row in FILES.split("\n# ") {
+        if !row.is_empty() {
+            hold_row(&rt, rt.alloc(), row)?;
+        }
     }
     Ok(())
 }
+
+/// What the name that is asked for is to be, the name, and the file, with its text in full: names, second declarations,
+/// a port, a tag and a state, which are names of other kinds, and units, whose class stands before the name.
+const FILES: &str = "
+# variable p in actor A ( int p ) ==> : int v ; function f ( ) --> int : 1 end end
+= p
+# function f in actor A ( int p ) ==> : int v ; function f ( ) --> int : 1 end end
+= f
+# procedure q in actor A ( ) ==> : procedure q ( ) begin end end
+= q
+# variable v in actor A ( ) ==> : procedure q ( ) begin end end
+= S1 at 0
+# variable p in actor A ( int p ) ==> : int p ; end
+= S2 at 24
+# variable p in actor A ( int p , int p ) ==> : end
+= S2 at 18
+# variable f in actor A ( ) ==> : int f ; function f ( ) --> int : 1 end end
+= S2 at 26
+# variable In in actor A ( ) int In ==> : int In ; In : action ==> end schedule fsm In : In ( In ) --> In ; end end
+= In
+# variable k in unit U : int k = 1 ; end
+= lib.U.k
+# variable k in unit U : int k = 1 ; int k = 2 ; end
+= S2 at 21";

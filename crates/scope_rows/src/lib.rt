@@ -16,3 +16,5 @@ mod names;
 mod rows;
 #[cfg(test)]
 mod scopes;
+#[cfg(test)]
+mod table;

@@ -1,6 +1,7 @@
 //! Members of an actor with each name written out in full, or the rule of scope that they break, with its place.
 
 use crate::rows::{fault_shown, file_of, names_of, printed};
+use crate::table::answered;
 use cal_ast::{Actor, Body, File};
 use cal_scope::{FileNames, PortNames, ScopeFault, resolve_members};
 use std::alloc::Global;
@@ -9,90 +10,6 @@ use std::test::Fail;
 
 /// What stands before the members in their file.
 const BEFORE: &str = "actor A ( ) int In ==> int Out : ";
-
-/// Functions and procedures.
-const FUNCTIONS: &[(&str, &str)] = &[
-    (
-        "function h ( int x ) --> int : x + k end",
-        "function h ( int x ) --> int : x + lib.U.k end",
-    ),
-    // formals and locals are one scope, and hide what is outside
-    (
-        "function h ( int k ) --> int : k + n end",
-        "function h ( int k ) --> int : k + n end",
-    ),
-    (
-        "function h ( int x ) --> int var int k = k + x : k end",
-        "function h ( int x ) --> int var int k = lib.U.k + x : k end",
-    ),
-    ("function h ( int x , int x ) --> int : x end", "S2 at 21"),
-    (
-        "function h ( int x ) --> int var int x = 1 : x end",
-        "S2 at 33",
-    ),
-    ("function h ( int f ) --> int : f ( f ) end", "S5 at 31"),
-    (
-        "procedure q ( int x ) begin n := g ( x ) ; p ( k ) ; end",
-        "procedure q ( int x ) begin n := lib.U.g ( x ) ; p ( lib.U.k ) ; end",
-    ),
-    ("procedure q ( ) begin f ( 1 ) ; end", "S5 at 22"),
-    ("procedure q ( ) begin m := 1 ; end", "S1 at 22"),
-];
-
-/// Statements, in procedures.
-const STATEMENTS: &[(&str, &str)] = &[
-    (
-        "procedure q ( ) begin foreach int k in 1 .. k do n := k ; end end",
-        "procedure q ( ) begin foreach int k in 1 .. lib.U.k do n := k ; end end",
-    ),
-    (
-        "procedure q ( ) begin foreach int i in 1 .. 2 do n := i ; end n := i ; end",
-        "S1 at 67",
-    ),
-    (
-        "procedure q ( ) begin begin var int k = k do k := k ; end k := n ; end",
-        "procedure q ( ) begin begin var int k = lib.U.k do k := k ; end lib.U.k := n ; end",
-    ),
-    (
-        "procedure q ( ) begin begin var int j = 1 , int j = 2 do end end",
-        "S2 at 44",
-    ),
-    (
-        "procedure q ( ) begin while k < 1 do n [ k ] := k ; end end",
-        "procedure q ( ) begin while lib.U.k < 1 do n [ lib.U.k ] := lib.U.k ; end end",
-    ),
-    (
-        "procedure q ( ) begin if true then n := k ; else n := j ; end end",
-        "S1 at 54",
-    ),
-];
-
-/// Actions, whose ports are those of the header.
-const ACTIONS: &[(&str, &str)] = &[
-    (
-        "action In : [ k ] ==> Out : [ k , g ( k ) ] end",
-        "action In : [ k ] ==> Out : [ k , lib.U.g ( k ) ] end",
-    ),
-    // a `repeat` sees no pattern variable
-    (
-        "action In : [ k ] repeat k ==> end",
-        "action In : [ k ] repeat lib.U.k ==> end",
-    ),
-    (
-        "a . b : action ==> guard k = n var int k = k do n := k ; end",
-        "a . b : action ==> guard lib.U.k = n var int k = lib.U.k do n := k ; end",
-    ),
-    ("action In : [ a , a ] ==> end", "S2 at 18"),
-    ("action In : [ a ] ==> var int a = 1 end", "S2 at 26"),
-    ("action Out : [ a ] ==> end", "S5 at 7"),
-    ("action Im : [ a ] ==> end", "S1 at 7"),
-    ("action ==> In : [ 1 ] end", "S5 at 11"),
-    ("action ==> Out : [ a ] end", "S1 at 19"),
-    (
-        "initialize ==> Out : [ k ] end",
-        "initialize ==> Out : [ lib.U.k ] end",
-    ),
-];
 
 /// An actor with its members resolved.
 fn resolved(a: Global, names: &FileNames, actor: &Actor) -> Result<Actor, ScopeFault> {
@@ -132,14 +49,23 @@ fn wanted(a: Global, want: &str) -> Result<String, Fail> {
     Ok(format!(in a; "{BEFORE}{want} end ")?)
 }
 
-/// Stops at the first row whose answer is another.
-fn hold(rt: &impl Abort, a: Global, rows: &[(&str, &str)]) -> Result<(), Fail> {
+/// Stops unless the members of a row have their answer.
+fn hold_row(rt: &impl Abort, a: Global, names: &FileNames, row: &str) -> Result<(), Fail> {
+    let (text, want) = answered(row);
+    let found = answer(a, names, text)?;
+    let whole = wanted(a, want)?;
+    let holds = found.as_str() == want || found.as_str() == whole.as_str();
+    assert!(rt; holds, "{text} gives {found}");
+    Ok(())
+}
+
+/// Stops at the first row of a table whose answer is another.
+fn hold(rt: &impl Abort, a: Global, table: &str) -> Result<(), Fail> {
     let names = names_of(a)?;
-    for &(text, want) in rows {
-        let found = answer(a, &names, text)?;
-        let whole = wanted(a, want)?;
-        let holds = found.as_str() == want || found.as_str() == whole.as_str();
-        assert!(rt; holds, "{text} gives {found}");
+    for row in table.split("\n# ") {
+        if !row.is_empty() {
+            hold_row(rt, a, &names, row)?;
+        }
     }
     Ok(())
 }
@@ -149,12 +75,71 @@ fn functions_and_procedures(rt: HostRuntime) -> Result<(), Fail> {
     hold(&rt, rt.alloc(), FUNCTIONS)
 }
 
+/// Functions and procedures. Formals and locals are one scope, and hide what is outside.
+const FUNCTIONS: &str = "
+# function h ( int x ) --> int : x + k end
+= function h ( int x ) --> int : x + lib.U.k end
+# function h ( int k ) --> int : k + n end
+= function h ( int k ) --> int : k + n end
+# function h ( int x ) --> int var int k = k + x : k end
+= function h ( int x ) --> int var int k = lib.U.k + x : k end
+# function h ( int x , int x ) --> int : x end
+= S2 at 21
+# function h ( int x ) --> int var int x = 1 : x end
+= S2 at 33
+# function h ( int f ) --> int : f ( f ) end
+= S5 at 31
+# procedure q ( int x ) begin n := g ( x ) ; p ( k ) ; end
+= procedure q ( int x ) begin n := lib.U.g ( x ) ; p ( lib.U.k ) ; end
+# procedure q ( ) begin f ( 1 ) ; end
+= S5 at 22
+# procedure q ( ) begin m := 1 ; end
+= S1 at 22";
+
 #[test]
 fn statements(rt: HostRuntime) -> Result<(), Fail> {
     hold(&rt, rt.alloc(), STATEMENTS)
 }
 
+/// Statements, in procedures.
+const STATEMENTS: &str = "
+# procedure q ( ) begin foreach int k in 1 .. k do n := k ; end end
+= procedure q ( ) begin foreach int k in 1 .. lib.U.k do n := k ; end end
+# procedure q ( ) begin foreach int i in 1 .. 2 do n := i ; end n := i ; end
+= S1 at 67
+# procedure q ( ) begin begin var int k = k do k := k ; end k := n ; end
+= procedure q ( ) begin begin var int k = lib.U.k do k := k ; end lib.U.k := n ; end
+# procedure q ( ) begin begin var int j = 1 , int j = 2 do end end
+= S2 at 44
+# procedure q ( ) begin while k < 1 do n [ k ] := k ; end end
+= procedure q ( ) begin while lib.U.k < 1 do n [ lib.U.k ] := lib.U.k ; end end
+# procedure q ( ) begin if true then n := k ; else n := j ; end end
+= S1 at 54";
+
 #[test]
 fn actions(rt: HostRuntime) -> Result<(), Fail> {
     hold(&rt, rt.alloc(), ACTIONS)
 }
+
+/// Actions, whose ports are those of the header. A `repeat` sees no pattern variable.
+const ACTIONS: &str = "
+# action In : [ k ] ==> Out : [ k , g ( k ) ] end
+= action In : [ k ] ==> Out : [ k , lib.U.g ( k ) ] end
+# action In : [ k ] repeat k ==> end
+= action In : [ k ] repeat lib.U.k ==> end
+# a . b : action ==> guard k = n var int k = k do n := k ; end
+= a . b : action ==> guard lib.U.k = n var int k = lib.U.k do n := k ; end
+# action In : [ a , a ] ==> end
+= S2 at 18
+# action In : [ a ] ==> var int a = 1 end
+= S2 at 26
+# action Out : [ a ] ==> end
+= S5 at 7
+# action Im : [ a ] ==> end
+= S1 at 7
+# action ==> In : [ 1 ] end
+= S5 at 11
+# action ==> Out : [ a ] end
+= S1 at 19
+# initialize ==> Out : [ k ] end
+= initialize ==> Out : [ lib.U.k ] end";

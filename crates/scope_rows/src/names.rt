@@ -1,51 +1,11 @@
 //! What names stand for inside scopes, as rows.
 
-use cal_scope::{FileNames, Frame, Inside, NameSet, Role, ScopeFault};
+use crate::rows::names_of;
+use crate::table::{answered, cut, role_of};
+use cal_scope::{Frame, Inside, NameSet, Role, ScopeFault};
 use std::alloc::Global;
 use std::process::Abort;
 use std::test::Fail;
-
-/// The names of a file with what they stand for.
-const NAMES: &[(&str, Role, &str)] = &[
-    ("n", Role::Variable, "n"),
-    ("f", Role::Function, "f"),
-    ("p", Role::Procedure, "p"),
-    ("k", Role::Variable, "lib.U.k"),
-    ("g", Role::Function, "lib.U.g"),
-];
-
-/// Uses where no scope stands round.
-const OUTSIDE: &[(&str, Role, &str)] = &[
-    ("n", Role::Variable, "n"),
-    ("k", Role::Variable, "lib.U.k"),
-    ("g", Role::Function, "lib.U.g"),
-    ("p", Role::Procedure, "p"),
-    ("m", Role::Variable, "S1 at 7"),
-    ("g", Role::Variable, "S5 at 7"),
-    ("k", Role::Function, "S5 at 7"),
-    ("p", Role::Function, "S5 at 7"),
-    ("f", Role::Procedure, "S5 at 7"),
-];
-
-/// Uses inside a scope of `i`, which stands inside one of `g`.
-const INSIDE: &[(&str, Role, &str)] = &[
-    ("i", Role::Variable, "i"),
-    ("g", Role::Variable, "g"),
-    ("g", Role::Function, "S5 at 7"),
-    ("k", Role::Variable, "lib.U.k"),
-    ("f", Role::Function, "f"),
-    ("j", Role::Variable, "S1 at 7"),
-];
-
-fn file_names(a: Global) -> Result<FileNames, Fail> {
-    let mut names = FileNames::new(a);
-    for &(name, role, full) in NAMES {
-        if !names.has(name) {
-            names.add(name, role, full)?;
-        }
-    }
-    Ok(names)
-}
 
 /// The full name, or the rule that the use breaks.
 fn answer(a: Global, names: &Inside, name: &str, role: Role) -> Result<String, Fail> {
@@ -56,17 +16,22 @@ fn answer(a: Global, names: &Inside, name: &str, role: Role) -> Result<String, F
     }
 }
 
-/// Stops at the first row whose answer is another.
-fn hold(
-    rt: &impl Abort,
-    a: Global,
-    names: &Inside,
-    rows: &[(&str, Role, &str)],
-) -> Result<(), Fail> {
-    for &(name, role, want) in rows {
-        let found = answer(a, names, name, role)?;
-        let holds = found.as_str() == want;
-        assert!(rt; holds, "{name} gives {found}");
+/// Stops unless the use of a row has its answer.
+fn hold_row(rt: &impl Abort, a: Global, names: &Inside, row: &str) -> Result<(), Fail> {
+    let (text, want) = answered(row);
+    let (role, name) = cut(text, " ");
+    let found = answer(a, names, name, role_of(role))?;
+    let holds = found.as_str() == want;
+    assert!(rt; holds, "{name} gives {found}");
+    Ok(())
+}
+
+/// Stops at the first row of a table whose answer is another.
+fn hold(rt: &impl Abort, a: Global, names: &Inside, table: &str) -> Result<(), Fail> {
+    for row in table.split("\n# ") {
+        if !row.is_empty() {
+            hold_row(rt, a, names, row)?;
+        }
     }
     Ok(())
 }
@@ -74,9 +39,30 @@ fn hold(
 #[test]
 fn names_of_a_file(rt: HostRuntime) -> Result<(), Fail> {
     let a = rt.alloc();
-    let names = file_names(a)?;
+    let names = names_of(a)?;
     hold(&rt, a, &Inside::outermost(&names), OUTSIDE)
 }
+
+/// Uses where no scope stands round, each with what the name is to be.
+const OUTSIDE: &str = "
+# variable n
+= n
+# variable k
+= lib.U.k
+# function g
+= lib.U.g
+# procedure p
+= p
+# variable m
+= S1 at 7
+# variable g
+= S5 at 7
+# function k
+= S5 at 7
+# function p
+= S5 at 7
+# procedure f
+= S5 at 7";
 
 /// The names of a scope that declares one.
 fn scope_of(a: Global, name: &str) -> Result<NameSet, Fail> {
@@ -91,14 +77,14 @@ fn hold_within(
     a: Global,
     names: &Inside,
     here: &NameSet,
-    rows: &[(&str, Role, &str)],
+    table: &str,
 ) -> Result<(), Fail> {
     let frame = Frame {
         names: here,
         outer: names.frame,
     };
     let inside = names.under(&frame);
-    hold(rt, a, &inside, rows)
+    hold(rt, a, &inside, table)
 }
 
 /// The rows inside a scope of `i`, which stands inside another.
@@ -112,10 +98,25 @@ fn hold_inside(rt: &impl Abort, a: Global, names: &Inside, round: &NameSet) -> R
     hold_within(rt, a, &inside, &here, INSIDE)
 }
 
+/// Uses inside a scope of `i`, which stands inside one of `g`.
+const INSIDE: &str = "
+# variable i
+= i
+# variable g
+= g
+# function g
+= S5 at 7
+# variable k
+= lib.U.k
+# function f
+= f
+# variable j
+= S1 at 7";
+
 #[test]
 fn inner_names_hide_outer_ones(rt: HostRuntime) -> Result<(), Fail> {
     let a = rt.alloc();
-    let names = file_names(a)?;
+    let names = names_of(a)?;
     let round = scope_of(a, "g")?;
     hold_inside(&rt, a, &Inside::outermost(&names), &round)
 }

@@ -1,5 +1,6 @@
 //! One way from the text of an expression to its answer as text.
 
+use crate::table::answered;
 use cal_ast::{Body, File, Ident, Member, UnitFile, VarDecl};
 use cal_lexer::lex;
 use cal_parser::parse_file;
@@ -162,19 +163,29 @@ fn wanted(a: Global, asked: Asked, want: &str) -> Result<String, Fail> {
     }
 }
 
-/// Stops at the first row whose answer is another.
-pub(crate) fn hold(
+/// Stops unless the text of a row has its answer.
+fn hold_row(
     rt: &impl Abort,
     a: Global,
+    names: &FileNames,
     asked: Asked,
-    rows: &[(&str, &str)],
+    row: &str,
 ) -> Result<(), Fail> {
+    let (text, want) = answered(row);
+    let found = answer(a, names, asked, text)?;
+    let whole = wanted(a, asked, want)?;
+    let holds = found.as_str() == want || found.as_str() == whole.as_str();
+    assert!(rt; holds, "{text} gives {found}");
+    Ok(())
+}
+
+/// Stops at the first row of a table whose answer is another.
+pub(crate) fn hold(rt: &impl Abort, a: Global, asked: Asked, table: &str) -> Result<(), Fail> {
     let names = names_of(a)?;
-    for &(text, want) in rows {
-        let found = answer(a, &names, asked, text)?;
-        let whole = wanted(a, asked, want)?;
-        let holds = found.as_str() == want || found.as_str() == whole.as_str();
-        assert!(rt; holds, "{text} gives {found}");
+    for row in table.split("\n# ") {
+        if !row.is_empty() {
+            hold_row(rt, a, &names, asked, row)?;
+        }
     }
     Ok(())
 }

@@ -1,6 +1,7 @@
 //! Actors with what their imports lead to, or the rule of scope that one of their files breaks.
 
 use crate::rows::{file_of, printed};
+use crate::table::cut;
 use cal_ast::{Actor, Body, File, Function, Ident, Member, UnitFile, VarDecl};
 use cal_imports::{FileSet, Scope, resolve};
 use rvc_base::Front;
@@ -8,232 +9,12 @@ use std::alloc::Global;
 use std::process::Abort;
 use std::test::Fail;
 
-/// Files with their classes, which are numbered from 1; the first is the one that is asked for.
-type Files = &'static [(&'static str, &'static str)];
-
-/// A file of the unit `lib.U`.
-const UNIT: (&str, &str) = (
-    "lib.U",
-    "package lib; unit U : int k = 1; function g(int x) --> int : x + k end end",
-);
-
-/// What the declarations of that unit print as.
-const SHOWN: &str =
-    "; lib.U.k in 2: int k = 1; lib.U.g in 2: function g ( int x ) --> int : x + lib.U.k end";
-
-/// Actors whose imports bring names.
-const BROUGHT: &[(Files, &str)] = &[
-    // one name, and all
-    (
-        &[
-            ("A", "import lib.U.k; actor A() ==> : int x = k; end"),
-            UNIT,
-        ],
-        "actor A ( ) ==> : int x = lib.U.k ; end",
-    ),
-    (
-        &[
-            ("A", "import lib.U.*; actor A() ==> : int x = g(k); end"),
-            UNIT,
-        ],
-        "actor A ( ) ==> : int x = lib.U.g ( lib.U.k ) ; end",
-    ),
-    // parameters and ports see them too
-    (
-        &[
-            (
-                "A",
-                "import lib.U.k; actor A(int(size=k) p = k) int(size=k) In ==> : end",
-            ),
-            UNIT,
-        ],
-        "actor A ( int ( size = lib.U.k ) p = lib.U.k ) int ( size = lib.U.k ) In ==> : end",
-    ),
-    // a file's own declaration hides an import, and an inner name hides both
-    (
-        &[
-            (
-                "A",
-                "import lib.U.*; actor A() ==> : int k = 2; int x = g(k); end",
-            ),
-            UNIT,
-        ],
-        "actor A ( ) ==> : int k = 2 ; int x = lib.U.g ( k ) ; end",
-    ),
-    (
-        &[
-            (
-                "A",
-                "import lib.U.*; actor A() ==> : function f(int k) --> int : k end end",
-            ),
-            UNIT,
-        ],
-        "actor A ( ) ==> : function f ( int k ) --> int : k end end",
-    ),
-    // the same thing may be brought twice
-    (
-        &[
-            (
-                "A",
-                "import lib.U.k; import lib.U.*; actor A() ==> : int x = k; end",
-            ),
-            UNIT,
-        ],
-        "actor A ( ) ==> : int x = lib.U.k ; end",
-    ),
-];
-
-/// Actors whose files are whole, with what they print as.
-const WHOLE: &[(Files, &str)] = &[
-    (
-        &[("p.A", "package p; actor A() ==> : int x = 1; end")],
-        "actor A ( ) ==> : int x = 1 ; end",
-    ),
-    // a unit's declarations stand behind those that it imports, and each file is gathered once
-    (
-        &[
-            (
-                "A",
-                "import V.*; import W.*; actor A() ==> : int x = v + w; end",
-            ),
-            ("V", "import U.*; unit V : int v = u; end"),
-            ("W", "import U.u; import V.v; unit W : int w = u; end"),
-            ("U", "unit U : int u = 1; end"),
-        ],
-        "actor A ( ) ==> : int x = V.v + W.w ; end; U.u in 4: int u = 1; V.v in 2: int v = U.u; W.w in 3: int w = U.u",
-    ),
-    // an import leads to what it doesn't bring
-    (
-        &[
-            ("A", "import V.v; actor A() ==> : int x = v; end"),
-            ("V", "import U.*; unit V : int v = u; int t = 2; end"),
-            ("U", "unit U : int u = 1; end"),
-        ],
-        "actor A ( ) ==> : int x = V.v ; end; U.u in 3: int u = 1; V.v in 2: int v = U.u; V.t in 2: int t = 2",
-    ),
-    // calls that don't lead back
-    (
-        &[(
-            "A",
-            "actor A() ==> : function f(int x) --> int : g(g(x)) end function g(int x) --> int : x end end",
-        )],
-        "actor A ( ) ==> : function f ( int x ) --> int : g ( g ( x ) ) end function g ( int x ) --> int : x end end",
-    ),
-];
-
-/// Actors of which a file breaks a rule.
-const BROKEN: &[(Files, &str)] = &[
-    // an unknown name: of a unit, and behind an import of another file
-    (
-        &[("A", "import lib.U.m; actor A() ==> : end"), UNIT],
-        "S1 in 1 at 13",
-    ),
-    (
-        &[
-            ("A", "import V.*; actor A() ==> : int x = u; end"),
-            ("V", "import U.*; unit V : int v = u; end"),
-            ("U", "unit U : int u = 1; end"),
-        ],
-        "S1 in 1 at 36",
-    ),
-    (
-        &[
-            ("A", "import V.*; actor A() ==> : end"),
-            ("V", "unit V : int v = u; end"),
-        ],
-        "S1 in 2 at 17",
-    ),
-    // different things under one name, also if the file's own declaration hides both
-    (
-        &[
-            (
-                "A",
-                "import lib.U.*; import V.k; actor A() ==> : int k = 3; end",
-            ),
-            UNIT,
-            ("V", "unit V : int k = 2; end"),
-        ],
-        "S2 in 1 at 16",
-    ),
-    (
-        &[
-            ("A", "import V.*; actor A() ==> : end"),
-            ("V", "unit V : int k = 1; int k = 2; end"),
-        ],
-        "S2 in 2 at 20",
-    ),
-    // a file that isn't there
-    (
-        &[("A", "import lib.U.k; actor A() ==> : end")],
-        "S3 in 1 at 0",
-    ),
-    // routines that call themselves: directly, indirectly, in a unit, and procedures
-    (
-        &[(
-            "F",
-            "actor F() ==> : function f(int x) --> int : f(x) end end",
-        )],
-        "S4 in 1 at 44",
-    ),
-    (
-        &[(
-            "F",
-            "actor F() ==> : function f(int x) --> int : 1 + g(x) end function g(int x) --> int : f(x) end end",
-        )],
-        "S4 in 1 at 85",
-    ),
-    (
-        &[
-            ("A", "import V.*; actor A() ==> : end"),
-            (
-                "V",
-                "unit V : function f(int x) --> int var int y = f(x) : y end end",
-            ),
-        ],
-        "S4 in 2 at 47",
-    ),
-    (
-        &[(
-            "P",
-            "actor P() ==> : procedure p() begin if true then q(); end end procedure q() begin p(); end end",
-        )],
-        "S4 in 1 at 82",
-    ),
-    // a file that isn't what is asked for: its kind, its name, its package
-    (&[("U", "unit U : end")], "S5 in 1 at 0"),
-    (&[("B", "actor A() ==> : end")], "S5 in 1 at 0"),
-    (&[("p.A", "actor A() ==> : end")], "S5 in 1 at 0"),
-    (&[("A", "package p; actor A() ==> : end")], "S5 in 1 at 0"),
-    (
-        &[
-            ("A", "import B.x; actor A() ==> : end"),
-            ("B", "actor B() ==> : int x = 1; end"),
-        ],
-        "S5 in 2 at 0",
-    ),
-    // imports in a circle
-    (
-        &[
-            ("A", "import U.*; actor A() ==> : end"),
-            ("U", "import V.*; unit U : end"),
-            ("V", "package q; import U.*; unit V : end"),
-        ],
-        "S6 in 3 at 11",
-    ),
-    (
-        &[
-            ("A", "import U.*; actor A() ==> : end"),
-            ("U", "import U.*; unit U : end"),
-        ],
-        "S6 in 2 at 0",
-    ),
-];
-
-/// The set of these files, if each is one.
-fn set_of(a: Global, files: Files) -> Result<Option<FileSet>, Fail> {
+/// The set of these files, if each is one. They stand with `\nfile ` between as `CLASS TEXT`, and are numbered from 1.
+fn set_of(a: Global, files: &str) -> Result<Option<FileSet>, Fail> {
     let mut set = FileSet::new(a)?;
     let mut number = 1;
-    for &(class, text) in files {
+    for named in files.split("\nfile ") {
+        let (class, text) = cut(named, " ");
         let Ok(file) = file_of(a, text.as_bytes()) else {
             return Ok(None);
         };
@@ -302,14 +83,12 @@ fn scope_shown(a: Global, scope: &Scope) -> Result<String, Fail> {
     Ok(text)
 }
 
-/// The answer for files.
-fn answer(a: Global, files: Files) -> Result<String, Fail> {
+/// The answer for files, of which the first is the one that is asked for.
+fn answer(a: Global, files: &str) -> Result<String, Fail> {
     let Some(set) = set_of(a, files)? else {
         return Ok(String::from_str(a, "no files")?);
     };
-    let Some(&(class, _)) = files.first() else {
-        return Ok(String::from_str(a, "no class")?);
-    };
+    let (class, _) = cut(files, " ");
     if !set.has(class) {
         return Ok(String::from_str(a, "no class")?);
     }
@@ -323,13 +102,23 @@ fn answer(a: Global, files: Files) -> Result<String, Fail> {
     }
 }
 
-/// Stops at the first row whose answer is another; behind what is wanted stands a text that all rows have.
-fn hold(rt: &impl Abort, a: Global, rows: &[(Files, &str)], behind: &str) -> Result<(), Fail> {
-    for &(files, want) in rows {
-        let found = answer(a, files)?;
-        let whole = format!(in a; "{want}{behind}")?;
-        let holds = found.as_str() == whole.as_str();
-        assert!(rt; holds, "{want} is wanted, and {found} is given");
+/// Stops unless the files of a row have their answer.
+fn hold_row(rt: &impl Abort, a: Global, row: &str, behind: &str) -> Result<(), Fail> {
+    let (want, files) = cut(row, "\nfile ");
+    let found = answer(a, files)?;
+    let whole = format!(in a; "{want}{behind}")?;
+    let holds = found.as_str() == whole.as_str();
+    assert!(rt; holds, "{want} is wanted, and {found} is given");
+    Ok(())
+}
+
+/// Stops at the first row of a table whose answer is another; behind what is wanted stands a text that all rows have.
+/// Each row begins with `# ` and what is wanted, and has a line `file ` for each file.
+fn hold(rt: &impl Abort, a: Global, table: &str, behind: &str) -> Result<(), Fail> {
+    for row in table.split("\n# ") {
+        if !row.is_empty() {
+            hold_row(rt, a, row, behind)?;
+        }
     }
     Ok(())
 }
@@ -339,12 +128,107 @@ fn names_that_imports_bring(rt: HostRuntime) -> Result<(), Fail> {
     hold(&rt, rt.alloc(), BROUGHT, SHOWN)
 }
 
+/// What the declarations of the unit `lib.U` print as.
+const SHOWN: &str =
+    "; lib.U.k in 2: int k = 1; lib.U.g in 2: function g ( int x ) --> int : x + lib.U.k end";
+
+/// Actors whose imports bring names of the unit `lib.U`: one name, and all; for parameters and ports; hidden by a file's own
+/// declaration, and by an inner name; and the same thing twice.
+const BROUGHT: &str = "
+# actor A ( ) ==> : int x = lib.U.k ; end
+file A import lib.U.k; actor A() ==> : int x = k; end
+file lib.U package lib; unit U : int k = 1; function g(int x) --> int : x + k end end
+# actor A ( ) ==> : int x = lib.U.g ( lib.U.k ) ; end
+file A import lib.U.*; actor A() ==> : int x = g(k); end
+file lib.U package lib; unit U : int k = 1; function g(int x) --> int : x + k end end
+# actor A ( int ( size = lib.U.k ) p = lib.U.k ) int ( size = lib.U.k ) In ==> : end
+file A import lib.U.k; actor A(int(size=k) p = k) int(size=k) In ==> : end
+file lib.U package lib; unit U : int k = 1; function g(int x) --> int : x + k end end
+# actor A ( ) ==> : int k = 2 ; int x = lib.U.g ( k ) ; end
+file A import lib.U.*; actor A() ==> : int k = 2; int x = g(k); end
+file lib.U package lib; unit U : int k = 1; function g(int x) --> int : x + k end end
+# actor A ( ) ==> : function f ( int k ) --> int : k end end
+file A import lib.U.*; actor A() ==> : function f(int k) --> int : k end end
+file lib.U package lib; unit U : int k = 1; function g(int x) --> int : x + k end end
+# actor A ( ) ==> : int x = lib.U.k ; end
+file A import lib.U.k; import lib.U.*; actor A() ==> : int x = k; end
+file lib.U package lib; unit U : int k = 1; function g(int x) --> int : x + k end end";
+
 #[test]
 fn scopes_of_several_files(rt: HostRuntime) -> Result<(), Fail> {
     hold(&rt, rt.alloc(), WHOLE, "")
 }
 
+/// Actors whose files are whole, with what they print as: a unit's declarations stand behind those that it imports, and each
+/// file is gathered once; an import leads to what it doesn't bring; calls that don't lead back.
+const WHOLE: &str = "
+# actor A ( ) ==> : int x = 1 ; end
+file p.A package p; actor A() ==> : int x = 1; end
+# actor A ( ) ==> : int x = V.v + W.w ; end; U.u in 4: int u = 1; V.v in 2: int v = U.u; W.w in 3: int w = U.u
+file A import V.*; import W.*; actor A() ==> : int x = v + w; end
+file V import U.*; unit V : int v = u; end
+file W import U.u; import V.v; unit W : int w = u; end
+file U unit U : int u = 1; end
+# actor A ( ) ==> : int x = V.v ; end; U.u in 3: int u = 1; V.v in 2: int v = U.u; V.t in 2: int t = 2
+file A import V.v; actor A() ==> : int x = v; end
+file V import U.*; unit V : int v = u; int t = 2; end
+file U unit U : int u = 1; end
+# actor A ( ) ==> : function f ( int x ) --> int : g ( g ( x ) ) end function g ( int x ) --> int : x end end
+file A actor A() ==> : function f(int x) --> int : g(g(x)) end function g(int x) --> int : x end end";
+
 #[test]
 fn files_that_break_a_rule(rt: HostRuntime) -> Result<(), Fail> {
     hold(&rt, rt.alloc(), BROKEN, "")
 }
+
+/// Actors of which a file breaks a rule: an unknown name, of a unit, and behind an import of another file; different things
+/// under one name, also if the file's own declaration hides both; a file that isn't there; routines that call themselves,
+/// directly, indirectly, in a unit, and procedures; a file that isn't what is asked for, by its kind, its name, its package;
+/// and imports in a circle.
+const BROKEN: &str = "
+# S1 in 1 at 13
+file A import lib.U.m; actor A() ==> : end
+file lib.U package lib; unit U : int k = 1; function g(int x) --> int : x + k end end
+# S1 in 1 at 36
+file A import V.*; actor A() ==> : int x = u; end
+file V import U.*; unit V : int v = u; end
+file U unit U : int u = 1; end
+# S1 in 2 at 17
+file A import V.*; actor A() ==> : end
+file V unit V : int v = u; end
+# S2 in 1 at 16
+file A import lib.U.*; import V.k; actor A() ==> : int k = 3; end
+file lib.U package lib; unit U : int k = 1; function g(int x) --> int : x + k end end
+file V unit V : int k = 2; end
+# S2 in 2 at 20
+file A import V.*; actor A() ==> : end
+file V unit V : int k = 1; int k = 2; end
+# S3 in 1 at 0
+file A import lib.U.k; actor A() ==> : end
+# S4 in 1 at 44
+file F actor F() ==> : function f(int x) --> int : f(x) end end
+# S4 in 1 at 85
+file F actor F() ==> : function f(int x) --> int : 1 + g(x) end function g(int x) --> int : f(x) end end
+# S4 in 2 at 47
+file A import V.*; actor A() ==> : end
+file V unit V : function f(int x) --> int var int y = f(x) : y end end
+# S4 in 1 at 82
+file P actor P() ==> : procedure p() begin if true then q(); end end procedure q() begin p(); end end
+# S5 in 1 at 0
+file U unit U : end
+# S5 in 1 at 0
+file B actor A() ==> : end
+# S5 in 1 at 0
+file p.A actor A() ==> : end
+# S5 in 1 at 0
+file A package p; actor A() ==> : end
+# S5 in 2 at 0
+file A import B.x; actor A() ==> : end
+file B actor B() ==> : int x = 1; end
+# S6 in 3 at 11
+file A import U.*; actor A() ==> : end
+file U import V.*; unit U : end
+file V package q; import U.*; unit V : end
+# S6 in 2 at 0
+file A import U.*; actor A() ==> : end
+file U import U.*; unit U : end";

@@ -9,12 +9,14 @@ use Rattle.cal_ast.specs.Tree.{Tree, listed}
 use Rattle.cal_model.specs.Value.{Shape, Single, Many, scalars_of_type}
 use Rattle.code_ir.specs.declared.instr.Instr.{Instr}
 use Rattle.code_ir.specs.declared.instr.Instr.TheVariants as op
+use Rattle.cal_model.specs.View.{shape_view}
 use Rattle.stmt_lower.specs.declared.counter.Counter.{Counter}
-use Rattle.stmt_lower.specs.declared.counter.Kept.{Kept}
-use Rattle.expr_lower.specs.Parted.{Part, number_of, part_named, sized}
+use Rattle.stmt_lower.specs.declared.targets.Target.{Target}
+use Rattle.stmt_lower.specs.SeenStmts.{IsTarget, put_code}
+use Rattle.expr_lower.specs.Parted.{Part, alike, number_of, part_named, sized}
 use Rattle.list_lower.specs.FillWords.{HasCells}
 use Rattle.list_lower.specs.Filling.{IsFill}
-use Rattle.stmt_lower.specs.Targets.{deep_cells_at, deep_cells_in, leaf_in, leaf_of, whole_cells_in, cell_of, cell_named, cells_of, cells_named}
+use Rattle.stmt_lower.specs.Targets.{cell_of, cell_named, cells_at, cells_of, cells_named, leaf_of, part_in, source_in, source_of, whole_cells_in}
 use Rattle.expr_lower.proofs.PartValues.{IsWhole, sized_is, whole_found}
 use Rattle.expr_lower.specs.declared.draft.Draft.{Draft}
 use Rattle.expr_lower.specs.declared.fault.LowerFault.{LowerFault}
@@ -29,7 +31,7 @@ use Rattle.expr_lower.specs.Held.{AreBelow}
 use Rattle.stmt_lower.specs.Changing.{AreTyped, NamesApart}
 use Rattle.expr_lower.specs.Coding.{IsCode, IsTest, IsOpenTest, aimed, AreArgs}
 use Rattle.stmt_lower.specs.Executing.{IsExecuted}
-use Rattle.expr_lower.specs.Growing.{IsFault, left_out_in, ◌or_else◌, left_out_args}
+use Rattle.expr_lower.specs.Growing.{IsFault, first_cell, left_out_in, ◌or_else◌, left_out_args}
 use Rattle.expr_lower.specs.Listed.{list_named}
 use Rattle.expr_lower.specs.Linking.{Closes, Links}
 use Rattle.stmt_lower.specs.Jumping.{SetsExit, SetsJump}
@@ -38,13 +40,15 @@ use Rattle.expr_lower.specs.Meant.{single_meant}
 use Rattle.list_lower.specs.ShapeMeant.{shape_meant}
 use Rattle.stmt_lower.specs.ListStarting.{left_out_list_start, local_of}
 use Rattle.stmt_lower.specs.StartWords.{TakesListStart}
-use Rattle.stmt_lower.specs.Stating.{IsKept, IsStmt, copy_code, deep_tail, no_place, place_more, set_deep, set_filled, set_items, set_list, step_code, AreStmts, set, set_item, if_alone, if_else, while_code, each_code, none, one_more, IsBlock, variable_more, counter_at, each_bounds, each_head, each_less, each_next, each_tail, each_turn, call, run_code, list_more}
+use Rattle.stmt_lower.specs.Stating.{IsKept, IsStmt, copy_code, no_place, part_tail, place_more, set_filled, set_items, set_list, set_part, set_part_list, set_whole, step_code, AreStmts, set, set_item, if_alone, if_else, while_code, each_code, none, one_more, IsBlock, variable_more, counter_at, each_bounds, each_head, each_less, each_next, each_tail, each_turn, call, run_code, list_more}
 use Rattle.expr_lower.specs.Starting.{IsStart, left_out_start}
-use Rattle.stmt_lower.specs.Reserving.{HasKept, HasMore, HasTaken}
+use Rattle.stmt_lower.specs.Reserving.{HasMore, HasTaken}
 use Rattle.expr_lower.specs.Taking.{HasOneMore}
 use Rattle.expr_lower.specs.Callees.{Function}
-use Rattle.stmt_lower.specs.StmtGrowing.{left_out_deep, left_out_each, left_out_items, left_out_set, left_out_stmt, left_out_all, left_out_vars}
+use Rattle.stmt_lower.specs.StmtGrowing.{left_out_chosen, left_out_deep, left_out_each, left_out_filled, left_out_items, left_out_part, left_out_put, left_out_set, left_out_stmt, left_out_all, left_out_vars}
 use Rattle.expr_lower.proofs.Adding.{length_join, put_adds}
+use Rattle.list_lower.specs.LeftOut.{left_out_fill}
+use Rattle.stmt_lower.proofs.DeepItems.{grows_kept, part_leaf, part_sized}
 use Rattle.stmt_lower.proofs.ErasedStmts.{any_cell, any_cell_vars}
 use Rattle.stmt_lower.proofs.Executed.{executes, grows_all}
 use Rattle.stmt_lower.proofs.FittedStmts.{fits_all}
@@ -207,56 +211,6 @@ list_adds {rs = rs} names text value place at c l old new e g many p =
     put_adds (IsStmt rs names (tree.assign (tree.ident text place) tree.nil value at)) (copy_code c.cell c.size c.kind l.seat) old new p
     (λ base n. set_list names text value place at base n c.cell c.size f.x c.kind l f.is f.seat f.shape g many)
 
-pub record AreDeepCells (p : Part) (places : Tree) (c : ListCells) : Type 0 where
-  pub seat : p.seat ≡ Cell c.cell
-  pub size : p.size ≡ c.size
-  pub leaf : leaf_in p.shape places ≡ Some c.kind
-
-pub deep_cells_found : (p : Part) (places : Tree) (c : ListCells) → deep_cells_in p places ≡ Some c → AreDeepCells p places c
-deep_cells_found p places c e = go p.seat (leaf_in p.shape places) refl refl e
-  where
-    go : (seat : Seat) (leaf : Option Scalar) → p.seat ≡ seat → leaf_in p.shape places ≡ leaf → deep_cells_at seat p.size leaf ≡ Some c → AreDeepCells p places c
-    go (Cell d) None s l h = cc
-    go (Cell d) (Some t) s l h =
-        let made : ListCells = record { cell = d; size = p.size; kind = t } in
-        let same : made ≡ c = cc in
-        record { seat = s ∙ ap (λ (o : ListCells). Cell o.cell) same; size = ap (λ (o : ListCells). o.size) same; leaf = l ∙ ap (λ (o : ListCells). Some o.kind) same }
-    go (Tokens port first step) leaf s l h = cc
-
-pub deep_adds : {rs : Routines} (names : List Name) (text : List ℕ) (places value : Tree) (place at count : ℕ) (p : Part) (c : ListCells) (kept : Kept) (old d0 d1 d2 d3 d4 new : Draft) → part_named names (tree.variable text 0) ≡ Some p → deep_cells_in p places ≡ Some c → count ≡ number_of places → HasKept count old d0 kept
-    → Adds (IsKept rs.functions names kept.places places) d0 d1 → Adds (IsCode rs.functions names value) d1 d2 → IsPut (op.Store kept.value None ∷ op.Const (pos 0) ∷ []) d2 d3 → IsPut (step_code kept.places p.shape places) d3 d4
-    → IsPut (op.Load kept.value ∷ op.StoreAt c.cell c.size (Some c.kind) ∷ []) d4 new
-    → Adds (IsStmt rs names (tree.assign (tree.ident text place) places value at)) old new
-deep_adds {rs = rs} names text places value place at count p c kept old d0 d1 d2 d3 d4 new e g many k a b p1 p2 p3 =
-    let w : IsWhole names text p = whole_found names text 0 p e in
-    let f : AreDeepCells p places c = deep_cells_found p places c g in
-    let cv : ℕ = old.cells + number_of places in
-    let v_is : kept.value ≡ cv = let x = k.value in omega (arith, x, many) in
-    let st : List Instr = op.Store kept.value None ∷ op.Const (pos 0) ∷ [] in
-    let steps : List Instr = step_code kept.places p.shape places in
-    let last : List Instr = op.Load kept.value ∷ op.StoreAt c.cell c.size (Some c.kind) ∷ [] in
-    let l1 = length_join d0.instrs.items d1.instrs.items a.code a.is in
-    let start : length d0.instrs.items ≡ length old.instrs.items = ap length k.instrs in
-    let at1 : length d1.instrs.items ≡ length old.instrs.items + length a.code = omega (arith, l1, start) in
-    let taken : d0.cells ≡ old.cells + number_of places + 1 = let x = k.cells in omega (arith, x, many) in
-    let all : new.instrs.items ≡ ((((old.instrs.items ++ a.code) ++ b.code) ++ st) ++ steps) ++ last = cc (p3.is, p2.is, p1.is, b.is, a.is, k.instrs) in
-    let flat : ((((old.instrs.items ++ a.code) ++ b.code) ++ st) ++ steps) ++ last ≡ old.instrs.items ++ (a.code ++ (b.code ++ (st ++ (steps ++ last)))) = simp append_assoc in
-    let shaped : steps ≡ step_code old.cells w.x.shape places = ap (λ q. step_code q p.shape places) k.places ∙ ap (λ s. step_code old.cells s places) (sym w.shape) in
-    let code : a.code ++ (b.code ++ (st ++ (steps ++ last))) ≡ a.code ++ (b.code ++ deep_tail c.cell c.size cv c.kind (step_code old.cells w.x.shape places)) =
-    ap (λ q. a.code ++ (b.code ++ (op.Store q None ∷ op.Const (pos 0) ∷ (steps ++ op.Load q ∷ op.StoreAt c.cell c.size (Some c.kind) ∷ [])))) v_is
-    ∙ ap (λ q. a.code ++ (b.code ++ deep_tail c.cell c.size cv c.kind q)) shaped
-    in
-    record {
-      code = a.code ++ (b.code ++ deep_tail c.cell c.size cv c.kind (step_code old.cells w.x.shape places));
-      is = all ∙ flat ∙ ap (λ xs. old.instrs.items ++ xs) code;
-      routines = p3.routines ∙ p2.routines ∙ p1.routines ∙ b.routines ∙ a.routines ∙ k.routines;
-      has = subst (λ m. IsStmt rs names (tree.assign (tree.ident text place) places value at) (length old.instrs.items) old.cells (a.code ++ (b.code ++ deep_tail c.cell c.size cv c.kind (step_code old.cells w.x.shape places))) m) (sym (p3.cells ∙ p2.cells ∙ p1.cells))
-          (set_deep names text places value place at (length old.instrs.items) old.cells d1.cells d2.cells c.cell c.size a.code b.code w.x c.kind w.is (w.seat ∙ f.seat) (w.size ∙ ap Some f.size) (ap (λ s. leaf_in s places) w.shape ∙ f.leaf)
-          (subst (λ q. IsKept rs.functions names q places (length old.instrs.items) (old.cells + number_of places + 1) a.code d1.cells) k.places
-          (subst (λ q. IsKept rs.functions names kept.places places q (old.cells + number_of places + 1) a.code d1.cells) start (subst (λ q. IsKept rs.functions names kept.places places (length d0.instrs.items) q a.code d1.cells) taken a.has)))
-          (subst (λ q. IsCode rs.functions names value q d1.cells b.code d2.cells) at1 b.has));
-    }
-
 -- one place more that is kept
 pub kept_adds : {fs : List Function} (names : List Name) (place places : Tree) (c : ℕ) (old d1 d2 new : Draft) → Adds (IsCode fs names place) old d1 → IsPut (op.Store c None ∷ []) d1 d2 → Adds (IsKept fs names (c + 1) places) d2 new → Adds (IsKept fs names c (tree.cons place places)) old new
 kept_adds {fs = fs} names place places c old d1 d2 new a p b =
@@ -277,7 +231,13 @@ kept_adds {fs = fs} names place places c old d1 d2 new a p b =
 pub kept_none : {fs : List Function} (names : List Name) (c : ℕ) (draft : Draft) → Adds (IsKept fs names c tree.nil) draft draft
 kept_none names c draft = record { code = []; is = sym (append-nil draft.instrs.items); routines = refl; has = no_place c (length draft.instrs.items) draft.cells }
 
--- an assignment with two places or more
+-- an assignment with one place, of what is no list of single values
+pub one_place : (fs : List Function) (names : List Name) (text : List ℕ) (spot value : Tree) (at : ℕ) (ts : List Tree) → ts ≡ spot ∷ [] → cells_named names text ≡ None → left_out_set fs names text (listed ts) value at ≡ left_out_deep fs names text (listed ts) value at
+one_place fs names text spot value at ts is e =
+    subst (λ us. left_out_set fs names text (listed us) value at ≡ left_out_deep fs names text (listed us) value at) (sym is)
+    (ap (λ (o : Option ListCells). elim o [ None ↦ left_out_deep fs names text (tree.cons spot tree.nil) value at | Some c ↦ left_out_in fs names spot or_else left_out_in fs names value ]) e)
+
+-- .. or with two places or more
 pub many_places : (fs : List Function) (names : List Name) (text : List ℕ) (value : Tree) (at : ℕ) (ts : List Tree) → 2 ≤ length ts → left_out_set fs names text (listed ts) value at ≡ left_out_deep fs names text (listed ts) value at
 many_places fs names text value at [] h = absurd (omega (arith, h))
 many_places fs names text value at (t ∷ []) h = absurd (omega (arith, h))
@@ -298,14 +258,14 @@ items_differ fs names c items at count number size =
     go true e h = absurd (h (grind (arith, nat_tests, e)))
     go false e h = refl
 
-whole_cells : (p : Part) (c : ListCells) (seat : Seat) → p.seat ≡ seat → deep_cells_at p.seat p.size (Some (leaf_of p.shape)) ≡ Some c → (p.seat ≡ Cell c.cell) × (c.size ≡ p.size) × (c.kind ≡ leaf_of p.shape)
+whole_cells : (p : Part) (c : ListCells) (seat : Seat) → p.seat ≡ seat → cells_at p.seat p.size (leaf_of p.shape) ≡ Some c → (p.seat ≡ Cell c.cell) × (c.size ≡ p.size) × (c.kind ≡ leaf_of p.shape)
 whole_cells p c (Cell d) at h =
     let made : ListCells = record { cell = d; size = p.size; kind = leaf_of p.shape } in
-    let is : ◌≡◌ {A = Option ListCells} (Some made) (Some c) = sym (ap (λ s. deep_cells_at s p.size (Some (leaf_of p.shape))) at) ∙ h in
+    let is : ◌≡◌ {A = Option ListCells} (Some made) (Some c) = sym (ap (λ s. cells_at s p.size (leaf_of p.shape)) at) ∙ h in
     let one : made ≡ c = cc in
     (at ∙ ap (λ (x : ListCells). Cell x.cell) one, ap (λ (x : ListCells). x.size) (sym one), ap (λ (x : ListCells). x.kind) (sym one))
 whole_cells p c (Tokens port first step) at h =
-    let is : ◌≡◌ {A = Option ListCells} None (Some c) = sym (ap (λ s. deep_cells_at s p.size (Some (leaf_of p.shape))) at) ∙ h in
+    let is : ◌≡◌ {A = Option ListCells} None (Some c) = sym (ap (λ s. cells_at s p.size (leaf_of p.shape)) at) ∙ h in
     cc
 
 pub filled_adds : {rs : Routines} (names : List Name) (text : List ℕ) (value : Tree) (place at first : ℕ) (p : Part) (c : ListCells) (old d0 d1 new : Draft) → part_named names (tree.variable text 0) ≡ Some p → whole_cells_in p ≡ Some c → HasMore c.size old d0 first
@@ -342,6 +302,199 @@ filled_room names text first p c old d0 e g k =
     let more = k.cells in
     let is = k.is in
     (p.size, ap sized (sym f.shape) ∙ f.size, omega (arith, size, more, is))
+
+-- ---- parts of lists
+
+-- the name and the code of where a part is stored
+record IsPlaced (names : List Name) (text : List ℕ) (places : Tree) (g : Target) : Type 0 where
+  x : Name
+  is : named text names ≡ Some x
+  seat : x.seat ≡ Cell g.to.cell
+  size : sized x.shape ≡ Some g.to.size
+  part : part_in x.shape places ≡ Some (shape_view g.part.now)
+  code : (n s : ℕ) → put_code g places n s ≡ part_tail g.to.cell g.to.size s (shape_view g.part.now) (step_code n x.shape places)
+
+placed : (names : List Name) (text : List ℕ) (places : Tree) (g : Target) → IsTarget names text places g → IsPlaced names text places g
+placed names text places g h =
+    let p : Part = h.whole in
+    let t : Shape = shape_view g.part.now in
+    let w : IsWhole names text p = whole_found names text 0 p h.is in
+    let cells = whole_cells p g.to p.seat refl h.cells in
+    let list : shape_view g.list.now ≡ w.x.shape = sym h.list ∙ sym w.shape in
+    let wide : g.size ≡ scalars_of_type t = sym (sized_is t g.size h.size) in
+    let leaf : g.to.kind ≡ leaf_of t = cells.2 ∙ part_leaf p.shape places h.chosen in
+    record {
+      x = w.x;
+      is = w.is;
+      seat = w.seat ∙ cells.0;
+      size = w.size ∙ ap Some (sym cells.1);
+      part = ap (λ s. part_in s places) w.shape ∙ h.chosen;
+      code = λ n s.
+          ap (λ q. op.Const (pos 0) ∷ (step_code n q places ++ op.CopyTo g.to.cell g.to.size s g.size (Some g.to.kind) ∷ [])) list
+          ∙ ap (λ q. op.Const (pos 0) ∷ (step_code n w.x.shape places ++ op.CopyTo g.to.cell g.to.size s q (Some g.to.kind) ∷ [])) wide
+          ∙ ap (λ q. op.Const (pos 0) ∷ (step_code n w.x.shape places ++ op.CopyTo g.to.cell g.to.size s (scalars_of_type t) (Some q) ∷ [])) leaf;
+    }
+
+pub fill_adds : {rs : Routines} (names : List Name) (text : List ℕ) (places value : Tree) (place at many cell from : ℕ) (g : Target) (old d0 d1 d2 d3 new : Draft)
+    → IsTarget names text places g → many ≡ number_of places → HasMore many old d0 cell → HasMore g.size d0 d1 from
+    → Adds (IsKept rs.functions names cell places) d1 d2 → Adds (IsFill rs.functions names value (shape_view g.part.now) from) d2 d3 → IsPut (put_code g places cell from) d3 new
+    → Adds (IsStmt rs names (tree.assign (tree.ident text place) places value at)) old new
+fill_adds {rs = rs} names text places value place at many cell from g old d0 d1 d2 d3 new h number k1 k2 a b p =
+    let t : Shape = shape_view g.part.now in
+    let w : IsPlaced names text places g = placed names text places g h in
+    let base : ℕ = length old.instrs.items in
+    let n : ℕ = old.cells in
+    let f : ℕ = n + number_of places in
+    let wide : scalars_of_type t ≡ g.size = sized_is t g.size h.size in
+    let behind : from ≡ f = let x = k2.is in let y = k1.cells in omega (arith, x, y, number) in
+    let tail : List Instr = part_tail g.to.cell g.to.size f t (step_code n w.x.shape places) in
+    let same : put_code g places cell from ≡ tail = ap (λ q. put_code g places q from) k1.is ∙ ap (λ q. put_code g places n q) behind ∙ w.code n f in
+    let start : length d1.instrs.items ≡ base = ap length k2.instrs ∙ ap length k1.instrs in
+    let l2 = length_join d1.instrs.items d2.instrs.items a.code a.is in
+    let at2 : length d2.instrs.items ≡ base + length a.code = omega (arith, l2, start) in
+    let taken : d1.cells ≡ f + scalars_of_type t = let x = k2.cells in let y = k1.cells in omega (arith, x, y, number, wide) in
+    let last : List Instr = put_code g places cell from in
+    let all : new.instrs.items ≡ ((old.instrs.items ++ a.code) ++ b.code) ++ last = cc (p.is, b.is, a.is, k2.instrs, k1.instrs) in
+    let flat : ((old.instrs.items ++ a.code) ++ b.code) ++ last ≡ old.instrs.items ++ (a.code ++ (b.code ++ last)) = simp append_assoc in
+    record {
+      code = a.code ++ (b.code ++ tail);
+      is = all ∙ flat ∙ ap (λ q. old.instrs.items ++ (a.code ++ (b.code ++ q))) same;
+      routines = p.routines ∙ b.routines ∙ a.routines ∙ k2.routines ∙ k1.routines;
+      has = subst (λ m. IsStmt rs names (tree.assign (tree.ident text place) places value at) base n (a.code ++ (b.code ++ tail)) m) (sym p.cells)
+          (set_part names text places value place at base n d2.cells d3.cells g.to.cell g.to.size a.code b.code w.x t w.is w.seat w.size w.part
+          (subst (λ q. IsKept rs.functions names q places base (f + scalars_of_type t) a.code d2.cells) k1.is
+          (subst (λ q. IsKept rs.functions names cell places q (f + scalars_of_type t) a.code d2.cells) start (subst (λ q. IsKept rs.functions names cell places (length d1.instrs.items) q a.code d2.cells) taken a.has)))
+          (subst (λ q. IsFill rs.functions names value t q (base + length a.code) d2.cells b.code d3.cells) behind
+          (subst (λ q. IsFill rs.functions names value t from q d2.cells b.code d3.cells) at2 b.has)));
+    }
+
+-- .. whose cells are there for its type
+pub part_room : {fs : List Function} (names : List Name) (text : List ℕ) (places : Tree) (cell from : ℕ) (g : Target) (d0 d1 d2 : Draft) → IsTarget names text places g → HasMore g.size d0 d1 from → Adds (IsKept fs names cell places) d1 d2
+    → HasCells (shape_view g.part.now) from d2
+part_room names text places cell from g d0 d1 d2 h k a =
+    let more = k.cells in
+    let is = k.is in
+    let grown = grows_kept a.has in
+    (g.size, h.size, omega (arith, more, is, grown))
+
+-- the name whose list is assigned to a part
+record IsSource (names : List Name) (t : Shape) (value : Tree) (d : ℕ) : Type 0 where
+  text : List ℕ
+  place : ℕ
+  tree_is : value ≡ tree.variable text place
+  y : Name
+  is : named text names ≡ Some y
+  seat : y.seat ≡ Cell d
+  same : alike t y.shape ≡ true
+
+source_found : (names : List Name) (t : Shape) (value : Tree) (d : ℕ) → source_of names t value ≡ Some d → IsSource names t value d
+source_found names (Many n items) (tree.variable text at) d e = go (part_named names (tree.variable text at)) refl e
+  where
+    first_seat : (seat : Seat) → first_cell seat ≡ Some d → seat ≡ Cell d
+    first_seat (Cell c) h = let same : c ≡ d = cc in ap Cell same
+    first_seat (Tokens port first step) h = cc
+
+    by : (p : Part) (b : Bool) → part_named names (tree.variable text at) ≡ Some p → alike (Many n items) p.shape ≡ b → (if b then first_cell p.seat else None) ≡ Some d → IsSource names (Many n items) (tree.variable text at) d
+    by p true is s h =
+        let w : IsWhole names text p = whole_found names text at p is in
+        record { text = text; place = at; tree_is = refl; y = w.x; is = w.is; seat = w.seat ∙ first_seat p.seat h; same = ap (λ u. alike (Many n items) u) w.shape ∙ s }
+    by p false is s h = cc
+
+    go : (o : Option Part) → part_named names (tree.variable text at) ≡ o → source_in (Many n items) o ≡ Some d → IsSource names (Many n items) (tree.variable text at) d
+    go None is h = cc
+    go (Some p) is h = by p (alike (Many n items) p.shape) is refl h
+source_found names (Single s) value d e = cc
+source_found names t other d e = cc
+
+-- nothing is left out of it
+pub source_whole : (fs : List Function) (names : List Name) (t : Shape) (value : Tree) (d : ℕ) → source_of names t value ≡ Some d → left_out_fill fs names t value ≡ None
+source_whole fs names (Many n items) (tree.variable text at) d e = go (part_named names (tree.variable text at)) e
+  where
+    by : (p : Part) (b : Bool) → (if b then first_cell p.seat else None) ≡ Some d → ◌≡◌ {A = Option ℕ} (if b then None else Some at) None
+    by p true h = refl
+    by p false h = cc
+
+    go : (o : Option Part) → source_in (Many n items) o ≡ Some d → ◌≡◌ {A = Option ℕ} (elim o [ None ↦ Some at | Some p ↦ if alike (Many n items) p.shape then None else Some at ]) None
+    go None h = cc
+    go (Some p) h = by p (alike (Many n items) p.shape) h
+source_whole fs names (Single s) value d e = cc
+source_whole fs names t other d e = cc
+
+pub copy_adds : {rs : Routines} (names : List Name) (text : List ℕ) (places value : Tree) (place at many cell from : ℕ) (g : Target) (old d0 d1 new : Draft)
+    → IsTarget names text places g → source_of names (shape_view g.part.now) value ≡ Some from → many ≡ number_of places → HasMore many old d0 cell
+    → Adds (IsKept rs.functions names cell places) d0 d1 → IsPut (put_code g places cell from) d1 new
+    → Adds (IsStmt rs names (tree.assign (tree.ident text place) places value at)) old new
+copy_adds {rs = rs} names text places value place at many cell from g old d0 d1 new h e number k a p =
+    let t : Shape = shape_view g.part.now in
+    let w : IsPlaced names text places g = placed names text places g h in
+    let v : IsSource names t value from = source_found names t value from e in
+    let base : ℕ = length old.instrs.items in
+    let n : ℕ = old.cells in
+    let f : ℕ = n + number_of places in
+    let tail : List Instr = part_tail g.to.cell g.to.size from t (step_code n w.x.shape places) in
+    let last : List Instr = put_code g places cell from in
+    let same : last ≡ tail = ap (λ q. put_code g places q from) k.is ∙ w.code n from in
+    let start : length d0.instrs.items ≡ base = ap length k.instrs in
+    let taken : d0.cells ≡ f = let y = k.cells in omega (arith, y, number) in
+    let all : new.instrs.items ≡ (old.instrs.items ++ a.code) ++ last = cc (p.is, a.is, k.instrs) in
+    record {
+      code = a.code ++ tail;
+      is = all ∙ append_assoc old.instrs.items a.code last ∙ ap (λ q. old.instrs.items ++ (a.code ++ q)) same;
+      routines = p.routines ∙ a.routines ∙ k.routines;
+      has = subst (λ m. IsStmt rs names (tree.assign (tree.ident text place) places value at) base n (a.code ++ tail) m) (sym p.cells)
+          (subst (λ q. IsStmt rs names (tree.assign (tree.ident text place) places q at) base n (a.code ++ tail) d1.cells) (sym v.tree_is)
+          (set_part_list names text v.text places place v.place at base n d1.cells g.to.cell g.to.size from a.code w.x v.y t w.is w.seat w.size w.part v.is v.seat v.same
+          (subst (λ q. IsKept rs.functions names q places base f a.code d1.cells) k.is
+          (subst (λ q. IsKept rs.functions names cell places q f a.code d1.cells) start (subst (λ q. IsKept rs.functions names cell places (length d0.instrs.items) q a.code d1.cells) taken a.has)))));
+    }
+
+-- .. which has a size
+pub part_has_size : (names : List Name) (text : List ℕ) (places : Tree) (p : Part) (t : Shape) → part_named names (tree.variable text 0) ≡ Some p → part_in p.shape places ≡ Some t → sized t ≡ None → ⊥
+part_has_size names text places p t e part lacks =
+    let w : IsWhole names text p = whole_found names text 0 p e in
+    let some = part_sized p.shape places p.size (ap sized (sym w.shape) ∙ w.size) part in
+    let both : Some some.0 ≡ None = sym some.1 ∙ lacks in
+    cc
+
+-- what is left out, when the part is there
+pub part_open : (fs : List Function) (names : List Name) (text : List ℕ) (places value : Tree) (at : ℕ) (g : Target) → IsTarget names text places g
+    → left_out_deep fs names text places value at ≡ (left_out_each fs names places or_else left_out_fill fs names (shape_view g.part.now) value)
+part_open fs names text places value at g h =
+    ap (λ o. left_out_chosen fs names o places value at) h.is
+    ∙ ap (λ (o : Option ListCells). elim o [ None ↦ Some at | Some d ↦ left_out_put fs names (part_in h.whole.shape places) places value at ]) h.cells
+    ∙ ap (λ o. left_out_put fs names o places value at) h.chosen
+
+pub part_fault : (fs : List Function) (names : List Name) (text : List ℕ) (places value : Tree) (at : ℕ) (g : Target) (draft : Draft) (fault : LowerFault) → IsTarget names text places g → IsFault (left_out_each fs names places) draft fault
+    → IsFault (left_out_deep fs names text places value at) draft fault
+part_fault fs names text places value at g draft fault h f = subst (λ o. IsFault o draft fault) (sym (part_open fs names text places value at g h)) (first fault f)
+  where
+    first : (fault : LowerFault) → IsFault (left_out_each fs names places) draft fault → IsFault (left_out_each fs names places or_else left_out_fill fs names (shape_view g.part.now) value) draft fault
+    first Memory f = tt
+    first TooLong f = f
+    first TooManyCells f = f
+    first (NotLowered n) f = ap (λ o. o or_else left_out_fill fs names (shape_view g.part.now) value) f
+
+-- ---- whole lists of names
+
+pub whole_adds : {rs : Routines} (names : List Name) (text : List ℕ) (value : Tree) (place at from : ℕ) (p : Part) (c : ListCells) (old new : Draft) → part_named names (tree.variable text 0) ≡ Some p → whole_cells_in p ≡ Some c → source_of names p.shape value ≡ Some from
+    → IsPut (op.Copy c.cell from c.size (Some c.kind) ∷ []) old new → Adds (IsStmt rs names (tree.assign (tree.ident text place) tree.nil value at)) old new
+whole_adds {rs = rs} names text value place at from p c old new e g s q =
+    let w : IsWhole names text p = whole_found names text 0 p e in
+    let cells = whole_cells p c p.seat refl g in
+    let v : IsSource names p.shape value from = source_found names p.shape value from s in
+    let wide : scalars_of_type w.x.shape ≡ c.size = sized_is w.x.shape p.size w.size ∙ sym cells.1 in
+    let leaf : leaf_of w.x.shape ≡ c.kind = ap leaf_of w.shape ∙ sym cells.2 in
+    let alike_there : alike w.x.shape v.y.shape ≡ true = ap (λ t. alike t v.y.shape) w.shape ∙ v.same in
+    put_adds (IsStmt rs names (tree.assign (tree.ident text place) tree.nil value at)) (op.Copy c.cell from c.size (Some c.kind) ∷ []) old new q
+    (λ base n. subst (λ k. IsStmt rs names (tree.assign (tree.ident text place) tree.nil value at) base n (op.Copy c.cell from k (Some c.kind) ∷ []) n) wide
+    (subst (λ t. IsStmt rs names (tree.assign (tree.ident text place) tree.nil value at) base n (op.Copy c.cell from (scalars_of_type w.x.shape) (Some t) ∷ []) n) leaf
+    (subst (λ u. IsStmt rs names (tree.assign (tree.ident text place) tree.nil u at) base n (op.Copy c.cell from (scalars_of_type w.x.shape) (Some (leaf_of w.x.shape)) ∷ []) n) (sym v.tree_is)
+    (set_whole names text v.text place v.place at base n c.cell from w.x v.y w.is (w.seat ∙ cells.0) v.is v.seat alike_there))))
+
+-- of which nothing is left out
+pub whole_none : (fs : List Function) (names : List Name) (text : List ℕ) (value : Tree) (at from : ℕ) (p : Part) (c : ListCells) → part_named names (tree.variable text 0) ≡ Some p → whole_cells_in p ≡ Some c → source_of names p.shape value ≡ Some from → left_out_filled fs names text value at ≡ None
+whole_none fs names text value at from p c e g s =
+    ap (λ o. left_out_part fs names o value at) e ∙ ap (λ (o : Option ListCells). elim o [ None ↦ Some at | Some d ↦ left_out_fill fs names p.shape value ]) g ∙ source_whole fs names p.shape value from s
 
 pub items_adds : {rs : Routines} (names : List Name) (text : List ℕ) (items : Tree) (list place at count first : ℕ) (c : ListCells) (old d0 d1 new : Draft) → cells_named names text ≡ Some c → count ≡ number_of items → count ≡ c.size → HasMore count old d0 first
     → Adds (IsKept rs.functions names first items) d0 d1 → IsPut (copy_code c.cell c.size c.kind (Cell first)) d1 new → Adds (IsStmt rs names (tree.assign (tree.ident text place) tree.nil (tree.list items list) at)) old new

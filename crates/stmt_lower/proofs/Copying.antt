@@ -5,11 +5,10 @@ use Rattle.std.specs.Str.{bytes_eq}
 use Rattle.std.proofs.lemmas.Option.{slice_get_within, slice_get-get_or}
 use Rattle.std.proofs.lemmas.Slice.Eq.{bytes_eq-Decides}
 use Rattle.rvc_base.specs.declared.scalar.Scalar.{Scalar}
-use Rattle.rvc_base.specs.Arithmetic.{truth}
 use Rattle.rvc_base.specs.Storing.{conv, IsSize}
 use Rattle.cal_ast.specs.Tree as tree
 use Rattle.cal_ast.specs.Tree.{Tree}
-use Rattle.cal_model.specs.Value.{Single, Many, Value, Num, Truth, Items, Values, Nil, Cons, count, stored, stored_each, HasKind, HaveKind, IsType, kind_of_scalar, kind_of_type, scalars_of_type}
+use Rattle.cal_model.specs.Value.{Single, Many, Value, Items, Values, Nil, Cons, count, stored, stored_each, HasKind, HaveKind, IsType, kind_of_scalar, kind_of_type, scalars_of_type}
 use Rattle.cal_model.specs.Outcome.{Out, and_then}
 use Rattle.cal_model.specs.Env.{Env, assign}
 use Rattle.cal_model.specs.Expression.{eval}
@@ -27,6 +26,7 @@ use Rattle.expr_lower.specs.Held.{HoldsName, SeatIsBelow, StandAt}
 use Rattle.expr_lower.specs.Listed.{list_named}
 use Rattle.expr_lower.specs.Names.{Name, named}
 use Rattle.expr_lower.specs.Placed.{StandsAt, World, state}
+use Rattle.list_lower.proofs.Leaves.{single_number}
 use Rattle.list_lower.proofs.Moving.{AreTaken, copied_are, copy_leaves, range_there, take_leaves, taken_are}
 use Rattle.stmt_lower.specs.Stating.{copy_code}
 use Rattle.expr_lower.proofs.Keeping.{flat_length, scalars_same}
@@ -51,11 +51,6 @@ AllSingle (Cons v vs) = IsSingleValue v × AllSingle vs
 all_single : (k : Scalar) (vs : Values) → HaveKind (kind_of_scalar k) vs → AllSingle vs
 all_single k Nil h = tt
 all_single k (Cons v vs) h = (kind_single k v h.0, all_single k vs h.1)
-
-pub single_number : (v : Value) → IsSingleValue v → (y : ℤ) × (flat v ≡ y ∷ [])
-single_number (Num z) h = (z, refl)
-single_number (Truth b) h = (truth b, refl)
-single_number (Items vs) h = absurd h
 
 -- the items that are stored, each in a type
 record AreStoredIn (t : Scalar) (vs ws : Values) : Type 0 where

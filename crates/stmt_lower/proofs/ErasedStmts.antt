@@ -19,8 +19,8 @@ use Rattle.expr_lower.specs.Meant.{single_meant}
 use Rattle.list_lower.specs.ShapeMeant.{shape_meant}
 use Rattle.stmt_lower.specs.ListStarting.{left_out_list_start, local_of}
 use Rattle.expr_lower.specs.Parted.{Part, number_of, part_named}
-use Rattle.stmt_lower.specs.Targets.{deep_cells_at, deep_cells_in, deep_cells_named, leaf_in, leaf_of, cell_of, cell_named, cells_of, cells_named}
-use Rattle.stmt_lower.specs.StmtGrowing.{left_out_all, left_out_copy, left_out_deep, left_out_each, left_out_filled, left_out_items, left_out_list, left_out_part, left_out_whole, left_out_set, left_out_stmt, left_out_vars}
+use Rattle.stmt_lower.specs.Targets.{cell_of, cell_named, cells_at, cells_of, cells_named, leaf_of, part_in}
+use Rattle.stmt_lower.specs.StmtGrowing.{left_out_all, left_out_chosen, left_out_copy, left_out_deep, left_out_each, left_out_filled, left_out_items, left_out_list, left_out_part, left_out_put, left_out_whole, left_out_set, left_out_stmt, left_out_vars}
 use Rattle.expr_lower.specs.Starting.{left_out_start}
 use Rattle.expr_lower.specs.Callees.{Function}
 use Rattle.expr_lower.proofs.Erased.{erase, erase_seat, erased, erased_list, erased_part, list_erased, named_erased, part_erased, args_erased, both_same, out_erased, start_erased}
@@ -36,9 +36,6 @@ cells_in_list o = elim o [ None ↦ None | Some l ↦ cells_of l ]
 abbrev left_else : {A : Type 0} → Option A → Option ℕ → Option ℕ → Option ℕ
 left_else o y x = elim o [ None ↦ y | Some a ↦ x ]
 
-abbrev left_or : {A : Type 0} → Option A → ℕ → Option ℕ → Option ℕ
-left_or o at x = left_else o (Some at) x
-
 -- what is left out of a call: of the arguments, if there are as many as formals
 abbrev left_call : Option Procedure → ℕ → Option ℕ → Option ℕ
 left_call o at x = elim o [ None ↦ Some at | Some p ↦ x ]
@@ -53,9 +50,9 @@ cell_left (Cell c) (Single t) y x = refl
 cell_left (Cell c) (Many n items) y x = refl
 cell_left (Tokens port first step) shape y x = refl
 
-cells_left : (l : ItemList) (seat : Seat) (at : ℕ) (x : Option ℕ) → left_or (cells_of (record { seat = erase_seat seat; size = l.size; kind = l.kind })) at x ≡ left_or (cells_of (record { seat = seat; size = l.size; kind = l.kind })) at x
-cells_left l (Cell c) at x = refl
-cells_left l (Tokens port first step) at x = refl
+cells_left : (l : ItemList) (seat : Seat) (y x : Option ℕ) → left_else (cells_of (record { seat = erase_seat seat; size = l.size; kind = l.kind })) y x ≡ left_else (cells_of (record { seat = seat; size = l.size; kind = l.kind })) y x
+cells_left l (Cell c) y x = refl
+cells_left l (Tokens port first step) y x = refl
 
 named_cell : (names : List Name) (text : List ℕ) (y x : Option ℕ) → left_else (cell_named (map erase names) text) y x ≡ left_else (cell_named names text) y x
 named_cell names text y x = ap (λ (o : Option Name). left_else (cell_in_name o) y x) (named_erased text names) ∙ go (named text names)
@@ -64,14 +61,14 @@ named_cell names text y x = ap (λ (o : Option Name). left_else (cell_in_name o)
     go None = refl
     go (Some z) = cell_left z.seat z.shape y x
 
-named_cells : (names : List Name) (text : List ℕ) (at : ℕ) (x : Option ℕ) → left_or (cells_named (map erase names) text) at x ≡ left_or (cells_named names text) at x
-named_cells names text at x = ap (λ (o : Option ItemList). left_or (cells_in_list o) at x) (list_erased names (tree.variable text 0)) ∙ go (list_named names (tree.variable text 0))
+named_cells : (names : List Name) (text : List ℕ) (y x : Option ℕ) → left_else (cells_named (map erase names) text) y x ≡ left_else (cells_named names text) y x
+named_cells names text y x = ap (λ (o : Option ItemList). left_else (cells_in_list o) y x) (list_erased names (tree.variable text 0)) ∙ go (list_named names (tree.variable text 0))
   where
-    go : (o : Option ItemList) → left_or (cells_in_list (erased_list o)) at x ≡ left_or (cells_in_list o) at x
+    go : (o : Option ItemList) → left_else (cells_in_list (erased_list o)) y x ≡ left_else (cells_in_list o) y x
     go None = refl
-    go (Some l) = cells_left l l.seat at x
+    go (Some l) = cells_left l l.seat y x
 
--- the places of an item of a list in lists
+-- the places of a part of a list
 each_place_erased : (fs : List Function) (names : List Name) (places : Tree) → left_out_each fs (map erase names) places ≡ left_out_each fs names places
 each_place_erased fs names (tree.cons place places) = both_same (out_erased fs names place) (each_place_erased fs names places)
 each_place_erased fs names other = refl
@@ -91,7 +88,7 @@ part_same : (fs : List Function) (names : List Name) (o : Option Part) (value : 
 part_same fs names None value at = refl
 part_same fs names (Some p) value at = at_seat p.seat
   where
-    at_seat : (seat : Seat) → for_cells (deep_cells_at (erase_seat seat) p.size (Some (leaf_of p.shape))) (λ c. left_out_fill fs (map erase names) p.shape value) at ≡ for_cells (deep_cells_at seat p.size (Some (leaf_of p.shape))) (λ c. left_out_fill fs names p.shape value) at
+    at_seat : (seat : Seat) → for_cells (cells_at (erase_seat seat) p.size (leaf_of p.shape)) (λ c. left_out_fill fs (map erase names) p.shape value) at ≡ for_cells (cells_at seat p.size (leaf_of p.shape)) (λ c. left_out_fill fs names p.shape value) at
     at_seat (Cell c) = fill_erased fs names p.shape value
     at_seat (Tokens port first step) = refl
 
@@ -131,30 +128,32 @@ whole_list fs names text value at =
     go None = filled_same fs names text value at
     go (Some l) = at_seat l l.seat
 
--- items of lists in lists
-deep_cells_left : (seat : Seat) (size : ℕ) (leaf : Option Scalar) (y x : Option ℕ) → left_else (deep_cells_at (erase_seat seat) size leaf) y x ≡ left_else (deep_cells_at seat size leaf) y x
-deep_cells_left (Cell c) size None y x = refl
-deep_cells_left (Cell c) size (Some t) y x = refl
-deep_cells_left (Tokens port first step) size leaf y x = refl
+-- parts of lists
+put_same : (fs : List Function) (names : List Name) (o : Option Shape) (places value : Tree) (at : ℕ) → left_out_put fs (map erase names) o places value at ≡ left_out_put fs names o places value at
+put_same fs names None places value at = refl
+put_same fs names (Some t) places value at = both_same (each_place_erased fs names places) (fill_erased fs names t value)
 
-item_erased : (fs : List Function) (names : List Name) (text : List ℕ) (places value : Tree) (at : ℕ) → left_out_deep fs (map erase names) text places value at ≡ left_out_deep fs names text places value at
-item_erased fs names text places value at =
-    ap (λ (o : Option Part). left_or (elim o [ None ↦ None | Some p ↦ deep_cells_in p places ]) at (left_out_each fs (map erase names) places or_else left_out_in fs (map erase names) value)) (part_erased names (tree.variable text 0))
-    ∙ go (part_named names (tree.variable text 0)) (left_out_each fs (map erase names) places or_else left_out_in fs (map erase names) value)
-    ∙ ap (λ x. left_or (deep_cells_named names text places) at x) (both_same (each_place_erased fs names places) (out_erased fs names value))
+chosen_same : (fs : List Function) (names : List Name) (o : Option Part) (places value : Tree) (at : ℕ) → left_out_chosen fs (map erase names) (erased_part o) places value at ≡ left_out_chosen fs names o places value at
+chosen_same fs names None places value at = refl
+chosen_same fs names (Some p) places value at = at_seat p.seat
   where
-    go : (o : Option Part) (x : Option ℕ) → left_or (elim (erased_part o) [ None ↦ None | Some p ↦ deep_cells_in p places ]) at x ≡ left_or (elim o [ None ↦ None | Some p ↦ deep_cells_in p places ]) at x
-    go None x = refl
-    go (Some p) x = deep_cells_left p.seat p.size (leaf_in p.shape places) (Some at) x
+    at_seat : (seat : Seat) → for_cells (cells_at (erase_seat seat) p.size (leaf_of p.shape)) (λ c. left_out_put fs (map erase names) (part_in p.shape places) places value at) at ≡ for_cells (cells_at seat p.size (leaf_of p.shape)) (λ c. left_out_put fs names (part_in p.shape places) places value at) at
+    at_seat (Cell c) = put_same fs names (part_in p.shape places) places value at
+    at_seat (Tokens port first step) = refl
+
+deep_same : (fs : List Function) (names : List Name) (text : List ℕ) (places value : Tree) (at : ℕ) → left_out_deep fs (map erase names) text places value at ≡ left_out_deep fs names text places value at
+deep_same fs names text places value at =
+    ap (λ o. left_out_chosen fs (map erase names) o places value at) (part_erased names (tree.variable text 0)) ∙ chosen_same fs names (part_named names (tree.variable text 0)) places value at
 
 set_erased : (fs : List Function) (names : List Name) (text : List ℕ) (places value : Tree) (at : ℕ) → left_out_set fs (map erase names) text places value at ≡ left_out_set fs names text places value at
 set_erased fs names text tree.nil value at =
     ap (λ y. left_else (cell_named (map erase names) text) y (left_out_in fs (map erase names) value)) (whole_list fs names text value at)
     ∙ named_cell names text (left_out_list fs names text value at) (left_out_in fs (map erase names) value) ∙ ap (λ x. left_else (cell_named names text) (left_out_list fs names text value at) x) (out_erased fs names value)
 set_erased fs names text (tree.cons spot tree.nil) value at =
-    named_cells names text at (left_out_in fs (map erase names) spot or_else left_out_in fs (map erase names) value)
-    ∙ ap (λ x. left_or (cells_named names text) at x) (both_same (out_erased fs names spot) (out_erased fs names value))
-set_erased fs names text places value at = item_erased fs names text places value at
+    ap (λ y. left_else (cells_named (map erase names) text) y (left_out_in fs (map erase names) spot or_else left_out_in fs (map erase names) value)) (deep_same fs names text (tree.cons spot tree.nil) value at)
+    ∙ named_cells names text (left_out_deep fs names text (tree.cons spot tree.nil) value at) (left_out_in fs (map erase names) spot or_else left_out_in fs (map erase names) value)
+    ∙ ap (λ x. left_else (cells_named names text) (left_out_deep fs names text (tree.cons spot tree.nil) value at) x) (both_same (out_erased fs names spot) (out_erased fs names value))
+set_erased fs names text places value at = deep_same fs names text places value at
 
 -- ---- statements
 

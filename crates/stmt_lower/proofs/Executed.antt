@@ -17,7 +17,7 @@ use Rattle.expr_lower.specs.Names.{Name, named, local}
 use Rattle.expr_lower.specs.Held.{AreBelow, AllApart, AreApart}
 use Rattle.stmt_lower.specs.Changing.{AreTyped, HoldsVars, KeepsBut, NamesApart}
 use Rattle.expr_lower.specs.Coding.{AreArgs, IsCode, IsTest}
-use Rattle.stmt_lower.specs.Stating.{IsStmt, AreStmts, IsKept, call, set, set_deep, set_item, set_filled, set_items, set_list, if_alone, if_else, while_code, each_code, block_code, none, one_more, IsBlock, list_more, no_more, variable_more}
+use Rattle.stmt_lower.specs.Stating.{IsStmt, AreStmts, IsKept, call, set, set_filled, set_item, set_items, set_list, set_part, set_part_list, set_whole, if_alone, if_else, while_code, each_code, block_code, none, one_more, IsBlock, list_more, no_more, variable_more}
 use Rattle.expr_lower.specs.Starting.{IsStart, at_zero, at_value}
 use Rattle.expr_lower.specs.Placed.{StandsAt, World, state}
 use Rattle.expr_lower.specs.Following.{Follows}
@@ -32,7 +32,8 @@ use Rattle.expr_lower.proofs.Keeping.{apart_first, apart_last}
 use Rattle.expr_lower.specs.Listed.{list_named}
 use Rattle.expr_lower.specs.Parted.{number_of}
 use Rattle.stmt_lower.proofs.Copying.{set_list_performs}
-use Rattle.stmt_lower.proofs.DeepItems.{grows_kept, set_deep_performs}
+use Rattle.stmt_lower.proofs.DeepItems.{grows_kept, set_part_performs}
+use Rattle.stmt_lower.proofs.NamedParts.{set_part_list_performs, set_whole_performs}
 use Rattle.list_lower.specs.Filling.{IsFill}
 use Rattle.list_lower.proofs.Filled.{grows_fill}
 use Rattle.stmt_lower.proofs.FillingRuns.{set_filled_performs}
@@ -181,9 +182,11 @@ mutual
   grows_stmt (set names text value place at base n m c code x t e seat shape g) = grows g
   grows_stmt (set_list names text value place at base n c size x t l e seat shape g many) = omega arith
   grows_stmt (set_items names text items list place at base n m c size a x t e seat shape number g) = let x = grows_kept g in omega (arith, x)
+  grows_stmt (set_whole names text from place from_at at base n c d x y e seat f there same) = omega arith
   grows_stmt (set_filled names text value place at base n m c a x e seat g) = let y = grows_fill g in omega (arith, y)
   grows_stmt (set_item names text spot value place at base n k m c size a b x t e seat shape g d) = let x = grows g in let y = grows d in omega (arith, x, y)
-  grows_stmt (set_deep names text places value place at base n k m c size a b x t e seat shape leaf g d) = let x = grows_kept g in let y = grows d in omega (arith, x, y)
+  grows_stmt (set_part names text places value place at base n k m c size a b x t e seat shape part g d) = let x = grows_kept g in let y = grows_fill d in omega (arith, x, y)
+  grows_stmt (set_part_list names text from places place from_at at base n m c size d a x y t e seat shape part f there same g) = let x = grows_kept g in omega (arith, x)
   grows_stmt (call names text args place at base n m code p e g) = grows_args g
   grows_stmt (if_alone names test first at base n k m end a b g d e) = let x = grows_test g in let y = grows_all d in omega (arith, x, y)
   grows_stmt (if_else names test first other at base n k h m else_at end a b c g d q e f) = let x = grows_test g in let y = grows_all d in let z = grows_all q in omega (arith, x, y, z)
@@ -212,13 +215,18 @@ module _ (rs : Routines) (outer : List Name) (w : World) (serves : Serves w oute
         set_list_performs rs outer w serves frames runs inner text value place at base n c size x t l (subst (λ ns. named text ns ≡ Some x) is e) seat shape (subst (λ ns. list_named ns value ≡ Some l) is g) many
     performs inner is (set_items names text items list place at base n m c size a x t e seat shape number g) =
         set_items_performs rs outer w serves frames runs inner text items list place at base n m c size a x t (subst (λ ns. named text ns ≡ Some x) is e) seat shape number (subst (λ ns. IsKept rs.functions ns n items base (n + size) a m) is g)
+    performs inner is (set_whole names text from place from_at at base n c d x y e seat f there same) =
+        set_whole_performs rs outer w serves frames runs inner text from place from_at at base n c d x y (subst (λ ns. named text ns ≡ Some x) is e) seat (subst (λ ns. named from ns ≡ Some y) is f) there same
     performs inner is (set_filled names text value place at base n m c a x e seat g) =
         set_filled_performs rs outer w serves frames runs inner text value place at base n m c a x (subst (λ ns. named text ns ≡ Some x) is e) seat (subst (λ ns. IsFill rs.functions ns value x.shape n base (n + scalars_of_type x.shape) a m) is g)
     performs inner is (set_item names text spot value place at base n k m c size a b x t e seat shape g d) =
         set_item_performs rs outer w serves frames runs inner text spot value place at base n k m c size a b x t (subst (λ ns. named text ns ≡ Some x) is e) seat shape (subst (λ ns. IsCode rs.functions ns spot base n a k) is g) (subst (λ ns. IsCode rs.functions ns value (base + length a) k b m) is d)
-    performs inner is (set_deep names text places value place at base n k m c size a b x t e seat shape leaf g d) =
-        set_deep_performs rs outer w serves frames runs inner text places value place at base n k m c size a b x t (subst (λ ns. named text ns ≡ Some x) is e) seat shape leaf
-        (subst (λ ns. IsKept rs.functions ns n places base (n + number_of places + 1) a k) is g) (subst (λ ns. IsCode rs.functions ns value (base + length a) k b m) is d)
+    performs inner is (set_part names text places value place at base n k m c size a b x t e seat shape part g d) =
+        set_part_performs rs outer w serves frames runs inner text places value place at base n k m c size a b x t (subst (λ ns. named text ns ≡ Some x) is e) seat shape part
+        (subst (λ ns. IsKept rs.functions ns n places base (n + number_of places + scalars_of_type t) a k) is g) (subst (λ ns. IsFill rs.functions ns value t (n + number_of places) (base + length a) k b m) is d)
+    performs inner is (set_part_list names text from places place from_at at base n m c size d a x y t e seat shape part f there same g) =
+        set_part_list_performs rs outer w serves frames runs inner text from places place from_at at base n m c size d a x y t (subst (λ ns. named text ns ≡ Some x) is e) seat shape part
+        (subst (λ ns. named from ns ≡ Some y) is f) there same (subst (λ ns. IsKept rs.functions ns n places base (n + number_of places) a m) is g)
     performs inner is (call names text args place at base n m code p e g) =
         run_performs rs outer w serves frames runs acts inner text args place at base n m code p e (subst (λ ns. AreArgs rs.functions ns args base n code m) is g)
     performs inner is (if_alone names test first at base n k m end a b g d e) =

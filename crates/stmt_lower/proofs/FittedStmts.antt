@@ -18,10 +18,10 @@ use Rattle.stmt_lower.specs.Changing.{AreTyped}
 use Rattle.expr_lower.specs.Fitting.{Fits}
 use Rattle.expr_lower.specs.Parted.{number_of, sized}
 use Rattle.expr_lower.specs.Placed.{StandsAt}
-use Rattle.stmt_lower.specs.Stating.{IsKept, IsStmt, AreStmts, copy_code, deep_tail, no_place, place_more, set, set_deep, set_item, set_filled, set_items, set_list, step_code, step_in, if_alone, if_else, while_code, each_code, each_head, each_tail, block_code, none, one_more, IsBlock, list_more, no_more, variable_more, call, run_code}
+use Rattle.stmt_lower.specs.Stating.{IsKept, IsStmt, AreStmts, copy_code, no_place, part_tail, place_more, set, set_filled, set_item, set_items, set_list, set_part, set_part_list, set_whole, step_code, step_in, if_alone, if_else, while_code, each_code, each_head, each_tail, block_code, none, one_more, IsBlock, list_more, no_more, variable_more, call, run_code}
 use Rattle.expr_lower.specs.Starting.{IsStart, at_zero, at_value}
 use Rattle.expr_lower.proofs.Coded.{grows, grows_test}
-use Rattle.stmt_lower.proofs.DeepItems.{grows_kept, leaf_sized}
+use Rattle.stmt_lower.proofs.DeepItems.{grows_kept, part_typed}
 use Rattle.expr_lower.proofs.PartValues.{sized_is}
 use Rattle.stmt_lower.proofs.Executed.{grows_stmt, grows_all, grows_block, grows_start}
 use Rattle.expr_lower.proofs.Fitted.{Plain, branch, fits_args, fits_const, fits_formals, fits_in, fits_jump, fits_one, fits_test_in, fits_then, list_below, plain_then}
@@ -34,6 +34,7 @@ use Rattle.list_lower.proofs.FittedJumps.{fits_back, fits_goto, fits_none}
 use Rattle.expr_lower.proofs.Keeping.{below_more}
 use Rattle.list_lower.proofs.MeantIs.{meant_sized}
 use Rattle.list_lower.proofs.ShapeIs.{shape_typed}
+use Rattle.list_lower.proofs.Shapes.{alike_sizes}
 use Rattle.stmt_lower.specs.ListStarting.{IsListStart, all_filled, all_zero, local_of}
 use Rattle.stmt_lower.proofs.ListStarting.{grows_list_start}
 use Rattle.stmt_lower.proofs.Scoping.{choose_name}
@@ -151,15 +152,12 @@ module _ (code : Code) (callable limit : ℕ) where
     fits_steps base h c (Many n items) other room = fits_none code callable limit base (h + 1)
     fits_steps base h c (Single t) places room = fits_none code callable limit base (h + 1)
 
-    fits_tail : (base h c size v : ℕ) (t : Scalar) (steps : List Instr) → c + size ≤ limit → v + 1 ≤ limit → IsSize t → Plain code callable limit (base + 1 + 1) (h + 1) steps (h + 1) → Plain code callable limit base (h + 1) (deep_tail c size v t steps) h
-    fits_tail base h c size v t steps le room sized inner =
-        let last : List Instr = op.Load v ∷ op.StoreAt c size (Some t) ∷ [] in
-        plain_then code callable limit base (h + 1) h h (op.Store v None ∷ []) (op.Const (pos 0) ∷ (steps ++ last)) (fits_one code callable limit base (h + 1) h (op.Store v None) (omega arith) (omega arith) refl room tt tt tt)
-        (plain_then code callable limit (base + 1) h (h + 1) h (op.Const (pos 0) ∷ []) (steps ++ last) (fits_const code callable limit (base + 1) h (pos 0))
-        (plain_then code callable limit (base + 1 + 1) (h + 1) (h + 1) h steps last inner
-        (plain_then code callable limit (base + 1 + 1 + length steps) (h + 1) (h + 1 + 1) h (op.Load v ∷ []) (op.StoreAt c size (Some t) ∷ [])
-        (fits_one code callable limit (base + 1 + 1 + length steps) (h + 1) (h + 1 + 1) (op.Load v) (omega arith) (omega arith) refl room tt tt tt)
-        (fits_store_at (base + 1 + 1 + length steps + 1) h c size t le sized))))
+    fits_tail : (base h c size s : ℕ) (t : Shape) (steps : List Instr) → c + size ≤ limit → s + scalars_of_type t ≤ limit → IsType t → Plain code callable limit (base + 1) (h + 1) steps (h + 1) → Plain code callable limit base h (part_tail c size s t steps) h
+    fits_tail base h c size s t steps to from typed inner =
+        let i : Instr = op.CopyTo c size s (scalars_of_type t) (Some (leaf_of t)) in
+        plain_then code callable limit base h (h + 1) h (op.Const (pos 0) ∷ []) (steps ++ i ∷ []) (fits_const code callable limit base h (pos 0))
+        (plain_then code callable limit (base + 1) (h + 1) (h + 1) h steps (i ∷ []) inner
+        (fits_one code callable limit (base + 1 + length steps) (h + 1) h i (omega arith) (omega arith) refl (to, from) tt tt (leaf_size t typed)))
 
     mutual
       pub fits_stmt : {names : List Name} {s : Tree} {base n m : ℕ} {instrs : List Instr} (h : ℕ) → AreBelow n names → AreTyped names → m ≤ limit → StandsAt code.instrs base instrs → IsStmt rs names s base n instrs m → Plain code callable limit base h instrs h
@@ -178,6 +176,12 @@ module _ (code : Code) (callable limit : ℕ) where
           let listed : IsType (Many size (Single t)) = subst IsType shape (typed text x e) in
           plain_then code callable limit base h h h a (copy_code c size t (Cell n)) (fits_kept names h (omega (arith, number)) below le (stands_left code.instrs base a (copy_code c size t (Cell n)) stands) g)
           (fits_copy (base + length a) h c size t (Cell n) (omega (arith, to)) (omega (arith, wide, le)) listed.2)
+      fits_stmt h below typed le stands (set_whole names text from place from_at at base n c d x y e seat f there same) =
+          let size : ℕ = scalars_of_type x.shape in
+          let to = cells_there n c names text x x.shape below le e seat refl in
+          let from_cells = cells_there n d names from y y.shape below le f there refl in
+          let sizes = alike_sizes x.shape y.shape same in
+          fits_one code callable limit base h h (op.Copy c d size (Some (leaf_of x.shape))) (omega arith) (omega arith) refl (to, omega (arith, from_cells, sizes)) tt tt (leaf_size x.shape (typed text x e))
       fits_stmt h below typed le stands (set_filled names text value place at base n m c a x e seat g) =
           let size : ℕ = scalars_of_type x.shape in
           let wide = grows_fill g in
@@ -192,18 +196,32 @@ module _ (code : Code) (callable limit : ℕ) where
           plain_then code callable limit base h (h + 1) h a (b ++ op.StoreAt c size (Some t) ∷ []) (fits_in code callable limit rs.functions has.functions names h below (omega (arith, more, le)) (stands_left code.instrs base a (b ++ op.StoreAt c size (Some t) ∷ []) stands) g)
           (plain_then code callable limit (base + length a) (h + 1) (h + 1 + 1) h b (op.StoreAt c size (Some t) ∷ []) (fits_in code callable limit rs.functions has.functions names (h + 1) (below_more n k names grown below) le (stands_left code.instrs (base + length a) b (op.StoreAt c size (Some t) ∷ []) (stands_right code.instrs base a (b ++ op.StoreAt c size (Some t) ∷ []) stands)) d)
           (fits_store_at (base + length a + length b) h c size t (omega (arith, all)) listed.2))
-      fits_stmt h below typed le stands (set_deep names text places value place at base n k m c size a b x t e seat shape leaf g d) =
+      fits_stmt h below typed le stands (set_part names text places value place at base n k m c size a b x t e seat shape part g d) =
           let wide = grows_kept g in
-          let more = grows d in
-          let v : ℕ = n + number_of places in
+          let more = grows_fill d in
+          let f : ℕ = n + number_of places in
           let steps : List Instr = step_code n x.shape places in
+          let tail : List Instr = part_tail c size f t steps in
           let up : n ≤ k = omega (arith, wide) in
           let all = cells_there n c names text x x.shape below (omega (arith, up, more, le)) e seat refl in
           let many = sized_is x.shape size shape in
-          plain_then code callable limit base h h h a (b ++ deep_tail c size v t steps) (fits_kept names h (omega arith) below (omega (arith, more, le)) (stands_left code.instrs base a (b ++ deep_tail c size v t steps) stands) g)
-          (plain_then code callable limit (base + length a) h (h + 1) h b (deep_tail c size v t steps) (fits_in code callable limit rs.functions has.functions names h (below_more n k names up below) le (stands_left code.instrs (base + length a) b (deep_tail c size v t steps) (stands_right code.instrs base a (b ++ deep_tail c size v t steps) stands)) d)
-          (fits_tail (base + length a + length b) h c size v t steps (omega (arith, all, many)) (omega (arith, wide, more, le)) (leaf_sized x.shape places (typed text x e) leaf)
-          (fits_steps (base + length a + length b + 1 + 1) h n x.shape places (omega (arith, wide, more, le)))))
+          plain_then code callable limit base h h h a (b ++ tail) (fits_kept names h (omega arith) below (omega (arith, more, le)) (stands_left code.instrs base a (b ++ tail) stands) g)
+          (plain_then code callable limit (base + length a) h h h b tail
+          (fits_fill code callable limit rs.functions has.functions h (below_more n f names (omega arith) below) wide le (stands_left code.instrs (base + length a) b tail (stands_right code.instrs base a (b ++ tail) stands)) d)
+          (fits_tail (base + length a + length b) h c size f t steps (omega (arith, all, many)) (omega (arith, wide, more, le)) (part_typed x.shape places (typed text x e) part)
+          (fits_steps (base + length a + length b + 1) h n x.shape places (omega (arith, wide, more, le)))))
+      fits_stmt h below typed le stands (set_part_list names text from places place from_at at base n m c size d a x y t e seat shape part f there same g) =
+          let wide = grows_kept g in
+          let steps : List Instr = step_code n x.shape places in
+          let tail : List Instr = part_tail c size d t steps in
+          let up : n ≤ m = omega (arith, wide) in
+          let all = cells_there n c names text x x.shape below (omega (arith, up, le)) e seat refl in
+          let from_cells = cells_there n d names from y y.shape below (omega (arith, up, le)) f there refl in
+          let many = sized_is x.shape size shape in
+          let sizes = alike_sizes t y.shape same in
+          plain_then code callable limit base h h h a tail (fits_kept names h (omega arith) below le (stands_left code.instrs base a tail stands) g)
+          (fits_tail (base + length a) h c size d t steps (omega (arith, all, many)) (omega (arith, from_cells, sizes)) (part_typed x.shape places (typed text x e) part)
+          (fits_steps (base + length a + 1) h n x.shape places (omega (arith, wide, le))))
       fits_stmt h below typed le stands (call names text args place at base n m part p e g) =
           let f = proc_found text (number_of args) rs.procedures p e in
           let r = has.procedures text p f.0 in

@@ -1,4 +1,3 @@
-pub mod TypeSizes
 pub mod Assigning
 pub mod Fewer
 pub mod Scoping
@@ -8,6 +7,7 @@ pub mod Setting
 pub mod Copying
 pub mod Changed
 pub mod DeepItems
+pub mod NamedParts
 pub mod ItemsKept
 pub mod Leaves
 pub mod FillingRuns

@@ -1,12 +1,10 @@
 -- The code of the start of a local that is a list does what starting it does.
-use Rattle.std.proofs.Common.{◌≡◌, ℕ, zero, suc, ◌+◌, ◌≤◌, inr, ℤ, pos, List, [], ◌∷◌, ◌++◌, length, true, refl, sym, ap, ◌∙◌, subst, Some, arith, length-append}
-use Rattle.std.specs.Prelude.{if◌then◌else◌, nat_le, slice_get, slice_set}
-use Rattle.std.proofs.lemmas.Bool.Decides.{nat_tests}
-use Rattle.std.proofs.lemmas.List.{length-set}
+use Rattle.std.proofs.Common.{◌≡◌, ℕ, ◌+◌, ◌≤◌, inr, ℤ, pos, List, [], ◌∷◌, ◌++◌, length, refl, sym, ap, ◌∙◌, subst, Some, arith, length-append}
+use Rattle.std.specs.Prelude.{slice_get}
 use Rattle.std.proofs.lemmas.Option.{slice_get_within}
 use Rattle.rvc_base.specs.declared.scalar.Scalar.{Scalar}
 use Rattle.cal_ast.specs.Tree.{Tree}
-use Rattle.cal_model.specs.Value.{Shape, Single, Many, Value, HasKind, IsType, kind_of_type, repeated, scalars_of_type, stored, zero_of}
+use Rattle.cal_model.specs.Value.{Shape, Value, HasKind, IsType, kind_of_type, scalars_of_type, stored, zero_of}
 use Rattle.cal_model.specs.Outcome.{Gives}
 use Rattle.cal_model.specs.Env.{Env}
 use Rattle.cal_model.specs.Expression.{eval}
@@ -14,12 +12,11 @@ use Rattle.cal_model.specs.Statement.{Runs, first_of}
 use Rattle.cal_model.proofs.KindValues.{zero-has-kind}
 use Rattle.code_ir.specs.declared.instr.Instr.{Instr}
 use Rattle.code_ir.specs.declared.instr.Instr.TheVariants as op
-use Rattle.code_ir.specs.Effect.{Breaks, Leaves, copied, effect, zeroed, stored as in_cell}
+use Rattle.code_ir.specs.Effect.{copied, zeroed, stored as in_cell}
 use Rattle.code_ir.specs.Running.{State, Reaches}
 use Rattle.expr_lower.specs.declared.names.Seat.TheVariants.{Cell}
-use Rattle.expr_lower.specs.Callees.{Function}
 use Rattle.expr_lower.specs.Calling.{Serves}
-use Rattle.expr_lower.specs.Flat.{flat, flat_all}
+use Rattle.expr_lower.specs.Flat.{flat}
 use Rattle.expr_lower.specs.Following.{CutsOff, Follows}
 use Rattle.expr_lower.specs.Held.{AreApart, Keeps, StandAt}
 use Rattle.expr_lower.specs.Names.{Name}
@@ -29,60 +26,19 @@ use Rattle.expr_lower.proofs.Runs.{follows_then, reaches_join, stands_left, stan
 use Rattle.expr_lower.proofs.Written.{Written, written_keeps}
 use Rattle.list_lower.specs.Filled.{Fills}
 use Rattle.list_lower.proofs.Filled.{grows_fill}
-use Rattle.list_lower.proofs.Moving.{AreMoved, copied_are, copy_leaves, moved_more, moved_none}
+use Rattle.list_lower.proofs.Leaves.{stored_leaf}
+pub use Rattle.list_lower.proofs.ListStarts.{grows_list_start}
+use Rattle.list_lower.proofs.ListStarts.{zero_leaves, zeroed_are, zeros}
+use Rattle.list_lower.proofs.Moving.{AreMoved, copied_are, copy_leaves}
 use Rattle.list_lower.proofs.Shapes.{flat_shaped}
 use Rattle.list_lower.proofs.Steps.{straight_reaches}
 use Rattle.stmt_lower.specs.Bodies.{CutShort}
 use Rattle.stmt_lower.specs.ListStarting.{IsListStart, all_filled, all_zero}
 use Rattle.stmt_lower.specs.Procedures.{Routines}
 use Rattle.stmt_lower.specs.Targets.{leaf_of}
-use Rattle.stmt_lower.proofs.Blocking.{zero_kind}
 use Rattle.stmt_lower.proofs.FillingRuns.{fills_there}
-use Rattle.stmt_lower.proofs.Leaves.{stored_leaf}
 use Rattle.stmt_lower.proofs.Performing.{cut_breaks}
 use Rattle.stmt_lower.proofs.Scoping.{AreLaid, HoldsInside}
-
-pub grows_list_start : {fs : List Function} {names : List Name} {t : Shape} {c : ℕ} {start : Tree} {base n m : ℕ} {code : List Instr} → IsListStart fs names t c start base n code m → n ≤ m
-grows_list_start (all_zero base n) = omega arith
-grows_list_start (all_filled e base n m code g) = grows_fill g
-
--- ---- zeros
-
-abbrev AreZero : List ℤ → Type 0
-AreZero zs = (j : ℕ) (z : ℤ) → slice_get zs j ≡ Some z → z ≡ pos 0
-
-both_zero : (xs ys : List ℤ) → AreZero xs → AreZero ys → AreZero (xs ++ ys)
-both_zero [] ys first second j z e = second j z e
-both_zero (x ∷ xs) ys first second zero z e = first zero z e
-both_zero (x ∷ xs) ys first second (suc j) z e = both_zero xs ys (λ i y g. first (suc i) y g) second j z e
-
-all_zeros : (n : ℕ) (v : Value) → AreZero (flat v) → AreZero (flat_all (repeated n v))
-all_zeros zero v h j z e = cc
-all_zeros (suc n) v h j z e = both_zero (flat v) (flat_all (repeated n v)) h (all_zeros n v h) j z e
-
-one_zero : (zs : List ℤ) → zs ≡ pos 0 ∷ [] → AreZero zs
-one_zero zs is j z e = only j (subst (λ xs. slice_get xs j ≡ Some z) is e)
-  where
-    only : (j : ℕ) → slice_get (pos 0 ∷ []) j ≡ Some z → z ≡ pos 0
-    only zero g = cc
-    only (suc j) g = cc
-
-zeros : (t : Shape) → AreZero (flat (zero_of t))
-zeros (Single t) = one_zero (flat (zero_of (Single t))) (zero_kind t).1
-zeros (Many n items) = all_zeros n (zero_of items) (zeros items)
-
-zeroed_are : (c n : ℕ) (cells : List ℤ) → c + n ≤ length cells → AreMoved (λ z. z) (λ j. Some (pos 0)) c n cells (zeroed c n cells)
-zeroed_are c zero cells room = moved_none (λ z. z) (λ j. Some (pos 0)) c cells
-zeroed_are c (suc n) cells room =
-    let next : List ℤ = slice_set cells c (pos 0) in
-    let size : length next ≡ length cells = length-set cells c (pos 0) in
-    moved_more (λ z. z) (λ j. Some (pos 0)) (λ j. Some (pos 0)) c n (pos 0) cells (zeroed (c + 1) n next) (omega (arith, room)) (λ z e. cc) (λ j z small e. e)
-    (zeroed_are (c + 1) n next (omega (arith, room, size)))
-
-zero_leaves : (c n : ℕ) (tokens : ℕ → List ℤ) (stack cells : List ℤ) → c + n ≤ length cells → effect tokens (op.Zero c n) stack cells ≡ Leaves stack (zeroed c n cells)
-zero_leaves c n tokens stack cells room =
-    let near : nat_le (c + n) (length cells) ≡ true = grind (arith, nat_tests, room) in
-    ap (λ b. if b then Leaves stack (zeroed c n cells) else Breaks) near
 
 -- ---- starts
 

@@ -4,7 +4,6 @@ use Rattle.std.specs.Prelude.{◌≡◌, ◌<◌, ◌^◌, ℕ, ◌+◌}
 use Rattle.rvc_base.specs.declared.scalar.Scalar.{Scalar}
 use Rattle.expr_lower.specs.declared.draft.Draft.{Draft}
 use Rattle.stmt_lower.specs.declared.counter.Counter.{Counter}
-use Rattle.stmt_lower.specs.declared.counter.Kept.{Kept}
 use Rattle.stmt_lower.specs.Stating.{counter_at}
 
 -- three cells were added to a draft, and nothing else changed
@@ -21,11 +20,3 @@ pub record HasMore (count : ℕ) (old new : Draft) (c : ℕ) : Type 0 where
   pub routines : new.routines.items ≡ old.routines.items
   pub cells : new.cells ≡ old.cells + count
   pub room : c + count < 2 ^ 32
-
--- a cell for each place and one for a value were added, and nothing else changed
-pub record HasKept (count : ℕ) (old new : Draft) (k : Kept) : Type 0 where
-  pub places : k.places ≡ old.cells
-  pub value : k.value ≡ old.cells + count
-  pub instrs : new.instrs.items ≡ old.instrs.items
-  pub routines : new.routines.items ≡ old.routines.items
-  pub cells : new.cells ≡ old.cells + count + 1

@@ -1,7 +1,11 @@
 -- The words of the contracts of the parts that lower statements, over what they see.
 -- Not trusted: no promise is read with it.
-use Rattle.std.specs.Prelude.{◌≡◌, ℕ, List, ◌∷◌, map, Option, None, string_bytes}
+use Rattle.std.specs.Prelude.{◌≡◌, ℕ, pos, List, [], ◌∷◌, ◌++◌, map, Option, None, Some, string_bytes}
 use Rattle.cal_model.specs.Value.{Shape}
+use Rattle.cal_model.specs.View.{shape_view}
+use Rattle.code_ir.specs.declared.instr.Instr.{Instr}
+use Rattle.code_ir.specs.declared.instr.Instr.TheVariants as op
+use Rattle.cal_ast.specs.Tree as tree
 use Rattle.cal_ast.specs.Tree.{Tree, listed}
 use Rattle.cal_ast.specs.View.{expr_tree, var_tree}
 use Rattle.cal_ast.specs.declared.member.VarDecl.{VarDecl}
@@ -15,13 +19,17 @@ use Rattle.stmt_lower.specs.Procedures.{Routines}
 use Rattle.expr_lower.specs.Growing.{IsFault}
 use Rattle.expr_lower.specs.Lowered.{Adds}
 use Rattle.expr_lower.specs.Names.{Name, local}
+use Rattle.expr_lower.specs.Callees.{Function}
+use Rattle.expr_lower.specs.Parted.{Part, part_named, sized}
 use Rattle.expr_lower.specs.PartView.{places_of}
 use Rattle.stmt_lower.specs.ListStarting.{local_of}
 use Rattle.stmt_lower.specs.StmtSeen.{called, seen}
 use Rattle.stmt_lower.specs.declared.counter.Counter.{Counter}
-use Rattle.stmt_lower.specs.Stating.{AreStmts, IsBlock, IsKept, IsStmt}
+use Rattle.stmt_lower.specs.declared.targets.Target.{Target}
+use Rattle.stmt_lower.specs.Stating.{AreStmts, IsBlock, IsKept, IsStmt, step_code}
 use Rattle.stmt_lower.specs.StmtGrowing.{left_out_all, left_out_deep, left_out_each, left_out_stmt, left_out_vars}
 use Rattle.stmt_lower.specs.StmtWords.{body_of, set_items_of}
+use Rattle.stmt_lower.specs.Targets.{part_in, whole_cells_in}
 
 -- the code of a statement was added to a draft
 abbrev pub AddsStmt : StmtScope → Tree → Draft → Draft → Type 0
@@ -40,13 +48,33 @@ abbrev pub AddsItems : StmtScope → Ident → List Expr → Draft → Draft →
 AddsItems scope name items old new = (list at : ℕ)
     → Adds (IsStmt (called scope) (seen scope) (set_items_of name items list at)) old new
 
--- the first part of places that is left out, and of an assignment to an item of a list in lists
+-- the first part of places that is left out, and of an assignment to a part of a list
 abbrev pub left_out_kept : StmtScope → List Expr → Option ℕ
 left_out_kept scope places = left_out_each (called scope).functions (seen scope) (places_of places)
 
 abbrev pub left_out_item : StmtScope → Ident → List Expr → Expr → ℕ → Option ℕ
 left_out_item scope name places value at =
     left_out_deep (called scope).functions (seen scope) (string_bytes name.text) (places_of places) (expr_tree value) at
+
+-- where a part of a list is stored
+pub record IsTarget (names : List Name) (text : List ℕ) (places : Tree) (t : Target) : Type 0 where
+  pub whole : Part
+  pub is : part_named names (tree.variable text 0) ≡ Some whole
+  pub list : whole.shape ≡ shape_view t.list.now
+  pub cells : whole_cells_in whole ≡ Some t.to
+  pub chosen : part_in whole.shape places ≡ Some (shape_view t.part.now)
+  pub size : sized (shape_view t.part.now) ≡ Some t.size
+
+-- .. and that there is no such part
+abbrev pub HasNoTarget : List Name → List ℕ → Tree → Type 0
+HasNoTarget names text places = (fs : List Function) (value : Tree) (at : ℕ)
+    → left_out_deep fs names text places value at ≡ Some at
+
+-- the tests of its places, and the instruction that stores what stands in the cells from one on
+abbrev pub put_code : Target → Tree → ℕ → ℕ → List Instr
+put_code t places cell from =
+    op.Const (pos 0) ∷ (step_code cell (shape_view t.list.now) places
+    ++ op.CopyTo t.to.cell t.to.size from t.size (Some t.to.kind) ∷ [])
 
 -- no part of a statement is left out, and none of statements
 abbrev pub IsAllOf : StmtScope → Tree → Type 0

@@ -1,6 +1,6 @@
 -- The code of each form of a statement. It stands at a place of the code, since jumps name places.
 -- Trusted: part of what a promise means.
-use Rattle.std.specs.Prelude.{◌≡◌, ℕ, ◌+◌, pos, Bool, List, [], ◌∷◌, ◌++◌, length, Option, None, Some}
+use Rattle.std.specs.Prelude.{◌≡◌, ℕ, ◌+◌, pos, Bool, true, List, [], ◌∷◌, ◌++◌, length, Option, None, Some}
 use Rattle.rvc_base.specs.declared.scalar.Scalar.{Scalar}
 use Rattle.cal_ast.specs.Tree as tree
 use Rattle.cal_ast.specs.Tree.{Tree}
@@ -21,8 +21,8 @@ use Rattle.expr_lower.specs.Meant.{single_meant}
 use Rattle.list_lower.specs.ShapeMeant.{shape_meant}
 use Rattle.stmt_lower.specs.ListStarting.{IsListStart, local_of}
 use Rattle.stmt_lower.specs.Procedures.{Procedure, Routines, procedure_for}
-use Rattle.stmt_lower.specs.Targets.{leaf_in, leaf_of}
-use Rattle.expr_lower.specs.Parted.{number_of, sized}
+use Rattle.stmt_lower.specs.Targets.{leaf_of, part_in}
+use Rattle.expr_lower.specs.Parted.{alike, number_of, sized}
 
 -- ---- parts of the code of a `foreach`
 
@@ -67,9 +67,9 @@ copy_code c size t (Cell s) = op.Copy c s size (Some t) ∷ []
 copy_code c size t (Tokens port first step) =
     op.TokenList c port first step size ∷ op.Copy c c size (Some t) ∷ []
 
--- ---- items of lists in lists
+-- ---- parts of lists
 
--- Code that evaluates the places of an item, and keeps each in a cell, from c on.
+-- Code that evaluates the places of a part, and keeps each in a cell, from c on.
 pub data IsKept (fs : List Function) (names : List Name) : ℕ → Tree → ℕ → ℕ → List Instr → ℕ → Type 0 where
   no_place : (c base n : ℕ) → IsKept fs names c tree.nil base n [] n
   place_more : (place places : Tree) (c base n k m : ℕ) (a b : List Instr)
@@ -86,10 +86,11 @@ step_code c (Many n items) (tree.cons place places) =
     step_in c n (sized items) (step_code (c + 1) items places)
 step_code c shape other = []
 
--- the value is kept, the places are tested in turn, and then the value is stored at the offset
-abbrev pub deep_tail : ℕ → ℕ → ℕ → Scalar → List Instr → List Instr
-deep_tail c size v t steps = op.Store v None ∷ op.Const (pos 0)
-    ∷ (steps ++ op.Load v ∷ op.StoreAt c size (Some t) ∷ [])
+-- The places are tested in turn, which gives the offset of the part. The numbers that stand in the cells from s on are
+-- stored from there on, each in the type of the list's single values.
+abbrev pub part_tail : ℕ → ℕ → ℕ → Shape → List Instr → List Instr
+part_tail c size s t steps =
+    op.Const (pos 0) ∷ (steps ++ op.CopyTo c size s (scalars_of_type t) (Some (leaf_of t)) ∷ [])
 
 -- ---- calls of procedures
 
@@ -121,6 +122,13 @@ mutual
         → number_of items ≡ size → IsKept rs.functions names n items base (n + size) a m
         → IsStmt rs names (tree.assign (tree.ident text place) tree.nil (tree.list items list) at)
         base n (a ++ copy_code c size t (Cell n)) m
+    -- the numbers of another list at any depth, which isn't copied before
+    set_whole : (names : List Name) (text from : List ℕ) (place from_at at base n c d : ℕ)
+        (x y : Name)
+        → named text names ≡ Some x → x.seat ≡ Cell c
+        → named from names ≡ Some y → y.seat ≡ Cell d → alike x.shape y.shape ≡ true
+        → IsStmt rs names (tree.assign (tree.ident text place) tree.nil (tree.variable from from_at) at) base n
+        (op.Copy c d (scalars_of_type x.shape) (Some (leaf_of x.shape)) ∷ []) n
     -- any other list, which is filled apart before its items are stored
     set_filled : (names : List Name) (text : List ℕ) (value : Tree) (place at base n m c : ℕ)
         (a : List Instr) (x : Name)
@@ -135,15 +143,24 @@ mutual
         → IsCode rs.functions names index base n a k → IsCode rs.functions names value (base + length a) k b m
         → IsStmt rs names (tree.assign (tree.ident text place) (tree.cons index tree.nil) value at)
         base n (a ++ (b ++ op.StoreAt c size (Some t) ∷ [])) m
-    -- the places, then the value, and then the tests of the places, one after the other
-    set_deep : (names : List Name) (text : List ℕ) (places value : Tree)
-        (place at base n k m c size : ℕ) (a b : List Instr) (x : Name) (t : Scalar)
+    -- the places, then the value, which is filled apart, be it a list or not, and then the tests of the places
+    set_part : (names : List Name) (text : List ℕ) (places value : Tree)
+        (place at base n k m c size : ℕ) (a b : List Instr) (x : Name) (t : Shape)
         → named text names ≡ Some x → x.seat ≡ Cell c → sized x.shape ≡ Some size
-        → leaf_in x.shape places ≡ Some t
-        → IsKept rs.functions names n places base (n + number_of places + 1) a k
-        → IsCode rs.functions names value (base + length a) k b m
+        → part_in x.shape places ≡ Some t
+        → IsKept rs.functions names n places base (n + number_of places + scalars_of_type t) a k
+        → IsFill rs.functions names value t (n + number_of places) (base + length a) k b m
         → IsStmt rs names (tree.assign (tree.ident text place) places value at) base n
-        (a ++ (b ++ deep_tail c size (n + number_of places) t (step_code n x.shape places))) m
+        (a ++ (b ++ part_tail c size (n + number_of places) t (step_code n x.shape places))) m
+    -- .. or from the cells of a list's name, which isn't copied before
+    set_part_list : (names : List Name) (text from : List ℕ) (places : Tree)
+        (place from_at at base n m c size d : ℕ) (a : List Instr) (x y : Name) (t : Shape)
+        → named text names ≡ Some x → x.seat ≡ Cell c → sized x.shape ≡ Some size
+        → part_in x.shape places ≡ Some t
+        → named from names ≡ Some y → y.seat ≡ Cell d → alike t y.shape ≡ true
+        → IsKept rs.functions names n places base (n + number_of places) a m
+        → IsStmt rs names (tree.assign (tree.ident text place) places (tree.variable from from_at) at) base n
+        (a ++ part_tail c size d t (step_code n x.shape places)) m
     -- the arguments, a turn, and the routine of the procedure
     call : (names : List Name) (text : List ℕ) (args : Tree) (place at base n m : ℕ)
         (code : List Instr) (p : Procedure)

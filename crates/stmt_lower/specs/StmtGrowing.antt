@@ -3,6 +3,7 @@
 use Rattle.std.specs.Prelude.{ℕ, nat_eq, if◌then◌else◌, List, ◌∷◌, Option, None, Some}
 use Rattle.cal_ast.specs.Tree as tree
 use Rattle.cal_ast.specs.Tree.{Tree}
+use Rattle.cal_model.specs.Value.{Shape}
 use Rattle.expr_lower.specs.declared.names.ItemList.{ItemList}
 use Rattle.stmt_lower.specs.declared.targets.ListCells.{ListCells}
 use Rattle.expr_lower.specs.Callees.{Function}
@@ -16,7 +17,7 @@ use Rattle.expr_lower.specs.Meant.{single_meant}
 use Rattle.list_lower.specs.LeftOut.{left_out_fill}
 use Rattle.list_lower.specs.ShapeMeant.{shape_meant}
 use Rattle.stmt_lower.specs.ListStarting.{left_out_list_start, local_of}
-use Rattle.stmt_lower.specs.Targets.{deep_cells_named, whole_cells_in}
+use Rattle.stmt_lower.specs.Targets.{part_in, whole_cells_in}
 use Rattle.expr_lower.specs.Parted.{Part, number_of, part_named}
 
 -- a list of single values is stored whole from the name of another one of as many ..
@@ -57,14 +58,22 @@ left_out_list fs names text value at = elim (cells_named names text) [
   | Some c ↦ left_out_whole fs names c text value at
 ]
 
--- an assignment to an item of a list in lists
-abbrev pub left_out_deep : List Function → List Name → List ℕ → Tree → Tree → ℕ → Option ℕ
-left_out_deep fs names text places value at = elim (deep_cells_named names text places) [
-  | None ↦ Some at
-  | Some c ↦ left_out_each fs names places or_else left_out_in fs names value
-]
+-- an assignment to a part of a list, be it a single value or a list: the places, and then the value
+abbrev pub left_out_put : List Function → List Name → Option Shape → Tree → Tree → ℕ → Option ℕ
+left_out_put fs names None places value at = Some at
+left_out_put fs names (Some t) places value at =
+    left_out_each fs names places or_else left_out_fill fs names t value
 
--- an assignment to the whole variable, or to one item of it
+abbrev pub left_out_chosen : List Function → List Name → Option Part → Tree → Tree → ℕ → Option ℕ
+left_out_chosen fs names None places value at = Some at
+left_out_chosen fs names (Some p) places value at = elim (whole_cells_in p)
+    [ None ↦ Some at | Some c ↦ left_out_put fs names (part_in p.shape places) places value at ]
+
+abbrev pub left_out_deep : List Function → List Name → List ℕ → Tree → Tree → ℕ → Option ℕ
+left_out_deep fs names text places value at =
+    left_out_chosen fs names (part_named names (tree.variable text 0)) places value at
+
+-- an assignment to the whole variable, to one item of a list of single values, or to any other part
 abbrev pub left_out_set : List Function → List Name → List ℕ → Tree → Tree → ℕ → Option ℕ
 left_out_set fs names text tree.nil value at =
     elim (cell_named names text) [
@@ -73,7 +82,7 @@ left_out_set fs names text tree.nil value at =
     ]
 left_out_set fs names text (tree.cons spot tree.nil) value at =
     elim (cells_named names text) [
-      | None ↦ Some at
+      | None ↦ left_out_deep fs names text (tree.cons spot tree.nil) value at
       | Some c ↦ left_out_in fs names spot or_else left_out_in fs
           names value
     ]
@@ -94,7 +103,7 @@ left_out_vars rs names other body = Some 0
 
 abbrev mutual
   -- The place of the first part of a statement for which no code is made: an assignment to what isn't a variable of
-  -- single values, an item of lists of them or such a list whole, each in cells, a call of what is none of these
+  -- single values, such a list whole or a part of one, each in cells, a call of what is none of these
   -- procedures or that has not as many arguments, a `foreach` whose type isn't seen to be one of single values, or a
   -- variable of a block whose type isn't seen; or such a part of an expression. Of a `while` the body comes first, as in
   -- its code. Which cell a local has doesn't matter here.

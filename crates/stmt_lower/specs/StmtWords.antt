@@ -1,6 +1,6 @@
 -- The words of the contracts of calls that lower statements, over names and statements as the code has them.
 -- Trusted: part of what a promise means.
-use Rattle.std.specs.Prelude.{◌≡◌, ℕ, List, [], ◌∷◌, map, Option, None, Vec}
+use Rattle.std.specs.Prelude.{◌≡◌, ℕ, List, [], map, Option, None, Vec}
 use Rattle.std.specs.declared.alloc.Global.{Global}
 use Rattle.cal_ast.specs.Tree as tree
 use Rattle.cal_ast.specs.Tree.{Tree, listed}
@@ -30,9 +30,6 @@ set_of name places value at =
 
 abbrev pub set_one_of : Ident → Expr → ℕ → Tree
 set_one_of name value at = set_of name [] value at
-
-abbrev pub set_item_of : Ident → Expr → Expr → ℕ → Tree
-set_item_of name place value at = set_of name (place ∷ []) value at
 
 abbrev pub set_items_of : Ident → List Expr → ℕ → ℕ → Tree
 set_items_of name items list at =

@@ -1,6 +1,6 @@
 -- Cells of names that may be assigned.
 -- Trusted: part of what a promise means.
-use Rattle.std.specs.Prelude.{ℕ, List, Option, None, Some}
+use Rattle.std.specs.Prelude.{ℕ, List, Option, None, Some, if◌then◌else◌}
 use Rattle.rvc_base.specs.declared.scalar.Scalar.{Scalar}
 use Rattle.cal_ast.specs.Tree as tree
 use Rattle.cal_ast.specs.Tree.{Tree}
@@ -9,9 +9,11 @@ use Rattle.expr_lower.specs.declared.names.ItemList.{ItemList}
 use Rattle.expr_lower.specs.declared.names.OneCell.{OneCell}
 use Rattle.expr_lower.specs.declared.names.Seat.{Seat}
 use Rattle.expr_lower.specs.declared.names.Seat.TheVariants.{Cell, Tokens}
-use Rattle.expr_lower.specs.Listed.{list_named, single_of}
+use Rattle.expr_lower.specs.Listed.{list_named}
 use Rattle.expr_lower.specs.Names.{Name, named}
-use Rattle.expr_lower.specs.Parted.{Part, part_named}
+use Rattle.expr_lower.specs.Growing.{first_cell}
+use Rattle.expr_lower.specs.Parted.{Part, alike, part_named}
+pub use Rattle.list_lower.specs.ListStarting.{leaf_of}
 use Rattle.stmt_lower.specs.declared.targets.ListCells.{ListCells}
 
 -- the cell of a single value
@@ -38,32 +40,30 @@ abbrev pub cells_named : List Name → List ℕ → Option ListCells
 cells_named names text =
     elim (list_named names (tree.variable text 0)) [ None ↦ None | Some l ↦ cells_of l ]
 
--- ---- items of lists in lists
+-- ---- parts of lists in lists
 
--- the type of the single value that so many indexes choose, if they choose one
-abbrev pub leaf_in : Shape → Tree → Option Scalar
-leaf_in shape tree.nil = single_of shape
-leaf_in (Many n items) (tree.cons place places) = leaf_in items places
-leaf_in shape other = None
+-- the type of the part that so many indexes choose, if there are lists for all of them
+abbrev pub part_in : Shape → Tree → Option Shape
+part_in shape tree.nil = Some shape
+part_in (Many n items) (tree.cons place places) = part_in items places
+part_in shape other = None
 
--- the cells of the list in which they choose one
-abbrev pub deep_cells_at : Seat → ℕ → Option Scalar → Option ListCells
-deep_cells_at (Cell c) size None = None
-deep_cells_at (Cell c) size (Some t) = Some (record { cell = c; size = size; kind = t })
-deep_cells_at (Tokens port first step) size leaf = None
-
--- the type of the single values of a list at any depth
-abbrev pub leaf_of : Shape → Scalar
-leaf_of (Single t) = t
-leaf_of (Many n items) = leaf_of items
+-- the cells of so many single values of a type, if they stand in cells
+abbrev pub cells_at : Seat → ℕ → Scalar → Option ListCells
+cells_at (Cell c) size t = Some (record { cell = c; size = size; kind = t })
+cells_at (Tokens port first step) size t = None
 
 -- the cells of a whole list at any depth, if it stands in cells
 abbrev pub whole_cells_in : Part → Option ListCells
-whole_cells_in p = deep_cells_at p.seat p.size (Some (leaf_of p.shape))
+whole_cells_in p = cells_at p.seat p.size (leaf_of p.shape)
 
-abbrev pub deep_cells_in : Part → Tree → Option ListCells
-deep_cells_in p places = deep_cells_at p.seat p.size (leaf_in p.shape places)
+-- the first cell of a list that is assigned to a part, if it is that of a name, in cells, with as many items at each
+-- depth
+abbrev pub source_in : Shape → Option Part → Option ℕ
+source_in t None = None
+source_in t (Some p) = if alike t p.shape then first_cell p.seat else None
 
-abbrev pub deep_cells_named : List Name → List ℕ → Tree → Option ListCells
-deep_cells_named names text places = elim (part_named names (tree.variable text 0))
-    [ None ↦ None | Some p ↦ deep_cells_in p places ]
+abbrev pub source_of : List Name → Shape → Tree → Option ℕ
+source_of names (Many n items) (tree.variable text at) =
+    source_in (Many n items) (part_named names (tree.variable text at))
+source_of names t other = None

@@ -4,7 +4,7 @@ ghost use Rattle.std.specs.Prelude.{◌≡◌, ◌+◌, ◌<◌, ◌^◌, ◌≤
 ghost use Rattle.expr_lower.specs.declared.fault.LowerFault.TheVariants.{Memory, TooManyCells};
 ghost use Rattle.expr_lower.specs.Lowered.{IsPut};
 ghost use Rattle.stmt_lower.specs.Stating.{each_bounds, each_less, each_next, each_turn};
-ghost use Rattle.stmt_lower.specs.Reserving.{HasKept, HasMore, HasTaken};
+ghost use Rattle.stmt_lower.specs.Reserving.{HasMore, HasTaken};
 
 use code_ir::Instr;
 use expr_lower::{Draft, LowerFault, put_all};
@@ -36,28 +36,6 @@ pub(crate) fn take_cells(kind: Scalar, draft: &mut Draft) -> Result<Counter, Low
         variable: number + 2,
         kind,
     })
-}
-
-/// The cells in which the places of an item are kept, from one on, and that of the value.
-#[derive(Clone, Copy)]
-pub(crate) struct Kept {
-    pub places: u32,
-    pub value: u32,
-}
-
-/// Takes a cell for each of so many places, and one for a value. If there aren't so many left, all are taken.
-pub(crate) fn take_kept(count: usize, draft: &mut Draft) -> Result<Kept, LowerFault>
-    ensures taken { IfOk result (HasKept count draft.old draft.new) }
-    ensures fault { IfErr result
-        (λ fault. (fault ≡ TooManyCells) × (2 ^ 32 ≤ draft.new.cells + 3)) }
-{
-    let places = draft.cells;
-    let Some(value) = cell_after(places, count) else {
-        draft.cells = u32::MAX;
-        return Err(LowerFault::TooManyCells);
-    };
-    draft.cells = value + 1;
-    Ok(Kept { places, value })
 }
 
 /// Takes so many cells. If there aren't so many left, all are taken.

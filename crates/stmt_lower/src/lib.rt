@@ -12,12 +12,10 @@ pub mod laws;
 mod lists;
 mod procedures;
 mod scope;
-mod sizes;
-mod starts;
 mod stmts;
 mod targets;
 
 pub use callees::ProcCallee;
+pub use list_lower::{Row, start_list, start_local, take_list};
 pub use procedures::lower_procedure;
-pub use starts::{Row, start_list, start_local, take_list};
 pub use stmts::{lower_calling_stmts, lower_stmts};

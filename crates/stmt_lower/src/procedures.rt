@@ -9,12 +9,11 @@ ghost use Rattle.stmt_lower.specs.StmtSeen.{seen};
 
 use crate::callees::ProcCallee;
 use crate::scope::StmtScope;
-use crate::starts::start_local;
 use crate::stmts::lower_all;
 use cal_model::{BoundLocal, BoundProc, Shape};
 use code_ir::{Instr, Routine};
 use expr_lower::{Callee, Draft, Formal, Frame, LowerFault, Named, next_place, put};
-use list_lower::take_formals;
+use list_lower::{start_local, take_formals};
 use std::alloc::Global;
 
 /// Appends the routine of a procedure, and answers how it is called.

@@ -1,6 +1,6 @@
 //! Statements as code: one small function a form.
 
-ghost use Rattle.std.specs.Prelude.{◌≡◌, ◌∷◌, ℕ, IfErr, None, OnOk, Some, string_bytes};
+ghost use Rattle.std.specs.Prelude.{◌≡◌, ◌∷◌, [], ℕ, IfErr, None, OnOk, Some, string_bytes};
 ghost use Rattle.cal_ast.specs.View.{stmt_tree, type_tree};
 ghost use Rattle.cal_model.specs.View.{shape_view};
 ghost use Rattle.expr_lower.specs.Meant.{single_meant};
@@ -16,15 +16,14 @@ ghost use Rattle.stmt_lower.specs.SeenStmts.{AddsBody, AddsStmt, AddsStmts, AreA
 ghost use Rattle.stmt_lower.specs.SeenStmts.{IsAllOf, IsAllOfBody, IsWhyNoBody, IsWhyNot};
 ghost use Rattle.stmt_lower.specs.StmtWords.{AddsExecuted, AreWhole, IsFaultAmong};
 ghost use Rattle.stmt_lower.specs.StmtWords.{alone_of, body_of, branch_of, foreach_of, fork_of};
-ghost use Rattle.stmt_lower.specs.StmtWords.{run_of, set_item_of, set_of, set_one_of, while_of};
+ghost use Rattle.stmt_lower.specs.StmtWords.{run_of, set_of, set_one_of, while_of};
 
 use crate::callees::{ProcCallee, procedure_for, put_run};
 use crate::counter::{Counter, put_bounds, put_less, put_next, put_turn, take_cells};
-use crate::deep::set_deep;
+use crate::deep::set_part;
 use crate::jumps::{exit_at, jump_at};
 use crate::lists::{set_copy, set_filled, set_items};
 use crate::scope::StmtScope;
-use crate::starts::start_list;
 use crate::targets::{cell_named, cells_named};
 use cal_ast::{Expr, ExprForm, Ident, Stmt, StmtForm, TypeExpr, VarDecl};
 use cal_model::Shape;
@@ -32,7 +31,7 @@ use code_ir::Instr;
 use expr_lower::{
     Callee, Draft, Frame, LowerFault, Named, close, link, next_place, put, put_all, take_cell,
 };
-use list_lower::{lower, lower_args, lower_test, shape_meant, single_meant, start};
+use list_lower::{lower, lower_args, lower_test, shape_meant, single_meant, start, start_list};
 use rvc_base::Scalar;
 
 /// Appends code that executes a statement.
@@ -96,8 +95,8 @@ fn set(
 {
     match places {
         [] => set_one(scope, name, value, at, draft),
-        [place] => set_item(scope, name, place, value, at, draft),
-        _ => set_deep(scope, name, places, value, at, draft),
+        [place] => set_item(scope, name, places, place, value, at, draft),
+        _ => set_part(scope, name, places, value, at, draft),
     }
 }
 
@@ -147,24 +146,26 @@ fn set_list(
     }
 }
 
-/// Appends an assignment to an item of a list: the place, the value, and the instruction that stores it there.
+/// Appends an assignment to an item of a list: if that is one of single values, the place, the value, and the
+/// instruction that stores it there.
 fn set_item(
     scope: &StmtScope,
     name: &Ident,
+    places: &[Expr],
     place: &Expr,
     value: &Expr,
     at: u32,
     draft: &mut Draft,
 ) -> Result<(), LowerFault>
+    requires one { places.now ≡ place.now ∷ [] }
     ensures ok { OnOk result
-        (AddsStmt scope.now (set_item_of name.now place.now value.now at) draft.old draft.new) }
-    ensures whole { OnOk result
-        (IsAllOf scope.now (set_item_of name.now place.now value.now at)) }
+        (AddsStmt scope.now (set_of name.now places.now value.now at) draft.old draft.new) }
+    ensures whole { OnOk result (IsAllOf scope.now (set_of name.now places.now value.now at)) }
     ensures fault { IfErr result
-        (IsWhyNot scope.now (set_item_of name.now place.now value.now at) draft.new) }
+        (IsWhyNot scope.now (set_of name.now places.now value.now at) draft.new) }
 {
     let Some(to) = cells_named(&scope.values, name.text.as_str()) else {
-        return Err(LowerFault::NotLowered { at });
+        return set_part(scope, name, places, value, at, draft);
     };
     lower(&scope.values, place, draft)?;
     lower(&scope.values, value, draft)?;
@@ -459,12 +460,13 @@ fn behind(
 /// changes the cells of these names as the statements change the variables, each stored in its type. What stood in
 /// the draft stays.
 ///
-/// Code is made for assignments to variables of single values, to items of lists of them at any depth, and to whole
-/// lists, `if`, `while`, and `foreach` and blocks whose types are written without names, over the expressions for which
-/// [`lower_expr`](list_lower::lower_expr) or, of lists, [`lower_list`](list_lower::lower_list) makes code. The variables
-/// of a block may be lists at any depth. A `foreach` uses three cells more, a variable of a block one for each of its
-/// numbers, an item of lists in lists one for each of its places and one for its value, and a list that isn't copied
-/// from a name one for each of its numbers, beside those of its generators; they are added to the draft.
+/// Code is made for assignments to variables of single values, to lists at any depth, and to their parts, be they single
+/// values or lists, `if`, `while`, and `foreach` and blocks whose types are written without names, over the expressions
+/// for which [`lower_expr`](list_lower::lower_expr) or, of lists, [`lower_list`](list_lower::lower_list) makes code. The
+/// variables of a block may be lists at any depth. A `foreach` uses three cells more, a variable of a block one for each
+/// of its numbers, a part of a list in lists one for each of its places and one for each number of its value, and a list
+/// that isn't copied from a name one for each of its numbers, beside those of its generators; they are added to the
+/// draft.
 ///
 /// # Errors
 ///

@@ -1,15 +1,18 @@
 //! Cells of names that are assigned.
 
-ghost use Rattle.std.specs.Prelude.{◌≡◌};
+ghost use Rattle.std.specs.Prelude.{◌≡◌, IfNone, IfSome, Some, option_map};
+ghost use Rattle.cal_ast.specs.View.{expr_tree};
 ghost use Rattle.cal_model.specs.View.{shape_view};
 ghost use Rattle.expr_lower.specs.PartView.{part_view, places_of};
 ghost use Rattle.expr_lower.specs.Seen.{seen};
-ghost use Rattle.stmt_lower.specs.Targets.{cell_named, cells_named, deep_cells_in, leaf_in};
-ghost use Rattle.stmt_lower.specs.Targets.{leaf_of, whole_cells_in};
+ghost use Rattle.stmt_lower.specs.Targets.{cell_named, cells_named};
+ghost use Rattle.stmt_lower.specs.SeenStmts.{HasNoTarget, IsTarget};
+ghost use Rattle.stmt_lower.specs.Targets.{part_in, source_in, source_of, whole_cells_in};
 
-use cal_ast::Expr;
+use cal_ast::{Expr, ExprForm};
 use cal_model::Shape;
-use expr_lower::{OneCell, Part, Scope, Seat, list_called, one_named, single};
+use expr_lower::{OneCell, Part, Scope, Seat, list_called, one_named, scalars, whole_called};
+use list_lower::{alike, leaf_of};
 use rvc_base::Scalar;
 
 /// The cells of a list, from the first on, and the type of its items.
@@ -71,40 +74,78 @@ pub(crate) fn whole_cells(whole: Part) -> Option<ListCells>
     })
 }
 
-/// The type of the single values of a list at any depth.
-pub(crate) fn leaf_of(shape: &Shape) -> Scalar
-    ensures { result ≡ leaf_of (shape_view shape.now) }
-{
-    match shape {
-        Shape::Scalar(kind) => *kind,
-        Shape::List(_, items) => leaf_of(items),
-    }
+/// Where a part of a list in cells is stored: the type of the list, its cells, the type of the part, and how many numbers
+/// that has.
+#[derive(Clone, Copy)]
+pub(crate) struct Target<'a> {
+    pub list: &'a Shape,
+    pub to: ListCells,
+    pub part: &'a Shape,
+    pub size: u32,
 }
 
-/// The cells of the list in which so many indexes choose a single value, if they choose one.
-pub(crate) fn deep_cells(whole: Part, places: &[Expr]) -> Option<ListCells>
-    ensures { result ≡ deep_cells_in (part_view whole.entry) (places_of places.now) }
+/// Where the part is stored that so many indexes choose in the list that a text names, if they choose one.
+pub(crate) fn target_of<'a>(scope: &Scope<'a>, text: &str, places: &[Expr]) -> Option<Target<'a>>
+    ensures found { IfSome result
+        (λ t. IsTarget (seen scope.now) text.now (places_of places.now) t) }
+    ensures none { IfNone result (HasNoTarget (seen scope.now) text.now (places_of places.now)) }
 {
-    let Seat::Cell(cell) = whole.seat else {
-        return None;
+    let list = whole_called(scope, text)?;
+    let to = whole_cells(list)?;
+    let part = part_in(list.shape, places)?;
+    let Some(size) = scalars(part) else {
+        unreachable!();
     };
-    let kind = leaf_in(whole.shape, places)?;
-    Some(ListCells {
-        cell,
-        size: whole.size,
-        kind,
+    Some(Target {
+        list: list.shape,
+        to,
+        part,
+        size,
     })
 }
 
-/// The type of the single value that so many indexes choose, if they choose one.
-fn leaf_in(shape: &Shape, places: &[Expr]) -> Option<Scalar>
-    ensures { result ≡ leaf_in (shape_view shape.now) (places_of places.now) }
+/// The type of the part that so many indexes choose, if there are lists for all of them.
+pub(crate) fn part_in<'a>(shape: &'a Shape, places: &[Expr]) -> Option<&'a Shape>
+    ensures { option_map (λ t. shape_view t.now) result
+        ≡ part_in (shape_view shape.entry.now) (places_of places.now) }
 {
     let Some((_, rest)) = places.split_first() else {
-        return single(shape);
+        return Some(shape);
     };
     match shape {
         Shape::Scalar(_) => None,
-        Shape::List(_, items) => leaf_in(items, rest),
+        Shape::List(_, items) => part_in(items, rest),
+    }
+}
+
+/// The first cell of a list that is assigned to a part of a list, if it is that of a name, in cells, with as many items at
+/// each depth.
+pub(crate) fn source_of(scope: &Scope, part: &Shape, value: &Expr) -> Option<u32>
+    ensures { result ≡ source_of (seen scope.now) (shape_view part.now) (expr_tree value.now) }
+{
+    let Shape::List(_, _) = part else {
+        return None;
+    };
+    let ExprForm::Name(text) = &value.form else {
+        return None;
+    };
+    let from = whole_called(scope, text.as_str())?;
+    source_in(part, from)
+}
+
+/// The first cell of a list, if it is in cells and has as many items at each depth as another one.
+fn source_in(part: &Shape, from: Part) -> Option<u32>
+    ensures { result ≡ source_in (shape_view part.now) (Some (part_view from.entry)) }
+{
+    if !alike(part, from.shape) {
+        return None;
+    }
+    match from.seat {
+        Seat::Cell(cell) => Some(cell),
+        Seat::Tokens {
+            port: _,
+            first: _,
+            step: _,
+        } => None,
     }
 }

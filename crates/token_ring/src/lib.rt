@@ -6,8 +6,6 @@
 
 mod peek;
 mod ring;
-#[cfg(test)]
-mod tests;
 
 pub use peek::Peek;
 pub use ring::Ring;

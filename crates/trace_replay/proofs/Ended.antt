@@ -1,12 +1,12 @@
 -- The end line that is true of a network, and a delivery that changes nothing of it.
-use Rattle.std.proofs.Common.{◌≡◌, ◌≢◌, ℕ, zero, suc, ◌+◌, ◌-◌, ◌<◌, ◌≤◌, ◌⊎◌, min, Bool, true, false, List, [], ◌∷◌, length, refl, sym, ap, subst, ◌∙◌, arith}
+use Rattle.std.proofs.Common.{◌≡◌, ◌≢◌, ℕ, zero, suc, ◌+◌, ◌-◌, ◌*◌, ◌<◌, ◌≤◌, ◌⊎◌, min, Bool, true, false, List, [], ◌∷◌, length, refl, sym, ap, subst, ◌∙◌, arith}
 use Rattle.std.specs.Prelude.{Option, None, Some, slice_get, slice_index_or, if◌then◌else◌}
 use Rattle.trace_text.specs.declared.line.Line.{Line}
 use Rattle.trace_text.specs.declared.line.Line.TheVariants.{Header as FirstLine, Inst, Fire, Deliver, Grow, Quiet, Trap as TrapLine, Stall, Budget}
 use Rattle.net_model.specs.declared.wiring.Link.{Link}
 use Rattle.net_model.specs.Network.{Network, is_input, is_output}
 use Rattle.net_model.specs.State.{Flow, State, untaken, capacity_at, capacity_of}
-use Rattle.net_model.specs.Ends.{AllArrived, IsQuiet, IsSettled, IsStalled, IsStuck, LacksRoom, LacksOn, all_fed, with_rest}
+use Rattle.net_model.specs.Ends.{AllArrived, Grows, IsQuiet, IsSettled, IsStalled, IsStuck, LacksRoom, LacksOn, all_fed, with_rest}
 use Rattle.net_model.specs.Event.{after_arrival, each_flow}
 use Rattle.net_model.specs.Laws.{AreLawful, StalledIsNotQuiet, StallsInOnePlace}
 use Rattle.net_model.specs.Trace.{after_delivery, arrivals, delivered}
@@ -117,14 +117,14 @@ if_same true n = omega arith
 if_same false n = refl
 
 -- if nothing arrives, the flow stays
-nothing_arrives : (link : Link) (flow : Flow) → arrivals link flow ≡ 0 → delivered link flow ≡ flow
+pub nothing_arrives : (link : Link) (flow : Flow) → arrivals link flow ≡ 0 → delivered link flow ≡ flow
 nothing_arrives link flow none =
     let count : flow.arrived + 0 ≡ flow.arrived = omega arith in
     ap (λ k. after_arrival k link flow) none
     ∙ ap (λ k. record { sent = flow.sent; arrived = k; taken = if is_output link then flow.taken + 0 else flow.taken; capacity = flow.capacity }) count
     ∙ ap (λ k. record { sent = flow.sent; arrived = flow.arrived; taken = k; capacity = flow.capacity }) (if_same (is_output link) flow.taken)
 
-none_left : (link : Link) (flow : Flow) → is_input link ≡ false → flow.arrived ≡ length flow.sent → delivered link flow ≡ flow
+pub none_left : (link : Link) (flow : Flow) → is_input link ≡ false → flow.arrived ≡ length flow.sent → delivered link flow ≡ flow
 none_left link flow inner all =
     let count : arrivals link flow ≡ length flow.sent - flow.arrived = ap (λ b. if b then min (flow.capacity - untaken flow) (length flow.sent - flow.arrived) else length flow.sent - flow.arrived) inner in
     nothing_arrives link flow (count ∙ omega (arith, all))
@@ -219,6 +219,27 @@ ends_after net grow s line wired settled h =
     end_of net grow s (after_delivery net s) line settled (still_settled net s settled) (sym (fed_same net s wired settled))
     (λ k link at. sym (same_capacity net.links s.flows k link at)) h
 
+grows_of : {X : Type 0} (net : Network X) (grow : ℕ) (s t : State X) (l capacity : ℕ) → IsSettled net t → all_fed net s ≡ all_fed net t
+    → ((k : ℕ) (link : Link) → slice_get net.links k ≡ Some link → capacity_at s k ≡ capacity_at t k) → Grows net grow s l capacity → Grows net grow t l capacity
+grows_of net grow s t l capacity settled same capacities grows =
+    let link : There net.links l = stall_link net s grows.leaf grows.action l grows.stalled in
+    let is : capacity_at s l ≡ capacity_at t l = capacities l link.item link.at in
+    record {
+      leaf = grows.leaf;
+      action = grows.action;
+      stalled = stall_of net s t grows.leaf grows.action l settled same grows.stalled;
+      below = subst (λ n. n < grow) is grows.below;
+      doubled = grows.doubled ∙ ap (λ n. min (2 * n) grow) is;
+    }
+
+pub grows_before : {X : Type 0} (net : Network X) (grow : ℕ) (s : State X) (l capacity : ℕ) → IsWired net → IsSettled net s → Grows net grow (after_delivery net s) l capacity → Grows net grow s l capacity
+grows_before net grow s l capacity wired settled grows =
+    grows_of net grow (after_delivery net s) s l capacity settled (fed_same net s wired settled) (λ k link at. same_capacity net.links s.flows k link at) grows
+
+pub grows_after : {X : Type 0} (net : Network X) (grow : ℕ) (s : State X) (l capacity : ℕ) → IsWired net → IsSettled net s → Grows net grow s l capacity → Grows net grow (after_delivery net s) l capacity
+grows_after net grow s l capacity wired settled grows =
+    grows_of net grow s (after_delivery net s) l capacity (still_settled net s settled) (sym (fed_same net s wired settled)) (λ k link at. sym (same_capacity net.links s.flows k link at)) grows
+
 pub settled_of : {X : Type 0} (net : Network X) (grow : ℕ) (s : State X) (line : Line) → IsTrueEnd net grow s line → IsSettled net s
 settled_of net grow s Quiet h = h.settled
 settled_of net grow s (Stall i a l) h = h.stalled.settled
@@ -232,7 +253,7 @@ settled_of net grow s (Grow l c) h = absurd h
 
 -- After a delivery an input link holds at most its capacity.
 
-arrivals_of : (link : Link) (flow : Flow) → is_input link ≡ true → arrivals link flow ≡ min (flow.capacity - untaken flow) (length flow.sent - flow.arrived)
+pub arrivals_of : (link : Link) (flow : Flow) → is_input link ≡ true → arrivals link flow ≡ min (flow.capacity - untaken flow) (length flow.sent - flow.arrived)
 arrivals_of link flow input = ap (λ b. if b then min (flow.capacity - untaken flow) (length flow.sent - flow.arrived) else length flow.sent - flow.arrived) input
 
 taken_of : (link : Link) (flow : Flow) → is_output link ≡ false → (delivered link flow).taken ≡ flow.taken

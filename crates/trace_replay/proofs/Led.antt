@@ -4,7 +4,6 @@ use Rattle.std.specs.Prelude.{Option, None, Some, Err, slice_get, take, flat_map
 use Rattle.std.specs.List.{concat}
 use Rattle.rvc_io.specs.Feeds.{Inputs, PullsOnlyAt}
 use Rattle.trace_text.specs.declared.line.Line.{Line}
-use Rattle.trace_text.specs.declared.line.Line.TheVariants.{Inst}
 use Rattle.trace_text.specs.Table.{AreWritten, IsWritten}
 use Rattle.trace_text.specs.Spelling.{Spells}
 use Rattle.port_files.specs.Coming.{Reading, coming, coming_on}
@@ -22,19 +21,21 @@ use Rattle.net_model.specs.Wired.{IsWired}
 use Rattle.net_model.proofs.Keeping.{Since}
 use Rattle.net_state.specs.Filling.{IsFed}
 use Rattle.round_runner.specs.Running.{ComesBy, HasRest, count_inputs, feed_of}
-use Rattle.trace_replay.specs.Between.{Between, CountsBy, CountsEnd, EndsBy, FailsBy, GoesBy, IsAt, IsLate, Steps, is_rest}
+use Rattle.trace_replay.specs.Between.{Between, CountsBy, CountsEnd, EndsBy, FailsBy, GoesBy, IsAt, Steps}
 use Rattle.trace_replay.specs.Counting.{IsCountedTo}
-use Rattle.trace_replay.specs.Events.{BeginsAt, EndInNoRest, IsJudgedOrNot, IsTextOf, IsUnjudged}
+use Rattle.trace_replay.specs.Events.{BeginsAt, IsJudgedOrNot, IsTextOf, IsUnfedGrowth}
 use Rattle.trace_replay.specs.Feeding.{PullsInputs}
+use Rattle.trace_replay.specs.Growing.{IsUnfed}
 use Rattle.trace_replay.specs.Laws.{StartFits}
 use Rattle.trace_replay.specs.Head.{StandsAt}
 use Rattle.trace_replay.specs.Judging.{AtEnd, AtEvents, AtFirst, AtInstance, IsNotRun, Lead, LeadsOn, MayCome, Reached, Trial, after_line, due, first_line, instance_text, is_end, is_of_table}
-use Rattle.trace_replay.specs.Reading.{NamesFeed, NamesTrace, HasReached, IsJudged, IsRead, OnReadFault}
+use Rattle.trace_replay.specs.Reading.{NamesRead, NamesTrace, HasReached, IsJudged, IsRead, OnReadFault}
 use Rattle.trace_text.specs.Text.{line_feed, line_text}
 use Rattle.trace_replay.specs.Scanning.{Scans}
 use Rattle.trace_replay.specs.declared.bytes.TheConstants.{TRACE_FEED}
 use Rattle.trace_replay.specs.declared.reading.Trace.{Trace}
 use Rattle.trace_replay.specs.declared.why.Why.{Why}
+use Rattle.trace_replay.specs.declared.why.Why.TheVariants.{End}
 use Rattle.trace_replay.specs.declared.why.ReplayFault.{ReplayFault}
 use Rattle.trace_replay.specs.declared.why.ReplayFault.TheVariants.{NotRun, ReadFault, Memory}
 use Rattle.trace_replay.proofs.Counted.{ordered, played_on}
@@ -50,7 +51,6 @@ pub record LedTo {X : Type 0} (t : Trial X) (text : List ℕ) (inputs : List (Li
   pub since : Since t.net opened s
   pub begin : CanBegin t.net t.start
   pub reached : StandsAt t text trace now.feeds (AtEvents opened s)
-  pub late : now.rested ≡ false → EndInNoRest reached.texts
   pub lines : List Line
   pub text_of : IsTextOf t (concat reached.texts) lines s
   pub counted : IsCountedTo t.net inputs t.start lines s now.numbers
@@ -101,41 +101,6 @@ head_is {X} t (text ∷ texts) reached lead count =
     by_leaves [] (other ∷ texts) on rest count = cc
     by_leaves (leaf ∷ leaves) texts on rest count = instances_text t 0 leaf leaves texts reached (subst (λ r. Lead t r texts reached) on rest) count
 
--- At the start: the lines of a head are no deliveries.
-
-add_last : (texts : List (List ℕ)) (text : List ℕ) → EndInNoRest texts → EndInNoRest (text ∷ texts)
-add_last texts text last = record {
-  before = text ∷ last.before;
-  text = last.text;
-  line = last.line;
-  texts_are = ap (λ a. text ∷ a) last.texts_are;
-  spells = last.spells;
-  no_rest = last.no_rest;
-}
-
-one_last : (text : List ℕ) (line : Line) → Spells line text → is_rest line ≡ false → EndInNoRest (text ∷ [])
-one_last text line spells no_rest = record { before = []; text = text; line = line; texts_are = refl; spells = spells; no_rest = no_rest }
-
-instances_last : {X : Type 0} (t : Trial X) (k : ℕ) (leaf : Leaf X) (leaves : List (Leaf X)) (texts : List (List ℕ)) (reached : Reached X)
-    → Lead t (AtInstance k leaf leaves) texts reached → length texts ≡ suc (length leaves) → EndInNoRest texts
-instances_last t k leaf leaves [] reached lead count = cc
-instances_last t k leaf [] (text ∷ []) reached lead count =
-    let is : lead.0 ≡ Inst k = lead.3.0.0 in
-    one_last text lead.0 lead.2 (ap is_rest is)
-instances_last t k leaf [] (text ∷ other ∷ texts) reached lead count = cc
-instances_last t k leaf (next ∷ leaves) (text ∷ texts) reached lead count =
-    let on : lead.1 ≡ AtInstance (k + 1) next leaves = lead.3.1 in
-    add_last texts text (instances_last t (k + 1) next leaves texts reached (subst (λ r. Lead t r texts reached) on lead.4) (omega (arith, count)))
-
-head_last : {X : Type 0} (t : Trial X) (texts : List (List ℕ)) (reached : Reached X) → Lead t AtFirst texts reached → length texts ≡ suc (length t.net.leaves) → EndInNoRest texts
-head_last {X} t [] reached lead count = cc
-head_last {X} t (text ∷ texts) reached lead count = by_leaves t.net.leaves texts lead.3.1 lead.4 (omega (arith, count))
-  where
-    by_leaves : (leaves : List (Leaf X)) (texts : List (List ℕ)) → lead.1 ≡ due 0 leaves t.start → Lead t lead.1 texts reached → length texts ≡ length leaves → EndInNoRest (text ∷ texts)
-    by_leaves [] [] on rest count = one_last text lead.0 lead.2 (ap is_rest lead.3.0)
-    by_leaves [] (other ∷ texts) on rest count = cc
-    by_leaves (leaf ∷ leaves) texts on rest count = add_last texts text (instances_last t 0 leaf leaves texts reached (subst (λ r. Lead t r texts reached) on rest) count)
-
 -- a run may begin where its events do
 may_begin : {X : Type 0} (t : Trial X) (inputs : List (List ℕ)) (now : Between X) → IsAt t.net inputs now t.start t.start → StartFits t → CanBegin t.net t.start
 may_begin {X} t inputs now at fits = record {
@@ -160,7 +125,6 @@ led_none trace now grow t text inputs begins = record {
   since = start_since t inputs now begins.at begins.fits;
   begin = may_begin t inputs now begins.at begins.fits;
   reached = begins.reached;
-  late = λ e. head_last t begins.reached.texts (AtEvents t.start t.start) begins.reached.lead (sym begins.reached.number ∙ begins.number);
   lines = [];
   text_of = record {
     written = tt;
@@ -180,7 +144,7 @@ comes_pulled s l feed rest link (Some (Some reading)) a b same comes =
     subst (λ left. IsFed s l (Some link) (record { kind = reading.kind; bytes = coming reading.pulled left }) × HasRest reading.kind rest (coming reading.pulled left)) (sym same) comes
 
 pub at_pulled : {X : Type 0} (net : Network X) (inputs : List (List ℕ)) (now : Between X) (feeds : Inputs) (opened s : State X) → PullsOnlyAt TRACE_FEED now.feeds feeds
-    → IsAt net inputs now opened s → IsAt net inputs (record { held = now.held; readings = now.readings; numbers = now.numbers; rested = now.rested; feeds = feeds }) opened s
+    → IsAt net inputs now opened s → IsAt net inputs (record { held = now.held; readings = now.readings; numbers = now.numbers; feeds = feeds }) opened s
 at_pulled net inputs now feeds opened s pulls at = record {
   stands = record {
     stands = at.stands.stands;
@@ -189,7 +153,6 @@ at_pulled net inputs now feeds opened s pulls at = record {
         (at.stands.fed l link at_link input);
   };
   fits = at.fits;
-  fed = at.fed;
 }
 
 -- Another line was read.
@@ -246,7 +209,7 @@ pub record IsNext {X : Type 0} (old new : Trace) (now : Between X) (feeds : Inpu
   pub count : new.count ≡ old.count + 1
 
 abbrev Later : {X : Type 0} → Between X → Inputs → Between X
-Later now feeds = record { held = now.held; readings = now.readings; numbers = now.numbers; rested = now.rested; feeds = feeds }
+Later now feeds = record { held = now.held; readings = now.readings; numbers = now.numbers; feeds = feeds }
 
 text_by : {X : Type 0} (t : Trial X) (texts old before : List (List ℕ)) (last : List ℕ) (lines : List Line) (s next : State X) (line : Line) → texts ≡ before ++ last ∷ [] → before ≡ old
     → IsTextOf t (concat old) lines s → IsWritten line × (last ≡ line_text line) → goes t.net s line ≡ Some next
@@ -258,9 +221,9 @@ text_by t texts old before last lines s next line texts_are before_is of whole l
 
 pub led_more : {X : Type 0} (t : Trial X) (text : List ℕ) (inputs : List (List ℕ)) (old new : Trace) (now next : Between X) (feeds : Inputs) (grow : ℕ) (line : Line) (same : Bool)
     → t.grow ≡ grow → IsWired t.net → AreLawful t.net → LedTo t text inputs old now → IsNext old new now feeds grow line same
-    → GoesBy grow line (Later now feeds) next → CountsBy grow line (Later now feeds) next.numbers → is_end line ≡ false → next.rested ≡ is_rest line → PullsInputs feeds next.feeds
+    → GoesBy grow line (Later now feeds) next → CountsBy grow line (Later now feeds) next.numbers → is_end line ≡ false → PullsInputs feeds next.feeds
     → LedTo t text inputs new next
-led_more {X} t text inputs old new now next feeds grow line same grow_is wired lawful led read goes counts on rested pulls =
+led_more {X} t text inputs old new now next feeds grow line same grow_is wired lawful led read goes counts on pulls =
     let at : IsAt t.net inputs (Later now feeds) led.opened led.s = at_pulled t.net inputs now feeds led.opened led.s read.pulls led.at in
     let to : (u : State X) × Steps t led.opened led.s line u × IsAt t.net inputs next (opened_by line led.opened u) u = goes t inputs led.opened led.s grow_is wired lawful at in
     let comes : MayCome t led.opened led.s line to.0 = steps_come t inputs (Later now feeds) led.opened led.s to.0 line wired lawful at led.since to.1 in
@@ -275,14 +238,6 @@ led_more {X} t text inputs old new now next feeds grow line same grow_is wired l
       since = steps_since t inputs (Later now feeds) led.opened led.s to.0 line wired lawful at led.since to.1 on;
       begin = led.begin;
       reached = by.has;
-      late = λ e. record {
-        before = by.before;
-        text = by.last;
-        line = line;
-        texts_are = by.texts_are;
-        spells = by.spells;
-        no_rest = sym rested ∙ e;
-      };
       lines = led.lines ++ line ∷ [];
       text_of = text_by t by.has.texts led.reached.texts by.before by.last led.lines led.s to.0 line by.texts_are by.before_is led.text_of
           (written_text t.net t.grow led.s line [] by.last comes.true_there by.spells) comes.goes_so;
@@ -318,14 +273,14 @@ led_end {X} t text inputs old new now feeds later grow line same numbers grow_is
       counted = counts t inputs led.opened led.s grow_is wired lawful at to.0 comes.goes_so t.start led.lines led.begin led.text_of.leads led.counted;
     }
 
--- The line may not come, or isn't judged.
+-- The line may not come, or is a growth where more is to come from outside.
 
 of_table_here : (t_grow grow old_grow : ℕ) (line : Line) → t_grow ≡ grow → old_grow ≡ grow → is_of_table old_grow line ≡ true → is_of_table t_grow line ≡ true
 of_table_here t_grow grow old_grow line one two of = subst (λ g. is_of_table g line ≡ true) (two ∙ sym one) of
 
-unjudged : {X : Type 0} (t : Trial X) (text : List ℕ) (inputs : List (List ℕ)) (old new : Trace) (now : Between X) (feeds : Inputs) (grow : ℕ) (line : Line) (same : Bool) (why : Why)
-    → t.grow ≡ grow → LedTo t text inputs old now → IsNext old new now feeds grow line same → IsLate line why (Later now feeds) → IsUnjudged t text new.count why
-unjudged t text inputs old new now feeds grow line same why grow_is led read is_late =
+unfed_growth : {X : Type 0} (t : Trial X) (text : List ℕ) (inputs : List (List ℕ)) (old new : Trace) (now : Between X) (feeds : Inputs) (grow : ℕ) (line : Line) (same : Bool)
+    → t.grow ≡ grow → (led : LedTo t text inputs old now) → IsNext old new now feeds grow line same → IsUnfed t.net t.grow led.s line → IsUnfedGrowth t text new.count End
+unfed_growth t text inputs old new now feeds grow line same grow_is led read growth =
     let others = told_after read.read.scans.text (coming_on old.lines.bytes now.feeds TRACE_FEED) (coming_on new.lines.bytes feeds TRACE_FEED) led.reached.rest led.reached.told read.read.scans.passes in
     record {
       texts = led.reached.texts;
@@ -336,19 +291,17 @@ unjudged t text inputs old new now feeds grow line same why grow_is led read is_
       s = led.s;
       is_text = led.reached.is_text ∙ ap (λ a. concat led.reached.texts ++ a) others.2;
       lead = led.reached.lead;
-      late = led.late is_late.late;
-      settled = is_late.settled t.net led.s led.at.stands.stands.now;
+      growth = growth;
       spells = read.read.scans.is_scanned.0;
-      growth = is_late.growth;
       of_table = of_table_here t.grow grow old.grow line grow_is read.trace_grow read.read.of_table;
       number = read.count ∙ ap (λ k. k + 1) led.reached.number;
-      why_is = is_late.why_is;
+      why_is = refl;
     }
 
 pub led_fails : {X : Type 0} (t : Trial X) (text : List ℕ) (inputs : List (List ℕ)) (old new : Trace) (now : Between X) (feeds : Inputs) (grow : ℕ) (line : Line) (same : Bool) (why : Why)
     → t.grow ≡ grow → IsWired t.net → AreLawful t.net → LedTo t text inputs old now → IsNext old new now feeds grow line same
     → FailsBy grow line (Later now feeds) why
-    → IsNotRun t text new.count why ⊎ IsUnjudged t text new.count why
+    → IsNotRun t text new.count why ⊎ IsUnfedGrowth t text new.count why
 led_fails t text inputs old new now feeds grow line same why grow_is wired lawful led read fails = ⊎_elim
     (λ each.
     let at : IsAt t.net inputs (Later now feeds) led.opened led.s = at_pulled t.net inputs now feeds led.opened led.s read.pulls led.at in
@@ -356,10 +309,13 @@ led_fails t text inputs old new now feeds grow line same why grow_is wired lawfu
     (not_run_line t text read.expected old.count old.lines.passed new.lines.passed (AtEvents led.opened led.s) (coming_on old.lines.bytes now.feeds TRACE_FEED) (coming_on new.lines.bytes feeds TRACE_FEED)
     line same why led.reached read.read.scans read.read.within (of_table_here t.grow grow old.grow line grow_is read.trace_grow read.read.of_table)
     (each t inputs led.opened led.s grow_is wired lawful at))))
-    (λ late. inr (unjudged t text inputs old new now feeds grow line same why grow_is led read late))
+    (λ unfed.
+    let at : IsAt t.net inputs (Later now feeds) led.opened led.s = at_pulled t.net inputs now feeds led.opened led.s read.pulls led.at in
+    inr (subst (IsUnfedGrowth t text new.count) (sym unfed.0)
+    (unfed_growth t text inputs old new now feeds grow line same grow_is led read (unfed.1 t inputs led.opened led.s grow_is wired lawful at))))
     fails
 
--- what is judged is judged, or is a growth that isn't
+-- what is judged is judged, or is a growth where more is to come
 pub judged_or_not : {X : Type 0} (t : Trial X) (text : List ℕ) (fault : ReplayFault) → IsJudged t text fault → IsJudgedOrNot t text fault
 judged_or_not t text (NotRun line why) judged = inl judged
 judged_or_not t text (ReadFault feed) judged = tt
@@ -383,8 +339,8 @@ fault_over T U (NotRun line why) P Q f h = tt
 fault_over T U (ReadFault feed) P Q f h = f h
 fault_over T U Memory P Q f h = tt
 
--- who names the trace names a feed of the run
-pub names_too : (links : List Link) (fault : ReplayFault) → NamesTrace fault → NamesFeed links fault
-names_too links (NotRun line why) named = tt
-names_too links (ReadFault feed) named = inl named
-names_too links Memory named = tt
+-- who names the trace names a feed that is read
+pub names_too : (links : List Link) (read : List Bool) (fault : ReplayFault) → NamesTrace fault → NamesRead links read fault
+names_too links read (NotRun line why) named = tt
+names_too links read (ReadFault feed) named = inl named
+names_too links read Memory named = tt

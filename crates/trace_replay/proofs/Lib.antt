@@ -15,6 +15,7 @@ pub mod Chained
 pub mod Counted
 pub mod Settled
 pub mod Ended
+pub mod Growths
 pub mod Widened
 pub mod Stepped
 pub mod Whole

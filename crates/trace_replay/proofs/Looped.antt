@@ -18,14 +18,13 @@ use Rattle.net_state.specs.Held.{HoldFew}
 use Rattle.round_runner.specs.Running.{count_inputs, feed_of}
 use Rattle.network_runner.specs.Filling.{ReadersFit}
 use Rattle.trace_replay.specs.Counting.{FitLinks}
-use Rattle.net_state.specs.Working.{IsAtRest}
 use Rattle.trace_replay.specs.Ending.{CanGrow, HoldEnough}
 use Rattle.trace_replay.specs.Trying.{AllWork}
 use Rattle.trace_replay.specs.declared.bytes.TheConstants.{TRACE_FEED}
 use Rattle.trace_replay.specs.Judging.{AtEvents, MayCome, Trial}
 use Rattle.trace_replay.specs.Laws.{StartFits}
 use Rattle.trace_replay.proofs.Onward.{deliver_comes, fire_comes, trap_comes}
-use Rattle.trace_replay.proofs.Stepped.{Grown, grown_is}
+use Rattle.trace_replay.proofs.Growths.{HasGrown, grown_is}
 
 some_is : {A : Type 0} (x y : A) → Some x ≡ Some y → x ≡ y
 some_is x y e = cc
@@ -40,7 +39,7 @@ opened_flows net inputs now opened s at = at.stands.stands.since.whole
 grown_more : (n limit capacity : ℕ) → n < limit → capacity ≡ min (2 * n) limit → n ≤ capacity
 grown_more n limit capacity below doubled = subst (λ k. n ≤ k) (sym doubled) (Rattle.trace_replay.proofs.Widened.doubled_more n limit below)
 
-grow_since : {X : Type 0} (net : Network X) (opened s next : State X) (l capacity : ℕ) → capacity_of (slice_get s.flows l) ≤ capacity → Grown s next l capacity → Since net opened s → Since net opened next
+grow_since : {X : Type 0} (net : Network X) (opened s next : State X) (l capacity : ℕ) → capacity_of (slice_get s.flows l) ≤ capacity → HasGrown s next l capacity → Since net opened s → Since net opened next
 grow_since net opened s next l capacity more to since m link before new at then_ now = ⊎_elim
     (λ other. since m link before new at then_ other)
     (λ there.
@@ -71,7 +70,7 @@ steps_come t inputs now opened s next (TrapLine i a c) wired lawful at since ste
     let comes : MayCome t opened s (TrapLine i a c) (record s { trapped = true }) = trap_comes t opened s i a c at.stands.stands.now.stands.untrapped since steps.is_due in
     subst (MayCome t opened s (TrapLine i a c)) (some_is (record s { trapped = true }) next (sym comes.goes_so ∙ steps.goes_so)) comes
 steps_come t inputs now opened s next (Grow l capacity) wired lawful at since steps =
-    let to : Grown s next l capacity = grown_is s next l capacity (slice_get s.flows l) refl steps.goes_so in
+    let to : HasGrown s next l capacity = grown_is s next l capacity (slice_get s.flows l) refl steps.goes_so in
     let more : capacity_of (slice_get s.flows l) ≤ capacity = grown_more (capacity_of (slice_get s.flows l)) t.grow capacity steps.is_true.below steps.is_true.doubled in
     record {
       true_there = steps.is_true;
@@ -107,7 +106,7 @@ steps_since t inputs now opened s next Deliver wired lawful at since steps on =
     subst (λ u. Since t.net u u) (delivery_is t.net s next s.trapped at.stands.stands.now.stands.untrapped steps.goes_so)
     (deliver_since t.net opened s (flows_of t.net inputs now opened s at) (opened_flows t.net inputs now opened s at) since)
 steps_since t inputs now opened s next (Grow l capacity) wired lawful at since steps on =
-    let to : Grown s next l capacity = grown_is s next l capacity (slice_get s.flows l) refl steps.goes_so in
+    let to : HasGrown s next l capacity = grown_is s next l capacity (slice_get s.flows l) refl steps.goes_so in
     grow_since t.net opened s next l capacity (grown_more (capacity_of (slice_get s.flows l)) t.grow capacity steps.is_true.below steps.is_true.doubled) to since
 steps_since t inputs now opened s next (TrapLine i a c) wired lawful at since steps on = cc
 steps_since t inputs now opened s next Quiet wired lawful at since steps on = cc
@@ -156,9 +155,9 @@ readers_pulled links readings a b pulls fit = record {
       subst (EndIsTrue reading) (sym (pulls.same_left (feed_of links l) (λ same. no_trace (count_inputs (take l links)) (sym same)))) (fit.same_feeds l reading here);
 }
 
-pub ready_pulled : {X : Type 0} (now next : Between X) (links : List Link) (came grow : ℕ) → next.held ≡ now.held → next.readings ≡ now.readings → next.numbers ≡ now.numbers → next.rested ≡ now.rested
+pub ready_pulled : {X : Type 0} (now next : Between X) (links : List Link) (came grow : ℕ) → next.held ≡ now.held → next.readings ≡ now.readings → next.numbers ≡ now.numbers
     → PullsOnlyAt TRACE_FEED now.feeds next.feeds → CanGoOn now links came grow → CanGoOn next links came grow
-ready_pulled now next links came grow held readings numbers rested pulls ready = record {
+ready_pulled now next links came grow held readings numbers pulls ready = record {
   links_are = ap (λ h. h.links) held ∙ ready.links_are;
   few = ready.few;
   few_held = subst (λ h. HoldFew h.capacities) (sym held) ready.few_held;
@@ -168,5 +167,4 @@ ready_pulled now next links came grow held readings numbers rested pulls ready =
   numbers = subst (FitLinks links) (sym numbers) ready.numbers;
   queues = subst (λ h. CanGrow grow h.cells links) (sym held) ready.queues;
   enough = subst (λ h. HoldEnough links h.capacities) (sym held) ready.enough;
-  rest = λ e. subst IsAtRest (sym held) (ready.rest (sym rested ∙ e));
 }

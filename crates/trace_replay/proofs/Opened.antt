@@ -1,7 +1,9 @@
 -- A network at the start of its trace: it stands where the run begins, and its readers read its feeds.
-use Rattle.std.proofs.Common.{◌≡◌, ℕ, ◌<◌, ◌≤◌, Bool, true, false, List, [], length, map, refl, sym, ap, subst, ◌∙◌, arith}
+use Rattle.std.proofs.Common.{◌≡◌, ℕ, ◌<◌, ◌≤◌, Bool, true, false, List, [], length, map, refl, sym, ap, subst, ◌∙◌, ⊎_elim, inl, inr, arith}
 use Rattle.std.proofs.lemmas.List.{length-map, length-replicate}
-use Rattle.std.specs.Prelude.{Option, Some, slice_get, slice_index_or}
+use Rattle.std.specs.Prelude.{Option, None, Some, is_some, slice_get, slice_index_or}
+use Rattle.std.specs.Option.{option_map}
+use Rattle.std.proofs.lemmas.Option.{slice_get-map}
 use Rattle.rvc_io.specs.Feeds.{Inputs}
 use Rattle.port_files.specs.Coming.{Reading, coming, coming_on}
 use Rattle.trace_text.specs.declared.line.Line.{Line}
@@ -9,6 +11,7 @@ use Rattle.trace_text.specs.declared.line.Line.TheVariants.{Header}
 use Rattle.net_model.specs.declared.wiring.End.{End}
 use Rattle.net_model.specs.declared.wiring.End.TheVariants.{Leaf as AtLeaf, Net as AtNet}
 use Rattle.net_model.specs.declared.wiring.Link.{Link}
+use Rattle.net_model.specs.declared.wiring.Port.{Port}
 use Rattle.net_model.specs.declared.wiring.Wiring.{Wiring}
 use Rattle.net_model.specs.Counted.{rest_at}
 use Rattle.net_model.specs.Limits.{max_instances, max_links}
@@ -31,12 +34,16 @@ use Rattle.trace_replay.specs.Between.{CanGoOn, IsAt}
 use Rattle.trace_replay.specs.Counting.{FitLinks, IsCountedTo}
 use Rattle.trace_replay.specs.Ending.{CanGrow, HoldEnough}
 use Rattle.trace_replay.specs.Events.{BeginsFirst}
+use Rattle.trace_replay.specs.Feeding.{IsFeedOf, IsFeedRead}
 use Rattle.trace_replay.specs.Judging.{AtFirst, Trial}
 use Rattle.trace_replay.specs.Opening.{IsOpenedOn}
+use Rattle.trace_replay.specs.Reading.{NamesFeed, NamesRead}
 use Rattle.trace_replay.specs.Replaying.{CanReplay, HaveInputPorts, IsEndTold, IsInputTold, IsReadyAs, IsReplayOf}
 use Rattle.trace_replay.specs.declared.between.Replay.{Replay}
 use Rattle.trace_replay.specs.declared.bytes.TheConstants.{TRACE_FEED}
 use Rattle.trace_replay.specs.declared.reading.Trace.{Trace}
+use Rattle.trace_replay.specs.declared.why.ReplayFault.{ReplayFault}
+use Rattle.trace_replay.specs.declared.why.ReplayFault.TheVariants.{NotRun, ReadFault, Memory}
 use Rattle.trace_replay.proofs.Chained.{There, there}
 use Rattle.trace_replay.proofs.Counted.{none_counted}
 use Rattle.trace_replay.proofs.Reached.{reached_start}
@@ -68,6 +75,23 @@ readers_fit wiring readings feeds are are_open = record {
       let on : There wiring.links.items l = there readings wiring.links.items l (Some reading) (sym are.count) here in
       absurd (not_both reading.ended (are.each l on.item (Some reading) on.at here).3 ended);
 }
+
+-- the feed of a link that has a reader is that of an input that has one
+pub fault_named : (ports : List Port) (opened : List Bool) (links : List Link) (readings : List (Option Reading)) (fault : ReplayFault) → AreReadersOf ports opened links readings
+    → NamesRead links (map is_some readings) fault → NamesFeed links opened fault
+fault_named ports opened links readings (NotRun line why) are named = tt
+fault_named ports opened links readings (ReadFault feed) are named = ⊎_elim (λ trace. inl trace) (λ read. inr (fed read)) named
+  where
+    of_reader : (o : Option (Option Reading)) → option_map is_some o ≡ Some true → (reading : Reading) × (o ≡ Some (Some reading))
+    of_reader None e = cc
+    of_reader (Some None) e = cc
+    of_reader (Some (Some reading)) e = (reading, refl)
+
+    fed : IsFeedRead links (map is_some readings) feed → IsFeedOf links opened feed
+    fed (l, link, at, some, is) =
+        let reader = of_reader (slice_get readings l) (sym (slice_get-map is_some readings l) ∙ some) in
+        (l, link, at, (are.each l link (Some reader.0) at reader.1).0, is)
+fault_named ports opened links readings Memory are named = tt
 
 -- What is to come.
 
@@ -155,7 +179,7 @@ module _ {C X : Type 0} (cell : C → Cell X) (cells : List C) (wiring : Wiring)
   enough : HoldEnough wiring.links.items replay.state.capacities
   enough l link at = subst (λ cs. link.capacity ≤ slice_index_or cs l 0) (sym opened.capacities) (holds_first wiring.links.items l link at)
 
-  pub ready_to_go : CanGoOn (record { held = seen cell replay.state; readings = replay.readers.items; numbers = replay.numbers; rested = replay.rested; feeds = feeds }) replay.links.items (length replay.came.items) replay.grow
+  pub ready_to_go : CanGoOn (record { held = seen cell replay.state; readings = replay.readers.items; numbers = replay.numbers; feeds = feeds }) replay.links.items (length replay.came.items) replay.grow
   ready_to_go = record {
     links_are = opened.links_held ∙ sym opened.links_are;
     few = subst (λ ls. length ls ≤ max_links) (sym opened.links_are) work.few_links;
@@ -173,7 +197,6 @@ module _ {C X : Type 0} (cell : C → Cell X) (cells : List C) (wiring : Wiring)
         (subst (λ cs. CanGrow replay.grow (map cell cs) wiring.links.items) (sym opened.cells_are)
         (subst (λ g. CanGrow g (map cell cells) wiring.links.items) (sym opened.grow_is) queues));
     enough = subst (λ ls. HoldEnough ls replay.state.capacities) (sym opened.links_are) enough;
-    rest = λ e. absurd (not_both replay.rested opened.rested e);
   }
 
   module _ (t : Trial X) (text : List ℕ) (inputs : List (List ℕ)) (is : IsReplayOf t text inputs (map cell cells) wiring grow names feeds) where
@@ -199,7 +222,7 @@ module _ {C X : Type 0} (cell : C → Cell X) (cells : List C) (wiring : Wiring)
         let low : length (waiting_at (map cell cells) link.to) ≤ link.capacity = (wired_ready.queues l link at).waiting in
         subst (λ f. untaken f ≤ f.capacity) same (omega (arith, low))
 
-    is_at : IsAt t.net inputs (record { held = seen cell replay.state; readings = replay.readers.items; numbers = replay.numbers; rested = replay.rested; feeds = feeds }) t.start t.start
+    is_at : IsAt t.net inputs (record { held = seen cell replay.state; readings = replay.readers.items; numbers = replay.numbers; feeds = feeds }) t.start t.start
     is_at = record {
       stands = record {
         stands = record {
@@ -213,7 +236,6 @@ module _ {C X : Type 0} (cell : C → Cell X) (cells : List C) (wiring : Wiring)
             (are_fed t.net (map cell cells) wiring inputs replay.readers.items feeds is.is_of opened.readers is.told);
       };
       fits = fits;
-      fed = λ e. absurd (not_both replay.rested opened.rested e);
     }
 
     counted : IsCountedTo t.net inputs t.start [] t.start replay.numbers
@@ -230,7 +252,7 @@ module _ {C X : Type 0} (cell : C → Cell X) (cells : List C) (wiring : Wiring)
 
     pub begins : (trace : Trace) (first : Line) → trace.lines.bytes ≡ [] → trace.lines.passed ≡ 0 → trace.count ≡ 0 → trace.grow ≡ grow
         → first ≡ Header replay.count (length replay.links.items) replay.grow
-        → BeginsFirst t text inputs trace (record { held = seen cell replay.state; readings = replay.readers.items; numbers = replay.numbers; rested = replay.rested; feeds = feeds }) replay.grow first names
+        → BeginsFirst t text inputs trace (record { held = seen cell replay.state; readings = replay.readers.items; numbers = replay.numbers; feeds = feeds }) replay.grow first names
     begins trace first no_bytes none_passed none_read grow_is first_is = record {
       head = record {
         grow_is = is.grow_is ∙ sym grow_is;

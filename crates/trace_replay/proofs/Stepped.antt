@@ -1,6 +1,8 @@
 -- What a line does to a network between two lines.
-use Rattle.std.proofs.Common.{◌≡◌, ℕ, ◌≤◌, Bool, true, false, List, length, refl, sym, ap, subst, ◌∙◌, inl, ⊎_elim, arith}
-use Rattle.std.specs.Prelude.{Option, None, Some, slice_get, slice_set}
+use Rattle.std.proofs.Common.{◌≡◌, ℕ, ◌≤◌, Bool, true, false, List, length, refl, sym, ap, subst, ◌∙◌, inl, inr, ⊎_elim, arith}
+use Rattle.std.specs.Prelude.{Option, None, Some, is_some, map, slice_get}
+use Rattle.std.specs.Option.{option_map}
+use Rattle.std.proofs.lemmas.Option.{slice_get-map}
 use Rattle.rvc_base.specs.declared.trap.Trap.{Trap as TrapName}
 use Rattle.rvc_io.specs.Feeds.{Inputs}
 use Rattle.port_files.specs.Coming.{Reading}
@@ -23,17 +25,18 @@ use Rattle.net_state.specs.declared.filling.Filled.{Filled}
 use Rattle.net_state.specs.Held.{Held, HoldFew}
 use Rattle.net_state.specs.Moving.{SameActors, SameMarks}
 use Rattle.net_state.specs.Standing.{StandsSince}
-use Rattle.net_state.specs.Working.{IsAtRest}
 use Rattle.network_runner.specs.Counting.{IsToPort}
 use Rattle.network_runner.specs.Delivering.{Delivers}
 use Rattle.network_runner.specs.Filling.{IsFeedOf as IsFeedOfReader, ReadersFit}
-use Rattle.network_runner.proofs.Flowing.{fire_gone, grown_tokens}
+use Rattle.network_runner.proofs.Flowing.{fire_gone}
 use Rattle.network_runner.proofs.Leaving.{fed_still}
 use Rattle.network_runner.proofs.Numbers.{arrived_long, rests_long, sent_long}
 use Rattle.trace_replay.specs.Between.{CanGoOn, CountsBy, CountsEnd, EndsBy, FailsBy, GoesBy, IsAt, IfFails, OnEnds, Steps, is_still_end}
 use Rattle.trace_replay.specs.Counting.{AreFewCounted, CatchesUp, CountsDelivery, CountsFiring, FitLinks}
-use Rattle.trace_replay.specs.Ending.{EndsNotSo, EndsSo, GrowsNotSo, GrowsSo, HoldEnough, IsTrueEnd}
-use Rattle.trace_replay.specs.Feeding.{IsFeedOf}
+use Rattle.trace_replay.specs.Ending.{EndsNotSo, EndsSo, HoldEnough, IsTrueEnd}
+use Rattle.trace_replay.specs.Feeding.{IsFeedRead, StandsFed}
+use Rattle.trace_replay.specs.Growing.{GrowsBy, StillFits}
+use Rattle.trace_replay.specs.declared.growth.Growth.TheVariants.{Untrue, Unfed, Grown}
 use Rattle.trace_replay.specs.Judging.{EventFails, TrapComes, Trial, is_end}
 use Rattle.trace_replay.specs.Trying.{AllWork, FiresOn, TrapsNotSo, TrapsSo}
 use Rattle.trace_replay.specs.declared.came.Came.{Came}
@@ -41,20 +44,21 @@ use Rattle.trace_replay.specs.declared.came.Came.TheVariants.{Goes, Ends, Fails,
 use Rattle.trace_replay.specs.declared.why.Why.{Why}
 use Rattle.trace_replay.specs.declared.why.Why.TheVariants.{End as EndIs, Trap}
 use Rattle.trace_replay.proofs.Chained.{There, there}
-use Rattle.trace_replay.proofs.Counted.{delivery_counts, end_counts, firing_counts, growth_counts, tokens_gone}
+use Rattle.trace_replay.proofs.Counted.{delivery_counts, end_counts, firing_counts, growth_counts}
 use Rattle.trace_replay.proofs.Ended.{fits_after, untrapped_after}
+use Rattle.trace_replay.proofs.Growths.{HasGrown, grown_is}
 use Rattle.trace_replay.proofs.Onward.{trap_goes, unless_trapped, untrapped_goes}
 use Rattle.trace_replay.proofs.Traces.{next_of}
 use Rattle.trace_replay.proofs.Widened.{can_grow_after}
 
 -- A firing: from outside nothing comes.
 
-pub fired_goes : {X : Type 0} (grow i a : ℕ) (held new : Held (Cell X)) (readings : List (Option Reading)) (numbers numbers_new : Counts) (rested : Bool) (feeds : Inputs) → FiresOn i a held new
-    → GoesBy grow (Fire i a) (record { held = held; readings = readings; numbers = numbers; rested = rested; feeds = feeds }) (record { held = new; readings = readings; numbers = numbers_new; rested = false; feeds = feeds })
-fired_goes {X} grow i a held new readings numbers numbers_new rested feeds fires t inputs opened s same wired lawful at =
+pub fired_goes : {X : Type 0} (grow i a : ℕ) (held new : Held (Cell X)) (readings : List (Option Reading)) (numbers numbers_new : Counts) (feeds : Inputs) → FiresOn i a held new
+    → GoesBy grow (Fire i a) (record { held = held; readings = readings; numbers = numbers; feeds = feeds }) (record { held = new; readings = readings; numbers = numbers_new; feeds = feeds })
+fired_goes {X} grow i a held new readings numbers numbers_new feeds fires t inputs opened s same wired lawful at =
     let both = fires t.net opened s at.stands.stands in
     next_of
-    ((next : State X) × Steps t opened s (Fire i a) next × IsAt t.net inputs (record { held = new; readings = readings; numbers = numbers_new; rested = false; feeds = feeds }) opened next)
+    ((next : State X) × Steps t opened s (Fire i a) next × IsAt t.net inputs (record { held = new; readings = readings; numbers = numbers_new; feeds = feeds }) opened next)
     (happens t.net s (FireEvent i a)) (λ next. StandsSince t.net new opened next)
     (λ u h stands.
     let one : Fired t.net s u i a = fired_unless t.net s u i a s.trapped refl h in (
@@ -70,21 +74,20 @@ fired_goes {X} grow i a held new readings numbers numbers_new rested feeds fires
             changed (after_firing i (need_of (slice_get t.net.leaves i) a) one.sent) t.net.links s.flows m link flow at_link (ap (λ w. slice_get w.flows m) one.is ∙ here) in
             let low : untaken was.old ≤ was.old.capacity = at.fits m link was.old at_link was.there input in
             subst (λ f. untaken f ≤ f.capacity) was.is (omega (arith, low));
-        fed = λ e. cc;
       },
     ))
     both.1
 
-pub fired_counts : {X : Type 0} (grow i a : ℕ) (held : Held (Cell X)) (readings : List (Option Reading)) (numbers numbers_new : Counts) (rested : Bool) (feeds : Inputs) → CountsFiring numbers numbers_new
-    → CountsBy grow (Fire i a) (record { held = held; readings = readings; numbers = numbers; rested = rested; feeds = feeds }) numbers_new
-fired_counts grow i a held readings numbers numbers_new rested feeds counts t inputs opened s same wired lawful at next h =
+pub fired_counts : {X : Type 0} (grow i a : ℕ) (held : Held (Cell X)) (readings : List (Option Reading)) (numbers numbers_new : Counts) (feeds : Inputs) → CountsFiring numbers numbers_new
+    → CountsBy grow (Fire i a) (record { held = held; readings = readings; numbers = numbers; feeds = feeds }) numbers_new
+fired_counts grow i a held readings numbers numbers_new feeds counts t inputs opened s same wired lawful at next h =
     firing_counts t.net inputs held s next i a numbers numbers_new wired lawful at.stands.stands.now counts h
 
-pub fired_ready : {X : Type 0} (grow : ℕ) (links : List Link) (came : ℕ) (held new : Held (Cell X)) (readings : List (Option Reading)) (numbers numbers_new : Counts) (rested : Bool) (feeds : Inputs)
+pub fired_ready : {X : Type 0} (grow : ℕ) (links : List Link) (came : ℕ) (held new : Held (Cell X)) (readings : List (Option Reading)) (numbers numbers_new : Counts) (feeds : Inputs)
     → CountsFiring numbers numbers_new → AllWork new.cells → SameActors held.cells new.cells → new.links ≡ held.links → new.capacities ≡ held.capacities
-    → CanGoOn (record { held = held; readings = readings; numbers = numbers; rested = rested; feeds = feeds }) links came grow
-    → CanGoOn (record { held = new; readings = readings; numbers = numbers_new; rested = false; feeds = feeds }) links came grow
-fired_ready grow links came held new readings numbers numbers_new rested feeds counts work same same_links same_capacities ready = record {
+    → CanGoOn (record { held = held; readings = readings; numbers = numbers; feeds = feeds }) links came grow
+    → CanGoOn (record { held = new; readings = readings; numbers = numbers_new; feeds = feeds }) links came grow
+fired_ready grow links came held new readings numbers numbers_new feeds counts work same same_links same_capacities ready = record {
   links_are = same_links ∙ ready.links_are;
   few = ready.few;
   few_held = subst HoldFew (sym same_capacities) ready.few_held;
@@ -98,14 +101,13 @@ fired_ready grow links came held new readings numbers numbers_new rested feeds c
   };
   queues = can_grow_after grow links held.cells new.cells same ready.queues;
   enough = subst (HoldEnough links) (sym same_capacities) ready.enough;
-  rest = λ e. cc;
 }
 
 -- A trap.
 
-pub trapped_ends : {X : Type 0} (grow i a : ℕ) (c : TrapName) (held : Held (Cell X)) (readings : List (Option Reading)) (numbers : Counts) (rested : Bool) (feeds : Inputs) → TrapsSo i a c held
-    → EndsBy grow (TrapLine i a c) (record { held = held; readings = readings; numbers = numbers; rested = rested; feeds = feeds })
-trapped_ends grow i a c held readings numbers rested feeds traps t inputs opened s same wired lawful at =
+pub trapped_ends : {X : Type 0} (grow i a : ℕ) (c : TrapName) (held : Held (Cell X)) (readings : List (Option Reading)) (numbers : Counts) (feeds : Inputs) → TrapsSo i a c held
+    → EndsBy grow (TrapLine i a c) (record { held = held; readings = readings; numbers = numbers; feeds = feeds })
+trapped_ends grow i a c held readings numbers feeds traps t inputs opened s same wired lawful at =
     let comes : TrapComes t.net opened s i a (effect_at t.net s i a) c = traps t.net opened s at.stands.stands in (
       record s { trapped = true },
       record {
@@ -116,15 +118,15 @@ trapped_ends grow i a c held readings numbers rested feeds traps t inputs opened
       },
     )
 
-pub untrapped_fails : {X : Type 0} (grow i a : ℕ) (c : TrapName) (held : Held (Cell X)) (readings : List (Option Reading)) (numbers : Counts) (rested : Bool) (feeds : Inputs) → TrapsNotSo i a c held
-    → FailsBy grow (TrapLine i a c) (record { held = held; readings = readings; numbers = numbers; rested = rested; feeds = feeds }) Trap
-untrapped_fails grow i a c held readings numbers rested feeds traps_not = inl (λ t inputs opened s same wired lawful at. (refl, traps_not t.net opened s at.stands.stands))
+pub untrapped_fails : {X : Type 0} (grow i a : ℕ) (c : TrapName) (held : Held (Cell X)) (readings : List (Option Reading)) (numbers : Counts) (feeds : Inputs) → TrapsNotSo i a c held
+    → FailsBy grow (TrapLine i a c) (record { held = held; readings = readings; numbers = numbers; feeds = feeds }) Trap
+untrapped_fails grow i a c held readings numbers feeds traps_not = inl (λ t inputs opened s same wired lawful at. (refl, traps_not t.net opened s at.stands.stands))
 
 -- .. and what was sent is counted
-pub over_counts : {X : Type 0} (grow : ℕ) (line : Line) (links : List Link) (held : Held (Cell X)) (readings : List (Option Reading)) (numbers numbers_new : Counts) (rested : Bool) (feeds : Inputs)
+pub over_counts : {X : Type 0} (grow : ℕ) (line : Line) (links : List Link) (held : Held (Cell X)) (readings : List (Option Reading)) (numbers numbers_new : Counts) (feeds : Inputs)
     → held.links ≡ links → is_end line ≡ true → AreFewCounted numbers → CatchesUp held.cells links numbers numbers_new
-    → CountsEnd grow line (record { held = held; readings = readings; numbers = numbers; rested = rested; feeds = feeds }) numbers_new
-over_counts grow line links held readings numbers numbers_new rested feeds links_are over few catches t inputs opened s same wired lawful at next h =
+    → CountsEnd grow line (record { held = held; readings = readings; numbers = numbers; feeds = feeds }) numbers_new
+over_counts grow line links held readings numbers numbers_new feeds links_are over few catches t inputs opened s same wired lawful at next h =
     end_counts t.net inputs held s next line numbers numbers_new wired lawful at.stands.stands.now over few.firings
     (subst (λ ls. CatchesUp held.cells ls numbers numbers_new) (sym (at.stands.stands.now.is_of.links_are ∙ links_are)) catches) h
 
@@ -141,10 +143,10 @@ is_over (Grow l c) still = cc
 
 -- A delivery.
 
-pub delivered_goes : {X : Type 0} (grow : ℕ) (held new : Held (Cell X)) (readings readings_new : List (Option Reading)) (numbers numbers_new : Counts) (rested : Bool) (feeds feeds_new : Inputs) (came : List Filled)
+pub delivered_goes : {X : Type 0} (grow : ℕ) (held new : Held (Cell X)) (readings readings_new : List (Option Reading)) (numbers numbers_new : Counts) (feeds feeds_new : Inputs) (came : List Filled)
     → Delivers held new readings readings_new feeds feeds_new came
-    → GoesBy grow Deliver (record { held = held; readings = readings; numbers = numbers; rested = rested; feeds = feeds }) (record { held = new; readings = readings_new; numbers = numbers_new; rested = true; feeds = feeds_new })
-delivered_goes grow held new readings readings_new numbers numbers_new rested feeds feeds_new came delivers t inputs opened s same wired lawful at =
+    → GoesBy grow Deliver (record { held = held; readings = readings; numbers = numbers; feeds = feeds }) (record { held = new; readings = readings_new; numbers = numbers_new; feeds = feeds_new })
+delivered_goes grow held new readings readings_new numbers numbers_new feeds feeds_new came delivers t inputs opened s same wired lawful at =
     let made = delivers.states t.net inputs s at.stands.stands.now wired at.stands.fed in (
       after_delivery t.net s,
       record {
@@ -155,15 +157,14 @@ delivered_goes grow held new readings readings_new numbers numbers_new rested fe
       record {
         stands = record { stands = made.stands; fed = made.fed };
         fits = fits_after t.net held s wired at.stands.stands.now at.fits;
-        fed = λ e. made.all;
       },
     )
 
-pub delivered_counts : {X : Type 0} (grow : ℕ) (links : List Link) (held new : Held (Cell X)) (readings readings_new : List (Option Reading)) (numbers caught numbers_new : Counts) (rested : Bool) (feeds feeds_new : Inputs) (came : List Filled)
+pub delivered_counts : {X : Type 0} (grow : ℕ) (links : List Link) (held new : Held (Cell X)) (readings readings_new : List (Option Reading)) (numbers caught numbers_new : Counts) (feeds feeds_new : Inputs) (came : List Filled)
     → Delivers held new readings readings_new feeds feeds_new came → held.links ≡ links → AreFewCounted numbers → HoldFew held.capacities
     → CatchesUp held.cells links numbers caught → CountsDelivery came caught numbers_new
-    → CountsBy grow Deliver (record { held = held; readings = readings; numbers = numbers; rested = rested; feeds = feeds }) numbers_new
-delivered_counts grow links held new readings readings_new numbers caught numbers_new rested feeds feeds_new came delivers links_are few few_held catches counts t inputs opened s same wired lawful at next h =
+    → CountsBy grow Deliver (record { held = held; readings = readings; numbers = numbers; feeds = feeds }) numbers_new
+delivered_counts grow links held new readings readings_new numbers caught numbers_new feeds feeds_new came delivers links_are few few_held catches counts t inputs opened s same wired lawful at next h =
     let made = delivers.states t.net inputs s at.stands.stands.now wired at.stands.fed in
     delivery_counts t.net inputs held new s wired lawful at.stands.stands.now numbers caught numbers_new came few few_held
     (subst (λ ls. CatchesUp held.cells ls numbers caught) (sym (at.stands.stands.now.is_of.links_are ∙ links_are)) catches) counts made.stands.now made.told next h
@@ -184,12 +185,12 @@ fit_delivered cells links came old caught new catches counts fit =
       ports = subst (λ v. IsToPort links (length v.items)) (sym counts.sent) now.ports;
     }
 
-pub delivered_ready : {X : Type 0} (grow : ℕ) (links : List Link) (came came_new : ℕ) (held new : Held (Cell X)) (readings readings_new : List (Option Reading)) (numbers numbers_new : Counts) (rested : Bool) (feeds feeds_new : Inputs)
-    → ReadersFit links readings_new feeds_new → came_new ≡ came → FitLinks links numbers_new → IsAtRest new → SameActors held.cells new.cells → SameMarks held.cells new.cells → new.links ≡ held.links
+pub delivered_ready : {X : Type 0} (grow : ℕ) (links : List Link) (came came_new : ℕ) (held new : Held (Cell X)) (readings readings_new : List (Option Reading)) (numbers numbers_new : Counts) (feeds feeds_new : Inputs)
+    → ReadersFit links readings_new feeds_new → came_new ≡ came → FitLinks links numbers_new → SameActors held.cells new.cells → SameMarks held.cells new.cells → new.links ≡ held.links
     → new.capacities ≡ held.capacities
-    → CanGoOn (record { held = held; readings = readings; numbers = numbers; rested = rested; feeds = feeds }) links came grow
-    → CanGoOn (record { held = new; readings = readings_new; numbers = numbers_new; rested = true; feeds = feeds_new }) links came_new grow
-delivered_ready grow links came came_new held new readings readings_new numbers numbers_new rested feeds feeds_new fit came_is counted rest same marks same_links same_capacities ready = record {
+    → CanGoOn (record { held = held; readings = readings; numbers = numbers; feeds = feeds }) links came grow
+    → CanGoOn (record { held = new; readings = readings_new; numbers = numbers_new; feeds = feeds_new }) links came_new grow
+delivered_ready grow links came came_new held new readings readings_new numbers numbers_new feeds feeds_new fit came_is counted same marks same_links same_capacities ready = record {
   links_are = same_links ∙ ready.links_are;
   few = ready.few;
   few_held = subst HoldFew (sym same_capacities) ready.few_held;
@@ -199,14 +200,14 @@ delivered_ready grow links came came_new held new readings readings_new numbers 
   numbers = counted;
   queues = can_grow_after grow links held.cells new.cells same ready.queues;
   enough = subst (HoldEnough links) (sym same_capacities) ready.enough;
-  rest = λ e. rest;
 }
 
 -- the feed of a link that has a reader
-pub feed_named : (links : List Link) (readings : List (Option Reading)) (feeds : Inputs) (feed : ℕ) → ReadersFit links readings feeds → IsFeedOfReader links readings feed → IsFeedOf links feed
-feed_named links readings feeds feed fit named =
+pub feed_named : (links : List Link) (old readings : List (Option Reading)) (feeds : Inputs) (feed : ℕ) → ReadersFit links readings feeds → map is_some readings ≡ map is_some old
+    → IsFeedOfReader links readings feed → IsFeedRead links (map is_some old) feed
+feed_named links old readings feeds feed fit same named =
     let at : There links named.0 = there readings links named.0 (Some named.1) (sym fit.count) named.2 in
-    (named.0, at.item, at.at, fit.inputs named.0 at.item named.1 at.at named.2, named.3)
+    (named.0, at.item, at.at, ap (λ ms. slice_get ms named.0) (sym same) ∙ (slice_get-map is_some readings named.0 ∙ ap (option_map is_some) named.2), named.3)
 
 -- End lines.
 
@@ -221,9 +222,9 @@ end_steps t opened s (Fire i a) h = absurd h
 end_steps t opened s Deliver h = absurd h
 end_steps t opened s (Grow l c) h = absurd h
 
-pub ended_ends : {X : Type 0} (grow : ℕ) (line : Line) (held : Held (Cell X)) (readings : List (Option Reading)) (numbers : Counts) (rested : Bool) (feeds : Inputs) → EndsSo grow line held readings feeds
-    → EndsBy grow line (record { held = held; readings = readings; numbers = numbers; rested = rested; feeds = feeds })
-ended_ends grow line held readings numbers rested feeds ends t inputs opened s same wired lawful at =
+pub ended_ends : {X : Type 0} (grow : ℕ) (line : Line) (held : Held (Cell X)) (readings : List (Option Reading)) (numbers : Counts) (feeds : Inputs) → EndsSo grow line held readings feeds
+    → EndsBy grow line (record { held = held; readings = readings; numbers = numbers; feeds = feeds })
+ended_ends grow line held readings numbers feeds ends t inputs opened s same wired lawful at =
     (s, end_steps t opened s line (subst (λ g. IsTrueEnd t.net g s line) (sym same) (ends t.net inputs opened s at.stands wired lawful at.fits)))
 
 end_fails : {X : Type 0} (t : Trial X) (opened s : State X) (line : Line) → is_still_end line ≡ true → (IsTrueEnd t.net t.grow s line → ⊥) → EventFails t opened s line EndIs
@@ -237,9 +238,9 @@ end_fails t opened s (Fire i a) still not_so = cc
 end_fails t opened s Deliver still not_so = cc
 end_fails t opened s (Grow l c) still not_so = cc
 
-pub not_ended_fails : {X : Type 0} (grow : ℕ) (line : Line) (held : Held (Cell X)) (readings : List (Option Reading)) (numbers : Counts) (rested : Bool) (feeds : Inputs) → is_still_end line ≡ true
-    → EndsNotSo grow line held readings feeds → FailsBy grow line (record { held = held; readings = readings; numbers = numbers; rested = rested; feeds = feeds }) EndIs
-not_ended_fails grow line held readings numbers rested feeds still ends_not = inl (λ t inputs opened s same wired lawful at.
+pub not_ended_fails : {X : Type 0} (grow : ℕ) (line : Line) (held : Held (Cell X)) (readings : List (Option Reading)) (numbers : Counts) (feeds : Inputs) → is_still_end line ≡ true
+    → EndsNotSo grow line held readings feeds → FailsBy grow line (record { held = held; readings = readings; numbers = numbers; feeds = feeds }) EndIs
+not_ended_fails grow line held readings numbers feeds still ends_not = inl (λ t inputs opened s same wired lawful at.
     end_fails t opened s line still (λ h. ends_not t.net inputs opened s at.stands wired lawful at.fits (subst (λ g. IsTrueEnd t.net g s line) same h)))
 
 -- The growth of a link.
@@ -255,20 +256,8 @@ stall_inside {X} net s i a l link stalled at = of_flow (slice_get (all_fed net s
     of_flow None lacks = absurd lacks
     of_flow (Some flow) lacks = from_leaf (give_of (slice_get net.leaves i) a) i flow link link.from refl lacks
 
-pub record Grown {X : Type 0} (s t : State X) (l capacity : ℕ) : Type 0 where
-  pub flow : Flow
-  pub here : slice_get s.flows l ≡ Some flow
-  pub is : record s { flows = slice_set s.flows l (record flow { capacity = capacity }) } ≡ t
-
-pub grown_is : {X : Type 0} (s t : State X) (l capacity : ℕ) (o : Option Flow) → slice_get s.flows l ≡ o → grown s l capacity o ≡ Some t → Grown s t l capacity
-grown_is s t l capacity None here h = cc
-grown_is s t l capacity (Some flow) here h = record { flow = flow; here = here; is = some_is (record s { flows = slice_set s.flows l (record flow { capacity = capacity }) }) t h }
-  where
-    some_is : {A : Type 0} (x y : A) → Some x ≡ Some y → x ≡ y
-    some_is x y e = cc
-
 -- on an input link nothing changes
-input_still : {X : Type 0} (net : Network X) (s next : State X) (grow l capacity m : ℕ) (link : Link) (flow : Flow) → Grows net grow s l capacity → Grown s next l capacity
+input_still : {X : Type 0} (net : Network X) (s next : State X) (grow l capacity m : ℕ) (link : Link) (flow : Flow) → Grows net grow s l capacity → HasGrown s next l capacity
     → slice_get net.links m ≡ Some link → slice_get next.flows m ≡ Some flow → is_input link ≡ true → slice_get s.flows m ≡ Some flow
 input_still net s next grow l capacity m link flow grows to at here input = ⊎_elim
     (λ other. other)
@@ -276,54 +265,66 @@ input_still net s next grow l capacity m link flow grows to at here input = ⊎_
     let clash : true ≡ false = sym input ∙ inner in cc)
     (set_is s.flows l (record to.flow { capacity = capacity }) m flow (ap (λ w. slice_get w.flows m) to.is ∙ here))
 
-pub grown_goes : {X : Type 0} (grow l capacity : ℕ) (held new : Held (Cell X)) (readings : List (Option Reading)) (numbers : Counts) (feeds : Inputs) → GrowsSo grow l capacity held new
-    → GoesBy grow (Grow l capacity) (record { held = held; readings = readings; numbers = numbers; rested = true; feeds = feeds }) (record { held = new; readings = readings; numbers = numbers; rested = true; feeds = feeds })
-grown_goes {X} grow l capacity held new readings numbers feeds grows t inputs opened s same wired lawful at =
-    let both = grows t.net opened s at.stands.stands wired (at.fed refl) in
+pub grown_goes : {X : Type 0} (grow l capacity : ℕ) (held new : Held (Cell X)) (readings readings_new : List (Option Reading)) (numbers : Counts) (feeds feeds_new : Inputs)
+    → GrowsBy grow l capacity held readings feeds new readings_new feeds_new Grown
+    → GoesBy grow (Grow l capacity) (record { held = held; readings = readings; numbers = numbers; feeds = feeds }) (record { held = new; readings = readings_new; numbers = numbers; feeds = feeds_new })
+grown_goes {X} grow l capacity held new readings readings_new numbers feeds feeds_new grows t inputs opened s same wired lawful at =
+    let both = grows t.net inputs opened s at.stands wired lawful in
     next_of
-    ((next : State X) × Steps t opened s (Grow l capacity) next × IsAt t.net inputs (record { held = new; readings = readings; numbers = numbers; rested = true; feeds = feeds }) opened next)
-    (grown s l capacity (slice_get s.flows l)) (λ next. StandsSince t.net new opened next)
+    ((next : State X) × Steps t opened s (Grow l capacity) next × IsAt t.net inputs (record { held = new; readings = readings_new; numbers = numbers; feeds = feeds_new }) opened next)
+    (grown s l capacity (slice_get s.flows l)) (λ next. StandsFed t.net inputs new readings_new feeds_new opened next)
     (λ u h stands.
-    let to : Grown s u l capacity = grown_is s u l capacity (slice_get s.flows l) refl h in (
+    let to : HasGrown s u l capacity = grown_is s u l capacity (slice_get s.flows l) refl h in (
       u,
       record { is_true = subst (λ g. Grows t.net g s l capacity) (sym same) both.0; goes_so = h; is_due = tt },
       record {
-        stands = record {
-          stands = stands;
-          fed = fed_still t.net inputs s u 0 readings feeds at.stands.stands.now.stands.flows.count stands.now.stands.flows.count
-              (tokens_gone t.net s u (grown_tokens t.net s u l capacity (slice_get s.flows l) refl h)) at.stands.fed;
-        };
+        stands = stands;
         fits = λ m link flow at_link here input. at.fits m link flow at_link (input_still t.net s u grow l capacity m link flow both.0 to at_link here input) input;
-        fed = λ e m link flow at_link here input. at.fed refl m link flow at_link (input_still t.net s u grow l capacity m link flow both.0 to at_link here input) input;
       },
     ))
     both.1
 
-pub not_grown_fails : {X : Type 0} (grow l capacity : ℕ) (held : Held (Cell X)) (readings : List (Option Reading)) (numbers : Counts) (feeds : Inputs) → GrowsNotSo grow l capacity held
-    → FailsBy grow (Grow l capacity) (record { held = held; readings = readings; numbers = numbers; rested = true; feeds = feeds }) EndIs
-not_grown_fails grow l capacity held readings numbers feeds grows_not = inl (λ t inputs opened s same wired lawful at.
-    (refl, λ h. grows_not t.net opened s at.stands.stands wired lawful (at.fed refl) (subst (λ g. Grows t.net g s l capacity) same h)))
+pub untrue_fails : {X : Type 0} (grow l capacity : ℕ) (held new : Held (Cell X)) (readings readings_new : List (Option Reading)) (numbers : Counts) (feeds feeds_new : Inputs)
+    → GrowsBy grow l capacity held readings feeds new readings_new feeds_new Untrue
+    → FailsBy grow (Grow l capacity) (record { held = held; readings = readings; numbers = numbers; feeds = feeds }) EndIs
+untrue_fails grow l capacity held new readings readings_new numbers feeds feeds_new untrue = inl (λ t inputs opened s same wired lawful at.
+    (refl, λ h. untrue t.net inputs opened s at.stands wired lawful (subst (λ g. Grows t.net g s l capacity) same h)))
 
-pub grown_counts : {X : Type 0} (grow l capacity : ℕ) (held : Held (Cell X)) (readings : List (Option Reading)) (numbers : Counts) (rested : Bool) (feeds : Inputs)
-    → CountsBy grow (Grow l capacity) (record { held = held; readings = readings; numbers = numbers; rested = rested; feeds = feeds }) numbers
-grown_counts grow l capacity held readings numbers rested feeds t inputs opened s same wired lawful at next h =
+pub unfed_fails : {X : Type 0} (grow l capacity : ℕ) (held new : Held (Cell X)) (readings readings_new : List (Option Reading)) (numbers : Counts) (feeds feeds_new : Inputs)
+    → GrowsBy grow l capacity held readings feeds new readings_new feeds_new Unfed
+    → FailsBy grow (Grow l capacity) (record { held = held; readings = readings; numbers = numbers; feeds = feeds }) EndIs
+unfed_fails grow l capacity held new readings readings_new numbers feeds feeds_new unfed = inr (
+  refl,
+  λ t inputs opened s same wired lawful at.
+      let both = unfed t.net inputs opened s at.stands wired lawful in
+      record {
+        l = l;
+        capacity = capacity;
+        line_is = refl;
+        grows = subst (λ g. Grows t.net g s l capacity) (sym same) both.0;
+        unfed = both.1;
+      },
+)
+
+pub grown_counts : {X : Type 0} (grow l capacity : ℕ) (held : Held (Cell X)) (readings : List (Option Reading)) (numbers : Counts) (feeds : Inputs)
+    → CountsBy grow (Grow l capacity) (record { held = held; readings = readings; numbers = numbers; feeds = feeds }) numbers
+grown_counts grow l capacity held readings numbers feeds t inputs opened s same wired lawful at next h =
     growth_counts t.net inputs held s next l capacity numbers wired lawful at.stands.stands.now h
 
-pub grown_ready : {X : Type 0} (grow : ℕ) (links : List Link) (came : ℕ) (held new : Held (Cell X)) (readings : List (Option Reading)) (numbers : Counts) (feeds : Inputs)
-    → HoldEnough links new.capacities → HoldFew new.capacities → IsAtRest new → SameActors held.cells new.cells → SameMarks held.cells new.cells → new.links ≡ held.links
-    → CanGoOn (record { held = held; readings = readings; numbers = numbers; rested = true; feeds = feeds }) links came grow
-    → CanGoOn (record { held = new; readings = readings; numbers = numbers; rested = true; feeds = feeds }) links came grow
-grown_ready grow links came held new readings numbers feeds enough few_held rest same marks same_links ready = record {
-  links_are = same_links ∙ ready.links_are;
+pub grown_ready : {X : Type 0} (grow : ℕ) (links : List Link) (came came_new : ℕ) (held new : Held (Cell X)) (readings readings_new : List (Option Reading)) (numbers : Counts) (feeds feeds_new : Inputs)
+    → came_new ≡ came → StillFits links held new readings_new feeds_new
+    → CanGoOn (record { held = held; readings = readings; numbers = numbers; feeds = feeds }) links came grow
+    → CanGoOn (record { held = new; readings = readings_new; numbers = numbers; feeds = feeds_new }) links came_new grow
+grown_ready grow links came came_new held new readings readings_new numbers feeds feeds_new same_came still ready = record {
+  links_are = still.same_links ∙ ready.links_are;
   few = ready.few;
-  few_held = few_held;
-  work = untrapped_after held.cells new.cells same marks ready.work;
-  readers = ready.readers;
-  came_for_each = ready.came_for_each;
+  few_held = still.few_held;
+  work = untrapped_after held.cells new.cells still.actors still.marks ready.work;
+  readers = still.readers;
+  came_for_each = same_came ∙ ready.came_for_each;
   numbers = ready.numbers;
-  queues = can_grow_after grow links held.cells new.cells same ready.queues;
-  enough = enough;
-  rest = λ e. rest;
+  queues = can_grow_after grow links held.cells new.cells still.actors ready.queues;
+  enough = still.enough;
 }
 
 pub on_ends : (so : Bool) (came : Came) (P : Type 0) → (so ≡ false → came ≡ Fails EndIs) → (so ≡ true → P) → OnEnds came P

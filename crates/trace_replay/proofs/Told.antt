@@ -29,7 +29,7 @@ use Rattle.trace_replay.proofs.Led.{at_pulled}
 pub begins_at : {X : Type 0} (t : Trial X) (text : List ℕ) (inputs : List (List ℕ)) (old new : Trace) (now : Between X) (feeds : Inputs) (grow : ℕ) (first : Line) (names : List (List ℕ)) (count : ℕ)
     → count ≡ length names → new.count ≡ old.count + 1 + count → PullsOnlyAt TRACE_FEED now.feeds feeds
     → PassesHead X first names old now.feeds new feeds → BeginsFirst t text inputs old now grow first names
-    → BeginsAt t text inputs new (record { held = now.held; readings = now.readings; numbers = now.numbers; rested = now.rested; feeds = feeds }) grow
+    → BeginsAt t text inputs new (record { held = now.held; readings = now.readings; numbers = now.numbers; feeds = feeds }) grow
 begins_at t text inputs old new now feeds grow first names count same more pulls passes begins = record {
   grow_is = begins.grow_is;
   wired = begins.wired;
@@ -70,6 +70,6 @@ replayed_is t text inputs end counts law tells fits ended =
 pub refused_is : {X : Type 0} (t : Trial X) (text : List ℕ) (fault : ReplayFault) → NoTraceIsNotRun X → IsWired t.net → AreLawful t.net → IsJudgedOrNot t text fault → IsRefused t text fault
 refused_is t text (NotRun line why) law wired lawful judged = ⊎_elim
     (λ not_run. inl (not_run, λ lines end last within trace. law t text lines end last line why wired lawful within trace not_run))
-    (λ unjudged. inr unjudged) judged
+    (λ growth. inr growth) judged
 refused_is t text (ReadFault feed) law wired lawful judged = tt
 refused_is t text Memory law wired lawful judged = tt

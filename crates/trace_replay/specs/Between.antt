@@ -16,12 +16,11 @@ use Rattle.net_model.specs.Trace.{LineIsTrue, goes, opened_by}
 use Rattle.net_model.specs.Wired.{IsWired}
 use Rattle.net_model.specs.Cell.{Cell}
 use Rattle.net_state.specs.Held.{Held, HoldFew, seen}
-use Rattle.net_state.specs.Surveyed.{AreSettled}
-use Rattle.net_state.specs.Working.{AreFed, IsAtRest}
 use Rattle.network_runner.specs.Filling.{ReadersFit}
 use Rattle.trace_replay.specs.Counting.{CountsAll, CountsOn, FitLinks}
 use Rattle.trace_replay.specs.Ending.{CanGrow, FitInputs, HoldEnough}
 use Rattle.trace_replay.specs.Feeding.{StandsFed}
+use Rattle.trace_replay.specs.Growing.{IsUnfed}
 use Rattle.trace_replay.specs.Judging.{EventFails, TrapComes, Trial}
 use Rattle.trace_replay.specs.Trying.{AllWork}
 use Rattle.trace_replay.specs.declared.between.Replay.{Replay}
@@ -30,22 +29,19 @@ use Rattle.trace_replay.specs.declared.came.Came.TheVariants.{Goes, Ends, Fails,
 use Rattle.trace_replay.specs.declared.why.Why.{Why}
 use Rattle.trace_replay.specs.declared.why.Why.TheVariants.{End}
 
--- what is held, the readers of links, the numbers of the lines so far, whether nothing fired since the last delivery,
--- and what is known of feeds
+-- what is held, the readers of links, the numbers of the lines so far, and what is known of feeds
 pub record Between (X : Type 0) : Type 0 where
   pub held : Held (Cell X)
   pub readings : List (Option Reading)
   pub numbers : Counts
-  pub rested : Bool
   pub feeds : Inputs
 
-abbrev pub between : {C X : Type 0} → (C → Cell X) → Held C → List (Option Reading) → Counts → Bool
+abbrev pub between : {C X : Type 0} → (C → Cell X) → Held C → List (Option Reading) → Counts
     → Inputs → Between X
-between cell held readings numbers rested feeds = record {
+between cell held readings numbers feeds = record {
   held = seen cell held;
   readings = readings;
   numbers = numbers;
-  rested = rested;
   feeds = feeds;
 }
 
@@ -54,7 +50,6 @@ between cell held readings numbers rested feeds = record {
 pub record IsAt {X : Type 0} (net : Network X) (inputs : List (List ℕ)) (now : Between X) (opened s : State X) : Type 0 where
   pub stands : StandsFed net inputs now.held now.readings now.feeds opened s
   pub fits : FitInputs net s
-  pub fed : now.rested ≡ true → AreFed net s
 
 -- what the code knows of it, whatever its state is
 pub record CanGoOn {X : Type 0} (now : Between X) (links : List Link) (came grow : ℕ) : Type 0 where
@@ -67,7 +62,6 @@ pub record CanGoOn {X : Type 0} (now : Between X) (links : List Link) (came grow
   pub numbers : FitLinks links now.numbers
   pub queues : CanGrow grow now.held.cells links
   pub enough : HoldEnough links now.held.capacities
-  pub rest : now.rested ≡ true → IsAtRest now.held
 
 -- a firing has room, and a trap comes
 abbrev pub IsDue : {X : Type 0} → Network X → State X → State X → Line → Type 0
@@ -114,29 +108,6 @@ abbrev pub CountsEnd : {X : Type 0} → ℕ → Line → Between X → Counts �
 CountsEnd {X} grow line old numbers = InEach grow old (λ t inputs opened s. (next : State X)
     → goes t.net s line ≡ Some next → CountsAll t.net inputs s line next old.numbers numbers)
 
--- a line behind which a growth is judged: a delivery, or another growth
-abbrev pub is_rest : Line → Bool
-is_rest Deliver = true
-is_rest (Grow l capacity) = true
-is_rest (FirstLine n l g) = false
-is_rest (Inst k) = false
-is_rest (Fire i a) = false
-is_rest Quiet = false
-is_rest (TrapLine i a c) = false
-is_rest (Stall i a l) = false
-is_rest Budget = false
-
-abbrev pub is_growth : Line → Bool
-is_growth (Grow l capacity) = true
-is_growth (FirstLine n l g) = false
-is_growth (Inst k) = false
-is_growth (Fire i a) = false
-is_growth Deliver = false
-is_growth Quiet = false
-is_growth (TrapLine i a c) = false
-is_growth (Stall i a l) = false
-is_growth Budget = false
-
 -- an end line but that of a trap
 abbrev pub is_still_end : Line → Bool
 is_still_end Quiet = true
@@ -149,18 +120,10 @@ is_still_end Deliver = false
 is_still_end (TrapLine i a c) = false
 is_still_end (Grow l capacity) = false
 
--- the line says that a link grows, and doesn't stand right behind a delivery or another growth, where all that was
--- sent inside has arrived
-pub record IsLate {X : Type 0} (line : Line) (why : Why) (old : Between X) : Type 0 where
-  pub growth : is_growth line ≡ true
-  pub late : old.rested ≡ false
-  pub settled : AreSettled old.held
-  pub why_is : why ≡ End
-
--- the line may not come for this cause, or is a growth that comes too late to be judged
+-- the line may not come for this cause; or it is a growth that is true, where more is to come from outside
 abbrev pub FailsBy : {X : Type 0} → ℕ → Line → Between X → Why → Type 0
 FailsBy grow line old why = InEach grow old (λ t inputs opened s. EventFails t opened s line why)
-    ⊎ IsLate line why old
+    ⊎ ((why ≡ End) × InEach grow old (λ t inputs opened s. IsUnfed t.net t.grow s line))
 
 -- Answers.
 
@@ -200,7 +163,7 @@ module _ {A X S : Type 0} (cell : A → Cell X) (feeds : S → Inputs) where
   -- where it stands
   abbrev pub stand : Replay A → S → Between X
   stand replay now =
-      between cell replay.state replay.readers.items replay.numbers replay.rested (feeds now)
+      between cell replay.state replay.readers.items replay.numbers (feeds now)
 
   abbrev pub IsReadyToGo : Replay A → S → Type 0
   IsReadyToGo replay now =

@@ -1,6 +1,6 @@
 -- Lines of a run that are read one after another, up to an end line.
 -- Trusted but for `BeginsAt` and what follows `IsJudgedOrNot`: part of what a promise means.
-use Rattle.std.specs.Prelude.{◌≡◌, ◌⊎◌, ℕ, suc, ◌+◌, true, false, List, [], ◌∷◌, ◌++◌, length, map, flat_map, Some, String, string_bytes}
+use Rattle.std.specs.Prelude.{◌≡◌, ◌⊎◌, ℕ, suc, ◌+◌, true, List, [], ◌++◌, length, map, flat_map, Some, String, string_bytes}
 use Rattle.std.specs.List.{concat}
 use Rattle.std.specs.declared.alloc.Global.{Global as Heap}
 use Rattle.rvc_io.specs.Feeds.{Inputs}
@@ -12,12 +12,12 @@ use Rattle.net_model.specs.declared.wiring.Counts.{Counts}
 use Rattle.net_model.specs.Counted.{IsCounted}
 use Rattle.net_model.specs.Trace.{head_text, played}
 use Rattle.net_model.specs.State.{State}
-use Rattle.net_model.specs.Ends.{IsSettled}
 use Rattle.net_model.specs.Laws.{AreLawful}
 use Rattle.net_model.specs.Wired.{IsWired}
 use Rattle.net_model.specs.Cell.{Cell}
-use Rattle.trace_replay.specs.Between.{Between, IsAt, is_growth, is_rest, stand}
+use Rattle.trace_replay.specs.Between.{Between, IsAt, stand}
 use Rattle.trace_replay.specs.Counting.{IsCountedTo}
+use Rattle.trace_replay.specs.Growing.{IsUnfed}
 use Rattle.trace_replay.specs.Head.{IsHeadOf, PassesEnd, StandsAt}
 use Rattle.trace_replay.specs.Judging.{AtEvents, AtFirst, IsNotRun, Lead, Trial, is_of_table}
 use Rattle.trace_replay.specs.Laws.{StartFits}
@@ -40,19 +40,9 @@ pub record BeginsAt {X : Type 0} (t : Trial X) (text : List ℕ) (inputs : List 
   pub number : trace.count ≡ suc (length t.net.leaves)
   pub reached : StandsAt t text trace now.feeds (AtEvents t.start t.start)
 
--- the last of these lines is neither a delivery nor a growth
-pub record EndInNoRest (texts : List (List ℕ)) : Type 0 where
-  pub before : List (List ℕ)
-  pub text : List ℕ
-  pub line : Line
-  pub texts_are : texts ≡ before ++ text ∷ []
-  pub spells : Spells line text
-  pub no_rest : is_rest line ≡ false
-
--- Line n says that a link grows. It isn't judged, since the line before it is neither a delivery nor a growth, and all
--- that was sent inside has arrived: there a link may grow, if the network is stalled once its feeds came as far as they
--- may.
-pub record IsUnjudged {X : Type 0} (t : Trial X) (text : List ℕ) (n : ℕ) (why : Why) : Type 0 where
+-- Line n says that a link grows, and that is true of the state to which the lines before it lead. But a firing has
+-- made room on an input link, and more of its feed is to come, so that replay doesn't go on there.
+pub record IsUnfedGrowth {X : Type 0} (t : Trial X) (text : List ℕ) (n : ℕ) (why : Why) : Type 0 where
   pub texts : List (List ℕ)
   pub front : List ℕ
   pub more : List ℕ
@@ -61,17 +51,15 @@ pub record IsUnjudged {X : Type 0} (t : Trial X) (text : List ℕ) (n : ℕ) (wh
   pub s : State X
   pub is_text : text ≡ concat texts ++ (front ++ more)
   pub lead : Lead t AtFirst texts (AtEvents opened s)
-  pub late : EndInNoRest texts
-  pub settled : IsSettled t.net s
+  pub growth : IsUnfed t.net t.grow s line
   pub spells : Spells line front
-  pub growth : is_growth line ≡ true
   pub of_table : is_of_table t.grow line ≡ true
   pub number : n ≡ length texts + 1
   pub why_is : why ≡ End
 
--- what is told of a text that isn't replayed: no run has that line, or it is a growth that isn't judged
+-- what is told of a text that isn't replayed: no run has that line, or it is a growth where more is to come
 abbrev pub IsJudgedOrNot : {X : Type 0} → Trial X → List ℕ → ReplayFault → Type 0
-IsJudgedOrNot t text (NotRun line why) = IsNotRun t text line why ⊎ IsUnjudged t text line why
+IsJudgedOrNot t text (NotRun line why) = IsNotRun t text line why ⊎ IsUnfedGrowth t text line why
 IsJudgedOrNot t text (ReadFault feed) = Unit {0}
 IsJudgedOrNot t text Memory = Unit {0}
 

@@ -1,15 +1,16 @@
 -- The feeds of input links: what is to come on a link, and what is pulled for it.
--- Trusted: part of what a promise means.
-use Rattle.std.specs.Prelude.{◌≡◌, ◌≤◌, ℕ, true, List, slice_get, Option, Some}
+-- Trusted but for `IsFeedRead`: part of what a promise means.
+use Rattle.std.specs.Prelude.{◌≡◌, ◌≤◌, ℕ, Bool, true, List, slice_get, Option, Some}
 use Rattle.rvc_io.specs.Feeds.{Inputs}
 use Rattle.port_files.specs.Coming.{Reading}
+use Rattle.net_model.specs.declared.wiring.End.{End}
 use Rattle.net_model.specs.declared.wiring.Link.{Link}
-use Rattle.net_model.specs.Network.{Network, is_input}
+use Rattle.net_model.specs.Network.{Network}
 use Rattle.net_model.specs.State.{State}
 use Rattle.net_model.specs.Cell.{Cell}
 use Rattle.net_state.specs.Held.{Held}
 use Rattle.net_state.specs.Standing.{StandsSince}
-use Rattle.round_runner.specs.Running.{AreFedBy, count_inputs as inputs_among, feed_of as feed_of_link}
+use Rattle.round_runner.specs.Running.{AreFedBy, count_inputs as inputs_among, feed_of as feed_of_link, has_feed as is_fed_end}
 use Rattle.trace_replay.specs.declared.bytes.TheConstants.{TRACE_FEED}
 
 -- how many of these links begin at an input of the network
@@ -20,10 +21,19 @@ count_inputs links = inputs_among links
 abbrev pub feed_of : List Link → ℕ → ℕ
 feed_of links l = feed_of_link links l
 
--- the feed of one of these links, which begins at an input of the network
-abbrev pub IsFeedOf : List Link → ℕ → Type 0
-IsFeedOf links feed = (l : ℕ) × (link : Link) × (slice_get links l ≡ Some link)
-    × (is_input link ≡ true) × (feed ≡ feed_of links l)
+-- a writing end at an input of the network that has a feed
+abbrev pub has_feed : List Bool → End → Bool
+has_feed opened end = is_fed_end opened end
+
+-- the feed of one of these links, which begins at an input of the network that has one
+abbrev pub IsFeedOf : List Link → List Bool → ℕ → Type 0
+IsFeedOf links opened feed = (l : ℕ) × (link : Link) × (slice_get links l ≡ Some link)
+    × (has_feed opened link.from ≡ true) × (feed ≡ feed_of links l)
+
+-- the same by which of the links a feed is read for
+abbrev pub IsFeedRead : List Link → List Bool → ℕ → Type 0
+IsFeedRead links read feed = (l : ℕ) × (link : Link) × (slice_get links l ≡ Some link)
+    × (slice_get read l ≡ Some true) × (feed ≡ feed_of links l)
 
 -- The state stands in what is held, it was `opened` by the last delivery, and what is to come is what feeds have.
 -- `inputs` are the bytes of the network's inputs from which the run began.

@@ -8,6 +8,7 @@ pub mod Trying
 pub mod Feeding
 pub mod Counting
 pub mod Ending
+pub mod Growing
 pub mod Between
 pub mod Events
 pub mod Replaying

@@ -1,6 +1,6 @@
 -- A network at the start of its trace.
 -- Not trusted: no promise is read with it.
-use Rattle.std.specs.Prelude.{◌≡◌, ℕ, false, List, length, map}
+use Rattle.std.specs.Prelude.{◌≡◌, ℕ, List, length, map}
 use Rattle.net_model.specs.declared.wiring.Wiring.{Wiring}
 use Rattle.net_model.specs.Cell.{Cell}
 use Rattle.net_state.specs.Beginning.{AreLawfulIn}
@@ -24,4 +24,4 @@ pub record IsOpenedOn {C X : Type 0} (cell : C → Cell X) (cells : List C) (wir
   pub numbers : CountNothing (length wiring.links.items) (length wiring.outs.items) replay.numbers
   pub count : replay.count ≡ length cells
   pub grow_is : replay.grow ≡ grow
-  pub rested : replay.rested ≡ false
+  pub noted : length replay.noted.items ≡ length wiring.links.items

@@ -8,7 +8,7 @@ use Rattle.trace_text.specs.Text.{line_feed}
 use Rattle.trace_text.specs.declared.line.Line.{Line}
 use Rattle.net_model.specs.State.{State}
 use Rattle.net_model.specs.declared.wiring.Link.{Link}
-use Rattle.trace_replay.specs.Feeding.{IsFeedOf}
+use Rattle.trace_replay.specs.Feeding.{IsFeedOf, IsFeedRead}
 use Rattle.trace_replay.specs.Judging.{Trial, Reached, AtEnd, AtFirst, Lead, IsNotRun, is_of_table, max_trace_bytes}
 use Rattle.trace_replay.specs.Scanning.{IsWithin, Scans}
 use Rattle.trace_replay.specs.declared.bytes.TheConstants.{TRACE_FEED}
@@ -75,11 +75,17 @@ NamesTrace (NotRun line why) = Unit {0}
 NamesTrace (ReadFault feed) = feed ≡ TRACE_FEED
 NamesTrace Memory = Unit {0}
 
--- .. or that of a link that begins at an input
-abbrev pub NamesFeed : List Link → ReplayFault → Type 0
-NamesFeed links (NotRun line why) = Unit {0}
-NamesFeed links (ReadFault feed) = (feed ≡ TRACE_FEED) ⊎ IsFeedOf links feed
-NamesFeed links Memory = Unit {0}
+-- .. or that of a link from an input that has one
+abbrev pub NamesFeed : List Link → List Bool → ReplayFault → Type 0
+NamesFeed links opened (NotRun line why) = Unit {0}
+NamesFeed links opened (ReadFault feed) = (feed ≡ TRACE_FEED) ⊎ IsFeedOf links opened feed
+NamesFeed links opened Memory = Unit {0}
+
+-- .. by which of the links a feed is read for
+abbrev pub NamesRead : List Link → List Bool → ReplayFault → Type 0
+NamesRead links read (NotRun line why) = Unit {0}
+NamesRead links read (ReadFault feed) = (feed ≡ TRACE_FEED) ⊎ IsFeedRead links read feed
+NamesRead links read Memory = Unit {0}
 
 -- an answer that the text is no trace of a run is true
 abbrev pub IsJudged : {X : Type 0} → Trial X → List ℕ → ReplayFault → Type 0

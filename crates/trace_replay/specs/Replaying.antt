@@ -16,10 +16,9 @@ use Rattle.net_model.specs.Counted.{IsCounted}
 use Rattle.net_model.specs.Cell.{Cell}
 use Rattle.net_model.specs.Ready.{IsNetworkOf, IsReady, given_state}
 use Rattle.net_state.specs.Beginning.{HaveSizes, NoneUnlinked}
-use Rattle.round_runner.specs.Running.{has_feed as is_fed_end}
 use Rattle.network_runner.specs.Asking.{HavePortSizes}
-use Rattle.trace_replay.specs.Events.{IsUnjudged}
-use Rattle.trace_replay.specs.Feeding.{feed_of}
+use Rattle.trace_replay.specs.Events.{IsUnfedGrowth}
+use Rattle.trace_replay.specs.Feeding.{feed_of, has_feed}
 use Rattle.trace_replay.specs.Head.{name_of}
 use Rattle.trace_replay.specs.Judging.{IsNotRun, IsTrace, Trial, max_trace_bytes}
 use Rattle.trace_replay.specs.declared.bytes.TheConstants.{TRACE_FEED}
@@ -28,10 +27,6 @@ use Rattle.trace_replay.specs.declared.why.ReplayFault.{ReplayFault}
 use Rattle.trace_replay.specs.declared.why.ReplayFault.TheVariants.{NotRun, ReadFault, Memory}
 
 -- What is asked.
-
--- a writing end at an input of the network that has a feed
-abbrev pub has_feed : List Bool → End → Bool
-has_feed opened end = is_fed_end opened end
 
 -- a network of these cells and this wiring that is ready to be run, with any paths and classes
 pub record IsReadyAs {X : Type 0} (net : Network X) (cells : List (Cell X)) (wiring : Wiring) (grow : ℕ) : Type 0 where
@@ -90,10 +85,11 @@ abbrev pub IsNone : {X : Type 0} → Trial X → List ℕ → Type 0
 IsNone {X} t text = (lines : List Line) (end : Line) (last : State X) → length text ≤ max_trace_bytes
     → IsTrace t text lines end last → ⊥
 
--- No run has line n with the lines before it, and so the text is no trace; or the line is a growth that isn't judged.
+-- No run has line n with the lines before it, and so the text is no trace; or the line is a growth that is true, behind a
+-- firing that made room on an input link of whose feed more is to come.
 abbrev pub IsRefused : {X : Type 0} → Trial X → List ℕ → ReplayFault → Type 0
 IsRefused t text (NotRun line why) =
-    (IsNotRun t text line why × IsNone t text) ⊎ IsUnjudged t text line why
+    (IsNotRun t text line why × IsNone t text) ⊎ IsUnfedGrowth t text line why
 IsRefused t text (ReadFault feed) = Unit {0}
 IsRefused t text Memory = Unit {0}
 

@@ -1,13 +1,13 @@
 //! A network between two lines of its trace.
 
-ghost use Rattle.std.specs.Prelude.{◌≡◌, ◌+◌, ◌≤◌, true, false, IfOk, length, map};
+ghost use Rattle.std.specs.Prelude.{◌≡◌, ◌+◌, ◌≤◌, true, false, IfOk, is_some, length, map};
 ghost use Rattle.rvc_io.specs.Feeds.{ReadFails};
 ghost use Rattle.net_model.specs.Limits.{max_links};
 ghost use Rattle.trace_text.specs.declared.line.Line.TheVariants as line;
-ghost use Rattle.trace_replay.specs.Between.{EndCounts, FailsBy, IfFails, IsReadyToGo, LineCounts, LineEnds, LineFails, LineGoes, OnEnds, OnFeedFails, OnGoes, is_rest, is_still_end, stand, IfFeedFails};
+ghost use Rattle.trace_replay.specs.Between.{EndCounts, IfFails, IsReadyToGo, LineCounts, LineEnds, LineFails, LineGoes, OnEnds, OnFeedFails, OnGoes, is_still_end, IfFeedFails};
 ghost use Rattle.trace_replay.specs.declared.came.Came.TheVariants as came;
 ghost use Rattle.trace_replay.specs.declared.why.Why.TheVariants as why;
-ghost use Rattle.trace_replay.specs.Feeding.{PullsInputs, IsFeedOf};
+ghost use Rattle.trace_replay.specs.Feeding.{PullsInputs, IsFeedRead};
 ghost use Rattle.net_state.specs.Held.{CanWork};
 ghost use Rattle.trace_replay.specs.Opening.{IsOpenedOn};
 ghost use Rattle.trace_replay.specs.Counting.{AreFewCounted};
@@ -16,8 +16,9 @@ ghost use Rattle.trace_replay.specs.Judging.{is_end};
 
 use crate::came::Came;
 use crate::counting::{catch_up, count_delivery, count_firing};
-use crate::ending::{ends_so, is_settled};
-use crate::growing::grow_so;
+use crate::ending::ends_so;
+use crate::growing::grow_fed;
+use crate::growth::Growth;
 use crate::trying::{fire, traps};
 use crate::why::Why;
 use net_model::{Counts, Firing, Link, Wiring};
@@ -44,8 +45,8 @@ pub(crate) struct Replay<A: Firing> {
     count: u32,
     /// The greatest capacity to which a link may grow; 0 if none may.
     grow: u32,
-    /// Whether there was a delivery, and nothing fired since.
-    rested: bool,
+    /// For each link room to note how many tokens waited after the last delivery, while the growth of a link is judged.
+    noted: Vec<u32>,
 }
 
 impl<A: Firing> Replay<A> {
@@ -68,6 +69,7 @@ impl<A: Firing> Replay<A> {
         let readers = readers_of(alloc, &wiring.links, &wiring.ins, &wiring.open_ins)?;
         let came = nothing_came(alloc, wiring.links.len())?;
         let numbers = no_counts(alloc, wiring.links.len(), wiring.outs.len())?;
+        let noted = vec![in alloc; 0u32; wiring.links.len()]?;
         let links = copy_of(alloc, &wiring.links)?;
         let state = NetState::new(alloc, cells, wiring.links)?;
         Ok(Replay {
@@ -78,7 +80,7 @@ impl<A: Firing> Replay<A> {
             numbers,
             count,
             grow,
-            rested: false,
+            noted,
         })
     }
 
@@ -106,7 +108,7 @@ impl<A: Firing> Replay<A> {
             numbers,
             count: _,
             grow: _,
-            rested: _,
+            noted: _,
         } = self;
         numbers
     }
@@ -126,15 +128,16 @@ impl<A: Firing> Replay<A> {
         ensures fails { LineFails A.cell F.feeds result (line.Fire inst action) self.old feeds.now }
         ensures no_end { OnEnds result ⊥ }
         ensures no_fault { OnFeedFails result ⊥ }
-        ensures feed { IfFeedFails result (IsFeedOf self.old.links.items) }
-        ensures rested { OnGoes result (self.new.rested ≡ false) }
+        ensures feed { IfFeedFails result (IsFeedRead self.old.links.items (map is_some self.old.readers.items)) }
+        ensures noted { OnGoes result (length self.new.noted.items ≡ length self.old.noted.items) }
         ensures still_count { OnGoes result (self.new.count ≡ length self.new.state.cells) }
         ensures grow { self.new.grow ≡ self.old.grow }
         ensures links { self.new.links ≡ self.old.links }
+        ensures still_read { OnGoes result (map is_some self.new.readers.items
+            ≡ map is_some self.old.readers.items) }
     {
         match fire(&mut self.state, self.count, inst, action) {
             None => {
-                self.rested = false;
                 count_firing(&mut self.numbers);
                 Came::Goes
             }
@@ -153,7 +156,7 @@ impl<A: Firing> Replay<A> {
         ensures fails { LineFails A.cell F.feeds result (line.Trap inst action cause) self.old feeds.now }
         ensures no_step { OnGoes result ⊥ }
         ensures no_fault { OnFeedFails result ⊥ }
-        ensures feed { IfFeedFails result (IsFeedOf self.old.links.items) }
+        ensures feed { IfFeedFails result (IsFeedRead self.old.links.items (map is_some self.old.readers.items)) }
     {
         catch_up(&self.state, &self.links, &mut self.numbers);
         if traps(&mut self.state, self.count, inst, action, cause) {
@@ -176,11 +179,13 @@ impl<A: Firing> Replay<A> {
         ensures no_end { OnEnds result ⊥ }
         ensures no_failure { IfFails result (λ _. ⊥) }
         ensures failed { OnFeedFails result (ReadFails F.feeds feeds.old feeds.new) }
-        ensures feed { IfFeedFails result (IsFeedOf self.old.links.items) }
-        ensures rested { OnGoes result (self.new.rested ≡ true) }
+        ensures feed { IfFeedFails result (IsFeedRead self.old.links.items (map is_some self.old.readers.items)) }
+        ensures noted { OnGoes result (length self.new.noted.items ≡ length self.old.noted.items) }
         ensures still_count { OnGoes result (self.new.count ≡ length self.new.state.cells) }
         ensures grow { self.new.grow ≡ self.old.grow }
         ensures links { self.new.links ≡ self.old.links }
+        ensures still_read { OnGoes result (map is_some self.new.readers.items
+            ≡ map is_some self.old.readers.items) }
         ensures elsewhere { PullsInputs (F.feeds feeds.old) (F.feeds feeds.new) }
     {
         catch_up(&self.state, &self.links, &mut self.numbers);
@@ -193,7 +198,6 @@ impl<A: Firing> Replay<A> {
         ) {
             Ok(()) => {
                 count_delivery(&self.came, &mut self.numbers);
-                self.rested = true;
                 Came::Goes
             }
             Err(fault) => Came::FeedFails(fault.feed),
@@ -202,47 +206,45 @@ impl<A: Firing> Replay<A> {
 
     /// A line that says that a link grows.
     ///
-    /// It is judged right behind a delivery or another growth alone. Elsewhere that would take tokens that the cells
-    /// mustn't see yet if the run goes on, so it fails there, whatever is true.
-    fn grow<F: Feeds>(&mut self, link: u32, capacity: u32, feeds: &F) -> Came
-        requires ready { IsReadyToGo A.cell F.feeds self.old feeds.now }
+    /// A growth that is true fails too where more is to come from outside: cells would see it before it arrives.
+    fn grow<F: Feeds>(&mut self, link: u32, capacity: u32, feeds: &mut F) -> Came
+        requires ready { IsReadyToGo A.cell F.feeds self.old feeds.old }
         requires count { self.old.count ≡ length self.old.state.cells }
-        ensures goes { LineGoes A.cell F.feeds result (line.Grow link capacity) self.old feeds.now self.new
-            feeds.now }
-        ensures counts { LineCounts A.cell F.feeds result (line.Grow link capacity) self.old feeds.now
+        requires noted { length self.old.noted.items ≡ length self.old.links.items }
+        ensures goes { LineGoes A.cell F.feeds result (line.Grow link capacity) self.old feeds.old self.new
+            feeds.new }
+        ensures counts { LineCounts A.cell F.feeds result (line.Grow link capacity) self.old feeds.old
             self.new }
-        ensures numbers { OnGoes result (self.new.numbers ≡ self.old.numbers) }
-        ensures still_ready { OnGoes result (IsReadyToGo A.cell F.feeds self.new feeds.now) }
-        ensures fails { LineFails A.cell F.feeds result (line.Grow link capacity) self.old feeds.now }
+        ensures numbers { self.new.numbers ≡ self.old.numbers }
+        ensures still_ready { OnGoes result (IsReadyToGo A.cell F.feeds self.new feeds.new) }
+        ensures fails { LineFails A.cell F.feeds result (line.Grow link capacity) self.old feeds.old }
         ensures no_end { OnEnds result ⊥ }
-        ensures no_fault { OnFeedFails result ⊥ }
-        ensures feed { IfFeedFails result (IsFeedOf self.old.links.items) }
-        ensures rested { OnGoes result (self.new.rested ≡ true) }
+        ensures failed { OnFeedFails result (ReadFails F.feeds feeds.old feeds.new) }
+        ensures feed { IfFeedFails result (IsFeedRead self.old.links.items (map is_some self.old.readers.items)) }
+        ensures noted { OnGoes result (length self.new.noted.items ≡ length self.old.noted.items) }
         ensures still_count { OnGoes result (self.new.count ≡ length self.new.state.cells) }
         ensures grow { self.new.grow ≡ self.old.grow }
         ensures links { self.new.links ≡ self.old.links }
+        ensures still_read { OnGoes result (map is_some self.new.readers.items
+            ≡ map is_some self.old.readers.items) }
+        ensures elsewhere { PullsInputs (F.feeds feeds.old) (F.feeds feeds.new) }
     {
-        if !self.rested {
-            return Came::Fails(self.judge_late(link, capacity, feeds));
+        match grow_fed(
+            &mut self.state,
+            &self.links,
+            &mut self.readers,
+            &mut self.came,
+            &mut self.noted,
+            self.grow,
+            link,
+            capacity,
+            feeds,
+        ) {
+            Growth::Grown => Came::Goes,
+            Growth::Untrue => Came::Fails(Why::End),
+            Growth::Unfed => Came::Fails(Why::End),
+            Growth::Unread(feed) => Came::FeedFails(feed),
         }
-        if !grow_so(&mut self.state, &self.links, self.grow, link, capacity) {
-            return Came::Fails(Why::End);
-        }
-        Came::Goes
-    }
-
-    /// Why a growth fails that stands behind neither a delivery nor another growth. If something was sent inside that
-    /// hasn't arrived, no link grows; else the growth isn't judged.
-    fn judge_late<F: Feeds>(&self, link: u32, capacity: u32, feeds: &F) -> Why
-        requires ready { IsReadyToGo A.cell F.feeds self.now feeds.now }
-        requires late { self.now.rested ≡ false }
-        ensures { FailsBy self.now.grow (line.Grow link capacity)
-            (stand A.cell F.feeds self.now feeds.now) result }
-    {
-        if !is_settled(&self.state, &self.links) {
-            return Why::End;
-        }
-        Why::End
     }
 
     /// An end line but that of a trap.
@@ -255,7 +257,7 @@ impl<A: Firing> Replay<A> {
         ensures fails { LineFails A.cell F.feeds result line.now self.old feeds.old }
         ensures no_step { OnGoes result ⊥ }
         ensures failed { OnFeedFails result (ReadFails F.feeds feeds.old feeds.new) }
-        ensures feed { IfFeedFails result (IsFeedOf self.old.links.items) }
+        ensures feed { IfFeedFails result (IsFeedRead self.old.links.items (map is_some self.old.readers.items)) }
         ensures elsewhere { PullsInputs (F.feeds feeds.old) (F.feeds feeds.new) }
     {
         catch_up(&self.state, &self.links, &mut self.numbers);
@@ -278,6 +280,7 @@ impl<A: Firing> Replay<A> {
         requires ready { IsReadyToGo A.cell F.feeds self.old feeds.old }
         requires count { self.old.count ≡ length self.old.state.cells }
         requires few { AreFewCounted self.old.numbers }
+        requires noted { length self.old.noted.items ≡ length self.old.links.items }
         ensures goes { LineGoes A.cell F.feeds result line.now self.old feeds.old self.new
             feeds.new }
         ensures counts { LineCounts A.cell F.feeds result line.now self.old feeds.old self.new }
@@ -289,12 +292,14 @@ impl<A: Firing> Replay<A> {
         ensures fails { LineFails A.cell F.feeds result line.now self.old feeds.old }
         ensures goes_on { OnGoes result (is_end line.now ≡ false) }
         ensures is_end { OnEnds result (is_end line.now ≡ true) }
-        ensures rested { OnGoes result (self.new.rested ≡ is_rest line.now) }
+        ensures noted { OnGoes result (length self.new.noted.items ≡ length self.old.noted.items) }
         ensures failed { OnFeedFails result (ReadFails F.feeds feeds.old feeds.new) }
-        ensures feed { IfFeedFails result (IsFeedOf self.old.links.items) }
+        ensures feed { IfFeedFails result (IsFeedRead self.old.links.items (map is_some self.old.readers.items)) }
         ensures still_count { OnGoes result (self.new.count ≡ length self.new.state.cells) }
         ensures grow { OnGoes result (self.new.grow ≡ self.old.grow) }
         ensures links { OnGoes result (self.new.links ≡ self.old.links) }
+        ensures still_read { OnGoes result (map is_some self.new.readers.items
+            ≡ map is_some self.old.readers.items) }
         ensures elsewhere { PullsInputs (F.feeds feeds.old) (F.feeds feeds.new) }
     {
         match *line {

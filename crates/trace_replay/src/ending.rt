@@ -1,6 +1,6 @@
 //! End lines but those of traps: what is true of the network.
 
-ghost use Rattle.std.specs.Prelude.{◌≡◌, ◌<◌, ◌≤◌, true, false, IfOk, OnErr, Some, length, map, slice_get, slice_index_or, IfErr};
+ghost use Rattle.std.specs.Prelude.{◌≡◌, ◌<◌, ◌≤◌, true, false, IfOk, OnErr, Some, is_some, length, map, slice_get, slice_index_or, IfErr};
 ghost use Rattle.rvc_io.specs.Feeds.{ReadFails};
 ghost use Rattle.trace_text.specs.declared.line.Line.TheVariants.{Budget, Stall};
 ghost use Rattle.net_model.specs.Network.{is_input as begins_outside};
@@ -10,7 +10,7 @@ ghost use Rattle.net_state.specs.Surveyed.{AreSettled, AreUntrapped};
 ghost use Rattle.net_state.specs.Working.{IsAtRest};
 ghost use Rattle.trace_replay.specs.Ending.{AreUnsettled, EndsNotOn, EndsOn, IsEndOf, IsOut, MayGrow};
 ghost use Rattle.network_runner.specs.Filling.{ReadersFit};
-ghost use Rattle.trace_replay.specs.Feeding.{PullsInputs, IsFeedOf};
+ghost use Rattle.trace_replay.specs.Feeding.{PullsInputs, IsFeedRead};
 
 use crate::head::is_line;
 use crate::states::StatesOf;
@@ -135,7 +135,7 @@ pub(crate) fn ends_so<A: Firing, F: Feeds>(
     ensures no { IfOk result (λ so. so ≡ false
         → EndsNotOn A.cell F.feeds grow line.now state.old readers.old feeds.old) }
     ensures failed { OnErr result (ReadFails F.feeds feeds.old feeds.new) }
-    ensures feed { IfErr result (IsFeedOf links.now) }
+    ensures feed { IfErr result (IsFeedRead links.now (map is_some readers.old)) }
     ensures elsewhere { PullsInputs (F.feeds feeds.old) (F.feeds feeds.new) }
 {
     if !is_settled(state, links) {

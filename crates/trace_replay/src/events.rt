@@ -1,13 +1,13 @@
 //! The lines of a run, one after another up to the end line.
 
-ghost use Rattle.std.specs.Prelude.{◌≡◌, ◌≤◌, true, false, IfOk, IfErr, length};
+ghost use Rattle.std.specs.Prelude.{◌≡◌, ◌≤◌, true, false, IfOk, IfErr, is_some, length, map};
 ghost use Rattle.rvc_io.specs.Feeds.{PullsOnly, ReadFails};
 ghost use Rattle.net_model.specs.Limits.{max_instances};
 ghost use Rattle.trace_replay.specs.Between.{IsReadyToGo};
 ghost use Rattle.trace_replay.specs.Events.{EndsEvents, EndsTrace, EndsWhole, JudgesEvents, JudgesTrace};
 ghost use Rattle.trace_replay.specs.Feeding.{OnlyPulls};
 ghost use Rattle.trace_replay.specs.Head.{JudgesEnd};
-ghost use Rattle.trace_replay.specs.Reading.{IsCounted, OnReadFault, NamesFeed, NamesTrace};
+ghost use Rattle.trace_replay.specs.Reading.{IsCounted, OnReadFault, NamesRead, NamesTrace};
 ghost use Rattle.trace_replay.specs.declared.bytes.TheConstants.{TRACE_FEED};
 
 use crate::between::Replay;
@@ -34,14 +34,15 @@ pub(crate) fn read_events<A: Firing, F: Feeds>(
     requires count { replay.old.count ≡ length replay.old.state.cells }
     requires ready { IsReadyToGo A.cell F.feeds replay.old feeds.old }
     requires grow { trace.old.grow ≡ replay.old.grow }
-    requires fresh { replay.old.rested ≡ false }
+    requires noted { length replay.old.noted.items ≡ length replay.old.links.items }
     requires none_fired { replay.old.numbers.firings ≡ 0 }
     requires none_delivered { replay.old.numbers.rounds ≡ 0 }
     ensures ended { IfOk result (λ end. EndsEvents A.cell F.feeds trace.old replay.old feeds.old end
         replay.new.numbers) }
     ensures judged { IfErr result (JudgesEvents A.cell F.feeds trace.old replay.old feeds.old) }
     ensures failed { OnReadFault result (ReadFails F.feeds feeds.old feeds.new) }
-    ensures feed { IfErr result (NamesFeed replay.old.links.items) }
+    ensures feed { IfErr result (NamesRead replay.old.links.items
+        (map is_some replay.old.readers.items)) }
     ensures feeds_stay { OnlyPulls (F.feeds feeds.old) (F.feeds feeds.new) }
 {
     'lines: loop {
@@ -97,7 +98,7 @@ pub(crate) fn read_trace<A: Firing, F: Feeds>(
     requires count { replay.old.count ≡ length replay.old.state.cells }
     requires ready { IsReadyToGo A.cell F.feeds replay.old feeds.old }
     requires grow { trace.old.grow ≡ replay.old.grow }
-    requires fresh { replay.old.rested ≡ false }
+    requires noted { length replay.old.noted.items ≡ length replay.old.links.items }
     requires none_fired { replay.old.numbers.firings ≡ 0 }
     requires none_delivered { replay.old.numbers.rounds ≡ 0 }
     ensures ended { IfOk result (λ end. EndsTrace A.cell F.feeds first.now names.now trace.old
@@ -105,7 +106,8 @@ pub(crate) fn read_trace<A: Firing, F: Feeds>(
     ensures judged { IfErr result (JudgesTrace A.cell F.feeds first.now names.now trace.old replay.old
         feeds.old) }
     ensures failed { OnReadFault result (ReadFails F.feeds feeds.old feeds.new) }
-    ensures feed { IfErr result (NamesFeed replay.old.links.items) }
+    ensures feed { IfErr result (NamesRead replay.old.links.items
+        (map is_some replay.old.readers.items)) }
     ensures feeds_stay { OnlyPulls (F.feeds feeds.old) (F.feeds feeds.new) }
 {
     match read_head::<A, F>(trace, first, names, feeds) {

@@ -1,17 +1,26 @@
 //! Lines that say that a link grows.
 
-ghost use Rattle.std.specs.Prelude.{◌≡◌, true, false, Some, map, slice_get};
+ghost use Rattle.std.specs.Prelude.{◌≡◌, ◌≤◌, true, false, Some, is_some, length, map, slice_get};
+ghost use Rattle.rvc_io.specs.Feeds.{ReadFails};
+ghost use Rattle.net_model.specs.Limits.{max_links};
 ghost use Rattle.net_state.specs.Held.{HoldFew, seen};
 ghost use Rattle.net_state.specs.Moving.{SameActors, SameMarks};
 ghost use Rattle.net_state.specs.Surveyed.{AreUntrapped};
 ghost use Rattle.net_state.specs.Working.{IsAtRest};
+ghost use Rattle.network_runner.specs.Filling.{ReadersFit};
 ghost use Rattle.trace_replay.specs.Ending.{CanGrow, GrewAt, GrewNotAt, GrowsNotSo, GrowsSo, HoldEnough, IsInner};
+ghost use Rattle.trace_replay.specs.Feeding.{IsFeedRead, PullsInputs};
+ghost use Rattle.trace_replay.specs.Growing.{GrowsOn, IfUnread, NoTokenCame, SomeCame, StillFitsOn};
 
-use crate::ending::{is_input, may_grow};
+use crate::ending::{is_input, is_settled, may_grow};
+use crate::growth::Growth;
 use crate::states::StatesOf;
 use net_model::{End, Firing, Link, stalled_in_one_place};
-use net_state::{NetState, Outlook};
+use net_state::{Filled, NetState, Outlook};
+use network_runner::deliver_all;
+use port_files::TokenFeed;
 use rvc_base::LinkId;
+use rvc_io::Feeds;
 
 /// Whether a link leads from a cell to a cell.
 fn is_inner(link: &Link) -> bool
@@ -101,4 +110,67 @@ pub(crate) fn grow_so<A: Firing>(
         Outlook::Quiet => false,
         Outlook::Going => false,
     }
+}
+
+/// Whether a token came over some link.
+fn any_came(came: &[Filled]) -> bool
+    ensures some { result ≡ true → SomeCame came.now }
+    ensures none { result ≡ false → NoTokenCame came.now }
+{
+    for l in 0..came.len() {
+        if came[l].tokens != 0 {
+            return true;
+        }
+    }
+    false
+}
+
+/// Lets a link grow as a line says, if the network is stalled there and the link grows so, with all that is left of the
+/// feeds counted as arrived. So links are filled for it. If a token came so, the run can't go on, since cells would see
+/// it; else the rooms are those of the last delivery again, which `noted` holds meanwhile.
+pub(crate) fn grow_fed<A: Firing, F: Feeds>(
+    state: &mut NetState<A>,
+    links: &[Link],
+    readers: &mut [Option<TokenFeed>],
+    came: &mut [Filled],
+    noted: &mut [u32],
+    grow: u32,
+    link: u32,
+    capacity: u32,
+    feeds: &mut F,
+) -> Growth
+    requires links { state.old.links ≡ links.now }
+    requires few { length links.now ≤ max_links }
+    requires queues { CanGrow grow (map A.cell state.old.cells) links.now }
+    requires enough { HoldEnough links.now state.old.capacities }
+    requires few_held { HoldFew state.old.capacities }
+    requires untrapped { AreUntrapped (map A.cell state.old.cells) }
+    requires readers { ReadersFit links.now readers.old (F.feeds feeds.old) }
+    requires as_many { length came.old ≡ length links.now }
+    requires as_many_noted { length noted.old ≡ length links.now }
+    ensures growth { GrowsOn A.cell F.feeds grow link capacity state.old readers.old feeds.old
+        state.new readers.new feeds.new result }
+    ensures still_fits { StillFitsOn A.cell F.feeds links.now state.old state.new readers.new
+        feeds.new result }
+    ensures failed { IfUnread result (λ _. ReadFails F.feeds feeds.old feeds.new) }
+    ensures feed { IfUnread result (IsFeedRead links.now (map is_some readers.old)) }
+    ensures still_there { map is_some readers.new ≡ map is_some readers.old }
+    ensures elsewhere { PullsInputs (F.feeds feeds.old) (F.feeds feeds.new) }
+{
+    if !is_settled(state, links) {
+        return Growth::Untrue;
+    }
+    state.note_waited(noted);
+    match deliver_all(state, links, readers, feeds, came) {
+        Ok(()) => {}
+        Err(fault) => return Growth::Unread(fault.feed),
+    }
+    if !grow_so(state, links, grow, link, capacity) {
+        return Growth::Untrue;
+    }
+    if any_came(came) {
+        return Growth::Unfed;
+    }
+    state.reopen(noted);
+    Growth::Grown
 }

@@ -11,6 +11,7 @@ mod counting;
 mod ending;
 mod events;
 mod growing;
+mod growth;
 mod head;
 mod laws;
 mod reading;

@@ -29,9 +29,10 @@ use trace_text::text_tells_lines;
 ///
 /// # Errors
 ///
-/// `NotRun` if no run has a line with the lines before it, with its number and why (`refused`); or if it says that a
-/// link grows and stands right behind neither a delivery nor another growth, with `End`. `ReadFault` if bytes couldn't
-/// be pulled from the trace or from the feed of an input link (`failed`, `feed`). `Memory` if memory runs out.
+/// `NotRun` if no run has a line with the lines before it, with its number and why (`refused`); or, with `End`, if it says
+/// that a link grows, which is true, but stands behind a firing that made room on an input link, and more of its feed is
+/// to come. `ReadFault` if bytes couldn't be pulled from the trace or from the feed of an input link (`failed`, `feed`).
+/// `Memory` if memory runs out.
 pub fn replay<A: Firing, F: Feeds>(
     alloc: Global,
     cells: Vec<A>,
@@ -47,7 +48,7 @@ pub fn replay<A: Firing, F: Feeds>(
     ensures refused { IfErr result (RefusesOn A.cell F.feeds cells.items wiring grow names.now
         feeds.old) }
     ensures failed { OnReadFault result (ReadFails F.feeds feeds.old feeds.new) }
-    ensures feed { IfErr result (NamesFeed wiring.links.items) }
+    ensures feed { IfErr result (NamesFeed wiring.links.items wiring.open_ins.items) }
     ensures feeds_stay { OnlyPulls (F.feeds feeds.old) (F.feeds feeds.new) }
 {
     ready_networks_can_work::<StatesOf<A>>();

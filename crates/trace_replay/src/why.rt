@@ -13,8 +13,8 @@ pub enum Why {
     NoRoom,
     /// The action traps; or a trap that the line names doesn't come.
     Trap,
-    /// What the line says of the state isn't true; or it says that a link grows and isn't judged, since it stands right
-    /// behind neither a delivery nor another growth.
+    /// What the line says of the state isn't true; or it says that a link grows, which is true, but stands behind a firing
+    /// that made room on an input link, and more of its feed is to come.
     End,
     /// It stands behind an end line.
     After,

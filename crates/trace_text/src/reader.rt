@@ -95,6 +95,3 @@ fn answer(place: Place) -> Step2
         _ => Step2::More,
     }
 }
-
-#[cfg(test)]
-mod tests;

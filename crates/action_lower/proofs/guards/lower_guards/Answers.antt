@@ -1,5 +1,5 @@
 use Rattle.std.specs.Prelude.{OnOk}
-use Rattle.std.proofs.Common.{◌≡◌, ◌∙◌, None, ap, map, subst, sym}
+use Rattle.std.proofs.Common.{◌≡◌, ◌∙◌, None, ap, arith, map, subst, sym}
 use Rattle.std.proofs.lemmas.Result.{IfErr-weaker, IfOk-weaker}
 use Rattle.cal_ast.specs.View.{expr_tree}
 use Rattle.cal_model.specs.View.{action_view, actor_of}
@@ -25,17 +25,20 @@ seen_names-requires-clause-few c = few-taken c.args.b.now c.args.a c.from.result
 pub put_guards-requires : goal.put_guards-requires
 put_guards-requires c =
     let names : names_view c.deref.result.now ≡ seen_seats (actor_of c.args.b.now) (action_view c.index-act.result.now) = ap names_view c.deref.ensures.value ∙ c.in_ok-names.ensures in
-    record { below = subst (AreBelow c.args.draft.now.cells) (sym names) (seen-below c.args.draft.now.cells (actor_of c.args.b.now) (action_view c.index-act.result.now) c.requires.cells) }
+    record {
+      below = subst (AreBelow c.args.draft.now.cells) (sym names) (seen-below c.args.draft.now.cells (actor_of c.args.b.now) (action_view c.index-act.result.now) c.requires.cells);
+      clears = λ kept e. let same = c.requires.clears kept e in let le = c.requires.cells in omega (arith, same, le);
+    }
 
 pub returns-clause-code : goal.returns-clause-code
 returns-clause-code c =
     let names : names_view c.deref.result.now ≡ seen_seats (actor_of c.args.b.now) (action_view c.index-act.result.now) = ap names_view c.deref.ensures.value ∙ c.in_ok-names.ensures in
     let guards : map expr_tree c.deref-2.result.now ≡ (action_view c.index-act.result.now).guards = ap (map expr_tree) c.deref-2.ensures.value in
     IfOk-weaker c.put_guards.result
-    (λ entries. Adds (AreGuards (functions_view c.args.callees.now) (names_view c.deref.result.now) (map expr_tree c.deref-2.result.now) entries.items) c.args.draft.now c.put_guards.new.draft)
-    (λ entries. AddsGuards (functions_view c.args.callees.now) (actor_of c.args.b.now) c.args.a entries.items c.args.draft.now c.put_guards.new.draft)
+    (λ entries. Adds (AreGuards c.args.clears (functions_view c.args.callees.now) (names_view c.deref.result.now) (map expr_tree c.deref-2.result.now) entries.items) c.args.draft.now c.put_guards.new.draft)
+    (λ entries. AddsGuards c.args.clears (functions_view c.args.callees.now) (actor_of c.args.b.now) c.args.a entries.items c.args.draft.now c.put_guards.new.draft)
     (λ entries. adds-guards c.args.b.now c.args.a c.from.result c.index-act.result.now c.from.ensures c.requires.action c.index-act.ensures
-    (functions_view c.args.callees.now) (names_view c.deref.result.now) (map expr_tree c.deref-2.result.now) names guards entries.items c.args.draft.now c.put_guards.new.draft)
+    (functions_view c.args.callees.now) (names_view c.deref.result.now) (map expr_tree c.deref-2.result.now) names guards c.args.clears entries.items c.args.draft.now c.put_guards.new.draft)
     c.put_guards.ensures.code
 
 pub returns-clause-answers : goal.returns-clause-answers
@@ -43,11 +46,11 @@ returns-clause-answers c =
     let names : names_view c.deref.result.now ≡ seen_seats (actor_of c.args.b.now) (action_view c.index-act.result.now) = ap names_view c.deref.ensures.value ∙ c.in_ok-names.ensures in
     let guards : map expr_tree c.deref-2.result.now ≡ (action_view c.index-act.result.now).guards = ap (map expr_tree) c.deref-2.ensures.value in
     IfOk-weaker c.put_guards.result
-    (λ entries. Adds (AreGuards (functions_view c.args.callees.now) (names_view c.deref.result.now) (map expr_tree c.deref-2.result.now) entries.items) c.args.draft.now c.put_guards.new.draft)
+    (λ entries. Adds (AreGuards c.args.clears (functions_view c.args.callees.now) (names_view c.deref.result.now) (map expr_tree c.deref-2.result.now) entries.items) c.args.draft.now c.put_guards.new.draft)
     (λ entries. AnswerAsGuards (functions_view c.args.callees.now) (actor_of c.args.b.now) c.args.a entries.items c.args.draft.now c.put_guards.new.draft)
-    (λ entries added act code more is whole. answer-as-guards c.actions_fire_or_trap.ensures.guards (functions_view c.args.callees.now) (actor_of c.args.b.now) c.args.a act code entries.items more c.args.draft.now c.put_guards.new.draft c.requires.sound is c.requires.cells
+    (λ entries added act code more is whole. answer-as-guards c.actions_fire_or_trap.ensures.guards (functions_view c.args.callees.now) (actor_of c.args.b.now) c.args.a act code entries.items more c.args.draft.now c.put_guards.new.draft c.requires.sound is c.requires.cells c.args.clears c.requires.clears
     (adds-guards c.args.b.now c.args.a c.from.result c.index-act.result.now c.from.ensures c.requires.action c.index-act.ensures
-    (functions_view c.args.callees.now) (names_view c.deref.result.now) (map expr_tree c.deref-2.result.now) names guards entries.items c.args.draft.now c.put_guards.new.draft added act is) whole)
+    (functions_view c.args.callees.now) (names_view c.deref.result.now) (map expr_tree c.deref-2.result.now) names guards c.args.clears entries.items c.args.draft.now c.put_guards.new.draft added act is) whole)
     c.put_guards.ensures.code
 
 pub returns-clause-whole : goal.returns-clause-whole

@@ -11,12 +11,12 @@ use Rattle.action_lower.proofs.guards.put_guards.Goals as goal
 pub loop-guard-init : goal.loop-guard-init
 loop-guard-init c =
     let none : c.new-entries.result.items ≡ [] = search rules in
-    subst (λ es. AreAdded (functions_view c.args.callees.now) (names_view c.args.names.now) [] es c.args.draft.now c.args.draft.now) (sym none)
-    (none-added (functions_view c.args.callees.now) (names_view c.args.names.now) c.args.draft.now c.requires.below)
+    subst (λ es. AreAdded c.args.clears (functions_view c.args.callees.now) (names_view c.args.names.now) [] es c.args.draft.now c.args.draft.now) (sym none)
+    (none-added c.args.clears (functions_view c.args.callees.now) (names_view c.args.names.now) c.args.draft.now c.requires.below c.requires.clears)
 
 pub loop-guard-preserved : goal.loop-guard-preserved
 loop-guard-preserved c =
-    more-added expr_tree (functions_view c.args.callees.now) (names_view c.args.names.now) c.args.guards.now c.guard-item.result c.loop-guard.guard-index c.loop-guard.entries.items c.push.new.self.items c.in_ok-entry.entry
+    more-added expr_tree c.args.clears (functions_view c.args.callees.now) (names_view c.args.names.now) c.args.guards.now c.guard-item.result c.loop-guard.guard-index c.loop-guard.entries.items c.push.new.self.items c.in_ok-entry.entry
     c.args.draft.now c.loop-guard.draft c.put_guard.new.draft c.loop-guard-test.true c.guard-item.is c.loop-guard.invariant c.in_ok-entry.ensures.code c.in_ok-entry.ensures.whole c.in_ok-push.ensures.items
 
 pub returns-in_err-entry-clause-fault : goal.returns-in_err-entry-clause-fault

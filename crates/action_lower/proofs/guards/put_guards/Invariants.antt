@@ -6,4 +6,4 @@ use Rattle.action_lower.proofs.GuardCode.{AreAdded}
 use Rattle.action_lower.proofs.guards.put_guards.Given as goal
 
 abbrev pub invariant-loop-guard : goal.invariant-loop-guard
-invariant-loop-guard l = AreAdded (functions_view l.callees) (names_view l.names) (map expr_tree (take l.guard-index l.guards)) l.entries.items l.initial.draft l.draft
+invariant-loop-guard l = AreAdded l.clears (functions_view l.callees) (names_view l.names) (map expr_tree (take l.guard-index l.guards)) l.entries.items l.initial.draft l.draft

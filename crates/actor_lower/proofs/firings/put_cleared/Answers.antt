@@ -3,7 +3,8 @@ use Rattle.cal_model.specs.View.{actor_of}
 use Rattle.code_ir.specs.declared.instr.Instr.TheVariants as op
 use Rattle.stmt_lower.specs.Procedures.{routines_of}
 use Rattle.actor_lower.specs.Coded.{IsMore}
-use Rattle.actor_lower.specs.Drafted.{SetsZero}
+use Rattle.action_lower.specs.GuardWords.{SetsZero}
+use Rattle.actor_lower.proofs.ClearedMade.{firing-from}
 use Rattle.actor_lower.proofs.Cleared.{cleared-bodies, cleared-fires, cleared-more}
 use Rattle.actor_lower.proofs.Inside.{firing-inside}
 use Rattle.actor_lower.proofs.Placed.{action-there, firing-grown}
@@ -57,3 +58,17 @@ returns-clause-more c =
     c.clear_at.new.draft c.requires.sound c.requires.served c.in_ok-entry.ensures.place c.in_ok-put.ensures.added.is c.in_ok-put.ensures.added.routines c.in_ok-put.ensures.added.cells (refl, c.in_ok-firing.ensures.code.1) c.in_ok-firing.ensures.fired
     (subst (λ k. SetsZero c.lower_firing.new.draft.instrs.items c.clear_at.new.draft.instrs.items c.in_ok-entry.entry k c.lower_firing.new.draft.cells) c.requires.kept c.clear_at.ensures.clears) c.clear_at.ensures.routines
     c.clear_at.ensures.cells there.0 there.1
+
+pub returns-clause-cleared : goal.returns-clause-cleared
+returns-clause-cleared c =
+    let there = action-there c.args.b.now c.args.action c.requires.action in
+    firing-from (actor_of c.args.b.now) c.args.action (routines_of c.args.callees.now c.args.procedures.now) c.in_ok-entry.entry c.in_ok-firing.firing.firsts.items c.args.draft.now c.put.new.draft c.lower_firing.new.draft
+    c.clear_at.new.draft c.requires.sound c.requires.served c.in_ok-entry.ensures.place c.in_ok-put.ensures.added.is c.in_ok-put.ensures.added.routines c.in_ok-put.ensures.added.cells (refl, c.in_ok-firing.ensures.code.1)
+    (subst (λ k. SetsZero c.lower_firing.new.draft.instrs.items c.clear_at.new.draft.instrs.items c.in_ok-entry.entry k c.lower_firing.new.draft.cells) c.requires.kept c.clear_at.ensures.clears) c.clear_at.ensures.routines
+    c.clear_at.ensures.cells
+    (λ act port e.
+    let inside =
+    firing-inside (routines_of c.args.callees.now c.args.procedures.now) (actor_of c.args.b.now) c.args.action c.in_ok-firing.firing.entry c.in_ok-firing.firing.firsts.items c.put.new.draft c.lower_firing.new.draft
+    c.in_ok-firing.ensures.code act port e in
+    let same = c.clear_at.ensures.cells in
+    omega (arith, inside, same)) there.0 there.1

@@ -7,7 +7,7 @@ use Rattle.lowered_actor.specs.Facts.{Fits}
 use Rattle.lowered_actor.proofs.Loops.{all-one-more, all-whole, mapped-at}
 use Rattle.lowered_actor.proofs.Running.{all-at}
 use Rattle.kept_facts.specs.Fitting.{AreRoutines, HasBodies}
-use Rattle.kept_facts.proofs.Whole.{run-right}
+use Rattle.kept_facts.proofs.Whole.{all-spans, run-right}
 use Rattle.kept_facts.proofs.keeping.keep_facts.Goals as goal
 
 pub keeps_action-requires-clause-fits : goal.keeps_action-requires-clause-fits
@@ -33,6 +33,7 @@ loop-action-preserved c =
 pub returns-clause-right : goal.returns-clause-right
 returns-clause-right c = λ done.
     run-right (actor_of c.args.parts.now) c.has_one_end.ensures.once
+    (all-spans (actor_of c.args.parts.now)
     (All-map (HasBodies (actor_of c.args.parts.now)) action_of c.args.parts.now.actions.items
     (all-whole (λ a. HasBodies (actor_of c.args.parts.now) (action_of a)) c.args.parts.now.actions.items c.loop-action.action-index
-    (subst (λ (l : List ActionCode). length l ≤ c.loop-action.action-index) c.deref-action-items.ensures.value c.loop-action-test.false) c.loop-action.invariant))
+    (subst (λ (l : List ActionCode). length l ≤ c.loop-action.action-index) c.deref-action-items.ensures.value c.loop-action-test.false) c.loop-action.invariant)))

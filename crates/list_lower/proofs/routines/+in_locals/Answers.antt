@@ -1,57 +1,53 @@
-use Rattle.std.proofs.Common.{◌≡◌, ◌∷◌, None, Some, map, rules, subst, sym}
+use Rattle.std.proofs.Common.{◌≡◌, ◌∷◌, None, map, rules, subst, sym}
 use Rattle.std.specs.Prelude.{IfErr, OnOk}
 use Rattle.std.proofs.lemmas.Result.{on_ok_weaker}
 use Rattle.cal_ast.specs.View.{expr_tree}
 use Rattle.cal_model.specs.Actor.{Local}
 use Rattle.cal_model.specs.View.{local_view}
-use Rattle.cal_model.specs.declared.kind.Shape as shapes
 use Rattle.expr_lower.specs.declared.scope.Frame as chain
 use Rattle.expr_lower.specs.Growing.{IsFault}
-use Rattle.expr_lower.specs.Listed.{single_of}
 use Rattle.expr_lower.specs.Lowered.{Adds}
-use Rattle.expr_lower.specs.Names.{local}
+use Rattle.expr_lower.specs.Names.{local_of}
 use Rattle.expr_lower.specs.Routining.{IsBody, left_out_body}
 use Rattle.expr_lower.specs.Seen.{called, seen}
-use Rattle.expr_lower.proofs.AddingRoutines.{local_adds, local_open}
+use Rattle.expr_lower.proofs.AddingRoutines.{local_open}
+use Rattle.list_lower.proofs.AddingFunctions.{local_adds}
 use Rattle.list_lower.proofs.routines.+in_locals.Goals as goal
 
 pub returns-clause-ok : goal.returns-clause-ok
 returns-clause-ok t c =
     let x : Local = local_view c.in-Some.first.now in
     let opened : map local_view c.args.locals.now ≡ x ∷ map local_view c.in-Some.rest.now = search rules in
-    let kind : single_of x.shape ≡ Some c.in-Some-single.kind = sym c.in-Some-single.ensures in
-    let inner : seen c.under-inner.result ≡ local x.name c.in-Some-single.kind c.in_ok-cell.cell ∷ seen c.args.scope.now = search (rules, chain.the_lemmas, shapes.the_lemmas) in
+    let inner : seen c.under-inner.result ≡ local_of x.name x.shape c.in_ok-cell.cell ∷ seen c.args.scope.now = search (rules, chain.the_lemmas) in
     on_ok_weaker c.in_locals.result
     (λ h. subst (λ xs. Adds (IsBody (called c.args.scope.now) c.args.f.now.result (expr_tree c.args.f.now.body) (seen c.args.scope.now) xs) c.args.draft.now c.in_locals.new.draft) (sym opened)
-    (local_adds (seen c.args.scope.now) c.args.f.now.result (expr_tree c.args.f.now.body) x (map local_view c.in-Some.rest.now) c.in-Some-single.kind c.in_ok-cell.cell c.args.draft.now c.take_cell.new.draft c.start.new.draft c.in_locals.new.draft kind c.in_ok-cell.ensures.taken c.in_ok-start.ensures.ok
-    (subst (λ fs. Adds (IsBody fs c.args.f.now.result (expr_tree c.args.f.now.body) (local x.name c.in-Some-single.kind c.in_ok-cell.cell ∷ seen c.args.scope.now) (map local_view c.in-Some.rest.now)) c.start.new.draft c.in_locals.new.draft) c.under-inner.ensures.callees
-    (subst (λ ns. Adds (IsBody (called c.under-inner.result) c.args.f.now.result (expr_tree c.args.f.now.body) ns (map local_view c.in-Some.rest.now)) c.start.new.draft c.in_locals.new.draft) inner h))))
+    (local_adds (seen c.args.scope.now) c.args.f.now.result (expr_tree c.args.f.now.body) x (map local_view c.in-Some.rest.now) c.in_ok-cell.cell c.args.draft.now c.start_local.new.draft c.in_locals.new.draft c.in_ok-cell.ensures.cell c.in_ok-cell.ensures.ok
+    (subst (λ fs. Adds (IsBody fs c.args.f.now.result (expr_tree c.args.f.now.body) (local_of x.name x.shape c.in_ok-cell.cell ∷ seen c.args.scope.now) (map local_view c.in-Some.rest.now)) c.start_local.new.draft c.in_locals.new.draft) c.under-inner.ensures.callees
+    (subst (λ ns. Adds (IsBody (called c.under-inner.result) c.args.f.now.result (expr_tree c.args.f.now.body) ns (map local_view c.in-Some.rest.now)) c.start_local.new.draft c.in_locals.new.draft) inner h))))
     c.in_locals.ensures.ok
 
 pub returns-clause-whole : goal.returns-clause-whole
 returns-clause-whole t c =
     let x : Local = local_view c.in-Some.first.now in
     let opened : map local_view c.args.locals.now ≡ x ∷ map local_view c.in-Some.rest.now = search rules in
-    let kind : single_of x.shape ≡ Some c.in-Some-single.kind = sym c.in-Some-single.ensures in
-    let inner : seen c.under-inner.result ≡ local x.name c.in-Some-single.kind c.in_ok-cell.cell ∷ seen c.args.scope.now = search (rules, chain.the_lemmas, shapes.the_lemmas) in
+    let inner : seen c.under-inner.result ≡ local_of x.name x.shape c.in_ok-cell.cell ∷ seen c.args.scope.now = search (rules, chain.the_lemmas) in
     let same : left_out_body (called c.args.scope.now) (seen c.args.scope.now) (x ∷ map local_view c.in-Some.rest.now) (expr_tree c.args.f.now.body)
-    ≡ left_out_body (called c.args.scope.now) (local x.name c.in-Some-single.kind c.in_ok-cell.cell ∷ seen c.args.scope.now) (map local_view c.in-Some.rest.now) (expr_tree c.args.f.now.body) =
-    local_open (called c.args.scope.now) (seen c.args.scope.now) x (map local_view c.in-Some.rest.now) (expr_tree c.args.f.now.body) c.in-Some-single.kind c.in_ok-cell.cell kind c.in_ok-start.ensures.whole in
+    ≡ left_out_body (called c.args.scope.now) (local_of x.name x.shape c.in_ok-cell.cell ∷ seen c.args.scope.now) (map local_view c.in-Some.rest.now) (expr_tree c.args.f.now.body) =
+    local_open (called c.args.scope.now) (seen c.args.scope.now) x (map local_view c.in-Some.rest.now) (expr_tree c.args.f.now.body) c.in_ok-cell.cell c.in_ok-cell.ensures.whole in
     subst (λ xs. OnOk c.in_locals.result (left_out_body (called c.args.scope.now) (seen c.args.scope.now) xs (expr_tree c.args.f.now.body) ≡ None)) (sym opened)
     (subst (λ o. OnOk c.in_locals.result (o ≡ None)) (sym same)
-    (subst (λ fs. OnOk c.in_locals.result (left_out_body fs (local x.name c.in-Some-single.kind c.in_ok-cell.cell ∷ seen c.args.scope.now) (map local_view c.in-Some.rest.now) (expr_tree c.args.f.now.body) ≡ None)) c.under-inner.ensures.callees
+    (subst (λ fs. OnOk c.in_locals.result (left_out_body fs (local_of x.name x.shape c.in_ok-cell.cell ∷ seen c.args.scope.now) (map local_view c.in-Some.rest.now) (expr_tree c.args.f.now.body) ≡ None)) c.under-inner.ensures.callees
     (subst (λ ns. OnOk c.in_locals.result (left_out_body (called c.under-inner.result) ns (map local_view c.in-Some.rest.now) (expr_tree c.args.f.now.body) ≡ None)) inner c.in_locals.ensures.whole)))
 
 pub returns-clause-fault : goal.returns-clause-fault
 returns-clause-fault t c =
     let x : Local = local_view c.in-Some.first.now in
     let opened : map local_view c.args.locals.now ≡ x ∷ map local_view c.in-Some.rest.now = search rules in
-    let kind : single_of x.shape ≡ Some c.in-Some-single.kind = sym c.in-Some-single.ensures in
-    let inner : seen c.under-inner.result ≡ local x.name c.in-Some-single.kind c.in_ok-cell.cell ∷ seen c.args.scope.now = search (rules, chain.the_lemmas, shapes.the_lemmas) in
+    let inner : seen c.under-inner.result ≡ local_of x.name x.shape c.in_ok-cell.cell ∷ seen c.args.scope.now = search (rules, chain.the_lemmas) in
     let same : left_out_body (called c.args.scope.now) (seen c.args.scope.now) (x ∷ map local_view c.in-Some.rest.now) (expr_tree c.args.f.now.body)
-    ≡ left_out_body (called c.args.scope.now) (local x.name c.in-Some-single.kind c.in_ok-cell.cell ∷ seen c.args.scope.now) (map local_view c.in-Some.rest.now) (expr_tree c.args.f.now.body) =
-    local_open (called c.args.scope.now) (seen c.args.scope.now) x (map local_view c.in-Some.rest.now) (expr_tree c.args.f.now.body) c.in-Some-single.kind c.in_ok-cell.cell kind c.in_ok-start.ensures.whole in
+    ≡ left_out_body (called c.args.scope.now) (local_of x.name x.shape c.in_ok-cell.cell ∷ seen c.args.scope.now) (map local_view c.in-Some.rest.now) (expr_tree c.args.f.now.body) =
+    local_open (called c.args.scope.now) (seen c.args.scope.now) x (map local_view c.in-Some.rest.now) (expr_tree c.args.f.now.body) c.in_ok-cell.cell c.in_ok-cell.ensures.whole in
     subst (λ xs. IfErr c.in_locals.result (IsFault (left_out_body (called c.args.scope.now) (seen c.args.scope.now) xs (expr_tree c.args.f.now.body)) c.in_locals.new.draft)) (sym opened)
     (subst (λ o. IfErr c.in_locals.result (IsFault o c.in_locals.new.draft)) (sym same)
-    (subst (λ fs. IfErr c.in_locals.result (IsFault (left_out_body fs (local x.name c.in-Some-single.kind c.in_ok-cell.cell ∷ seen c.args.scope.now) (map local_view c.in-Some.rest.now) (expr_tree c.args.f.now.body)) c.in_locals.new.draft)) c.under-inner.ensures.callees
+    (subst (λ fs. IfErr c.in_locals.result (IsFault (left_out_body fs (local_of x.name x.shape c.in_ok-cell.cell ∷ seen c.args.scope.now) (map local_view c.in-Some.rest.now) (expr_tree c.args.f.now.body)) c.in_locals.new.draft)) c.under-inner.ensures.callees
     (subst (λ ns. IfErr c.in_locals.result (IsFault (left_out_body (called c.under-inner.result) ns (map local_view c.in-Some.rest.now) (expr_tree c.args.f.now.body)) c.in_locals.new.draft)) inner c.in_locals.ensures.fault)))

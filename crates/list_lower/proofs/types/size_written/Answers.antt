@@ -1,7 +1,7 @@
 use Rattle.std.proofs.Common.{map, sym, arith}
 use Rattle.std.proofs.lemmas.List.{length-map}
 use Rattle.cal_ast.specs.View.{type_arg_tree}
-use Rattle.list_lower.proofs.MeantIs.{many_args}
+use Rattle.expr_lower.proofs.MeantIs.{many_args}
 use Rattle.list_lower.proofs.types.size_written.Goals as goal
 
 pub returns-in_default : goal.returns-in_default

@@ -21,6 +21,7 @@ returns g c = rw c.in-Leaf.is (record {
   filled = c.fill_port.ensures.filled;
   within = c.fill_port.ensures.within;
   failed = c.fill_port.ensures.failed;
+  due = c.fill_port.ensures.due;
   kind = c.fill_port.ensures.kind;
   same_rest = c.fill_port.ensures.same_rest;
   still_same_feed = c.fill_port.ensures.still_same_feed;

@@ -68,6 +68,7 @@ returns-in-End g c = record {
   );
   within = c.loop-tokens.invariant.0.room;
   failed = tt;
+  due = tt;
   kind = c.in-End.ensures.kind ∙ c.loop-tokens.invariant.0.same_kind;
   same_rest = rest_same c.args.tokens.now.kind (coming_on c.args.tokens.now.pulled (g.F.Feeds.feeds c.args.feeds.now) c.args.feed)
       (coming_on c.loop-tokens.tokens.pulled (g.F.Feeds.feeds c.loop-tokens.feeds) c.args.feed)
@@ -92,6 +93,10 @@ returns-in-Failed g c = record {
   within = c.loop-tokens.invariant.0.room;
   failed = risen_after (g.F.Feeds.feeds c.args.feeds.now).faults (g.F.Feeds.feeds c.loop-tokens.feeds).faults (g.F.Feeds.feeds c.next.new.feeds).faults
       c.loop-tokens.invariant.2.faults_stay c.in-Failed.ensures.failed;
+  due = record {
+    unfilled = omega (arith, c.held_at.ensures, c.loop-tokens-test.true);
+    short = c.in-Failed.ensures.failed_short;
+  };
   kind = c.in-Failed.ensures.kind ∙ c.loop-tokens.invariant.0.same_kind;
   same_rest = rest_same c.args.tokens.now.kind (coming_on c.args.tokens.now.pulled (g.F.Feeds.feeds c.args.feeds.now) c.args.feed)
       (coming_on c.loop-tokens.tokens.pulled (g.F.Feeds.feeds c.loop-tokens.feeds) c.args.feed)
@@ -109,6 +114,7 @@ returns g c =
       filled = omega (arith, most, c.held_at.ensures, c.loop-tokens-test.false);
       within = c.loop-tokens.invariant.0.room;
       failed = tt;
+      due = tt;
       kind = c.loop-tokens.invariant.0.same_kind;
       same_rest = c.loop-tokens.invariant.0.rest;
       still_same_feed = c.loop-tokens.invariant.1;

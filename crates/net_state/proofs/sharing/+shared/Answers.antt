@@ -1,6 +1,7 @@
 use Rattle.std.proofs.Common.{rules, ◌*◌, ◌+◌, ◌≤◌, map, take, drop, vec_items, sym, ap, ◌∙◌}
 use Rattle.net_model.specs.Paced.{count_picked}
 use Rattle.net_state.specs.Sharing.{EachBursts, share_of}
+use Rattle.net_state.proofs.Arriving.{arrived_both}
 use Rattle.net_state.proofs.Shared.{both_few, both_halves}
 use Rattle.net_state.proofs.sharing.+shared.Goals as goal
 
@@ -19,3 +20,8 @@ burst_halves-returns-clause-few g t c =
     let low : c.burst_both.result.1.fired ≤ 65536 * count_picked (take cut c.args.marks.now) = search rules in
     let high : c.burst_both.result.0.fired ≤ 65536 * count_picked (drop cut c.args.marks.now) = search rules in
     both_few c.args.marks.now cut c.burst_both.result.1.fired c.burst_both.result.0.fired low high
+
+pub burst_halves-returns-clause-arrived : goal.burst_halves-returns-clause-arrived
+burst_halves-returns-clause-arrived g t c =
+    arrived_both (g.G.Gate.arrived c.args.gate.now) c.args.crew c.crew_halves.result.0 c.crew_halves.result.1 c.crew_halves.ensures.low_begins c.crew_halves.ensures.high_begins
+    c.crew_halves.ensures.rounds c.crew_halves.ensures.all c.burst_both.ensures.low_arrived c.burst_both.ensures.high_arrived

@@ -1,13 +1,15 @@
-use Rattle.std.proofs.Common.{map, string_bytes, subst}
+use Rattle.std.proofs.Common.{length, map, string_bytes, subst}
+use Rattle.std.proofs.lemmas.List.{length-map}
 use Rattle.std.specs.Prelude.{Err}
 use Rattle.rvc_words.specs.Words.{port_text}
 use Rattle.net_model.specs.declared.wiring.Counts.{Counts}
 use Rattle.port_words.specs.Matching.{names_of}
+use Rattle.network_job.specs.Arriving.{ArriveInEach}
 use Rattle.network_job.specs.Network.{plan_of}
 use Rattle.network_job.specs.Preparing.{Starts, TakesOver, WritesHead}
 use Rattle.network_job.proofs.Begun.{channels_fit, feeds_fit, is_caused, wrote_faults, writes_all}
 use Rattle.network_job.proofs.Kept.{opens_all, opens_then}
-use Rattle.network_job.proofs.Finished.{leaves_run, leaves_unstarted, unstarted_channels, unstarted_feeds}
+use Rattle.network_job.proofs.Finished.{arrives_run, leaves_run, leaves_unstarted, unstarted_channels, unstarted_feeds}
 use Rattle.network_job.proofs.running.run_by.Goals as goal
 
 pub returns-in-Err-start-clause-leaves : goal.returns-in-Err-start-clause-leaves
@@ -77,3 +79,12 @@ returns-clause-other_channels g c =
     writes_all g.A.Firing.cell (map g.A.Firing.cell c.args.cells.items) c.args.flat.now (map port_text c.args.job.now.ports.items) (plan_of c.args.job.now) (g.P.Policy.kind c.args.policy)
     c.in-Ok.prepared.runner c.in-Ok.prepared.head.items c.in-Ok.prepared.counts c.in-Ok.ensures.prepared
     (string_bytes c.args.job.now.trace) (g.D.Drains.channels c.args.drains.now) (g.D.Drains.channels c.start.new.drains) (g.D.Drains.channels c.run-end.new.drains) written c.run-end.ensures.others
+
+pub returns-clause-arrive : goal.returns-clause-arrive
+returns-clause-arrive g c =
+    let arrived = g.G.Gate.arrived c.args.gate.now in
+    subst (λ n. ArriveInEach arrived c.args.job.now n c.take_over.new.into) (length-map c.args.cells.items g.A.Firing.cell)
+    (arrives_run g.A.Firing.cell (map g.A.Firing.cell c.args.cells.items) c.args.flat.now c.args.job.now (g.P.Policy.kind c.args.policy) c.requires.kind
+    c.in-Ok.prepared.runner c.in-Ok.prepared.head.items c.in-Ok.prepared.counts c.in-Ok.ensures.prepared arrived c.run-end.new.self c.take_over.new.into
+    (c.run-end.ensures.arrive c.in-Ok.ensures.prepared.begins.going)
+    (subst (λ (counts : Counts). TakesOver counts c.in-Ok.prepared.counts c.take_over.new.into) c.counts.ensures c.take_over.ensures))

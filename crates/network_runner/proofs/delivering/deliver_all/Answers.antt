@@ -1,8 +1,9 @@
-use Rattle.std.proofs.Common.{map}
+use Rattle.std.proofs.Common.{map, sym, ◌∙◌}
 use Rattle.net_state.specs.Held.{seen}
 use Rattle.net_state.proofs.Kept.{same_then}
 use Rattle.network_runner.proofs.Delivered.{delivers_so}
 use Rattle.network_runner.proofs.Filling.{marks_then}
+use Rattle.network_runner.proofs.Unread.{stops_delivery_so}
 use Rattle.network_runner.proofs.delivering.deliver_all.Goals as goal
 
 pub returns-clause-delivers : goal.returns-clause-delivers
@@ -19,3 +20,8 @@ pub returns-clause-same_marks : goal.returns-clause-same_marks
 returns-clause-same_marks g c =
     marks_then (map g.A.Firing.cell c.args.net.now.cells) (map g.A.Firing.cell c.deliver.new.self.cells) (map g.A.Firing.cell c.fill_all.new.net.cells)
     c.deliver.ensures.same_actors.count c.deliver.ensures.same_marks c.fill_all.ensures.same_marks
+
+pub returns-clause-stops : goal.returns-clause-stops
+returns-clause-stops g c =
+    stops_delivery_so c.fill_all.result (λ fault. fault.feed) c.args.links.now c.args.readers.now (seen g.A.Firing.cell c.args.net.now) (seen g.A.Firing.cell c.deliver.new.self)
+    (g.F.Feeds.feeds c.args.feeds.now) (g.F.Feeds.feeds c.fill_all.new.feeds) (c.deliver.ensures.links ∙ sym c.requires.links) c.deliver.ensures.states c.fill_all.ensures.stops

@@ -1,5 +1,5 @@
 use Rattle.std.proofs.Common.{◌≡◌, ℕ, subst, sym}
-use Rattle.std.specs.Prelude.{Result, Ok, Err, IfOk, None, Some, slice_get}
+use Rattle.std.specs.Prelude.{Result, Ok, Err, IfOk, OnErr, None, Some, slice_get}
 use Rattle.rvc_io.specs.Feeds.{Inputs}
 use Rattle.port_files.specs.Coming.{Reading, coming_on}
 use Rattle.net_model.specs.Cell.{Cell}
@@ -7,8 +7,9 @@ use Rattle.net_state.specs.declared.filling.Filled.{Filled}
 use Rattle.net_state.specs.Filling.{AreArrivals, Fills, IsFull, IsInputLink, SameRest, inflow}
 use Rattle.net_state.specs.Held.{Held, seen}
 use Rattle.net_state.specs.Working.{IsAtRest}
-use Rattle.network_runner.specs.Filling.{FillsOne}
+use Rattle.network_runner.specs.Filling.{FailsFor, FillsOne}
 use Rattle.network_runner.proofs.One.{one_fed, one_unfed}
+use Rattle.network_runner.proofs.Unread.{fails_so}
 use Rattle.network_runner.proofs.feeding.fill_one.Goals as goal
 
 pub returns-in_default-clause-fills : goal.returns-in_default-clause-fills
@@ -41,3 +42,13 @@ returns-clause-fills g c =
     subst (λ r. IfOk c.fill.result (λ filled. FillsOne c.args.link.0 c.args.feed old new r (Some c.fill.new.tokens) fo fn filled)) (sym c.in-Some.is)
     (answered c.args.link.0 c.args.feed old new c.in-Some.tokens c.fill.new.tokens fo fn c.fill.result input
     c.fill.ensures.fills c.fill.ensures.filled c.fill.ensures.arrivals c.fill.ensures.rests c.fill.ensures.links c.fill.ensures.waited c.fill.ensures.kind c.fill.ensures.same_rest)
+
+pub returns-clause-due : goal.returns-clause-due
+returns-clause-due g c =
+    let old = seen g.A.Firing.cell c.args.net.now in
+    let new = seen g.A.Firing.cell c.fill.new.self in
+    let fo = g.F.Feeds.feeds c.args.feeds.now in
+    let fn = g.F.Feeds.feeds c.fill.new.feeds in
+    subst (λ r. OnErr c.fill.result (FailsFor c.args.link.0 c.args.feed old r fo fn)) (sym c.in-Some.is)
+    (fails_so c.args.link.0 c.args.feed old new c.in-Some.tokens c.fill.new.tokens fo fn c.fill.result (λ count. IfOk c.fill.result (λ filled. filled.tokens ≡ count))
+    c.fill.ensures.fills c.fill.ensures.due c.fill.ensures.links c.fill.ensures.kind c.fill.ensures.same_rest)

@@ -6,7 +6,8 @@ use Rattle.rvc_base.specs.Picks.{picks}
 use Rattle.net_model.specs.Paced.{count_picked, none_of}
 use Rattle.net_state.specs.Held.{seen}
 use Rattle.net_state.proofs.Coming.{by_bool}
-use Rattle.round_runner.specs.Bursting.{Idle}
+use Rattle.net_state.specs.Sharing.{HaveArrived}
+use Rattle.round_runner.specs.Bursting.{Idle, at_work}
 use Rattle.round_runner.specs.Choosing.{marked}
 use Rattle.network_runner.specs.Closing.{GrowsBy}
 use Rattle.network_runner.proofs.Growable.{may_grow}
@@ -76,3 +77,8 @@ returns-clause-same_actors g c = rw c.close-answer.ensures.cells c.burst_each-ma
 
 pub returns-clause-grows : goal.returns-clause-grows
 returns-clause-grows g c = subst (λ cs. GrowsBy c.close-answer.result c.args.turn.now.grow cs c.close-answer.new.net.capacities) c.burst_each-made.ensures.capacities c.close-answer.ensures.grows
+
+pub returns-clause-arrive : goal.returns-clause-arrive
+returns-clause-arrive g c = λ left some.
+    subst (λ ms. HaveArrived (g.G.Gate.arrived c.args.gate.now) (at_work (record { round = c.args.turn.now.round; first = 0; count = c.args.workers }) c.args.turn.now.left (count_picked ms)))
+    c.choose.ensures.marks c.burst_each-made.ensures.arrived

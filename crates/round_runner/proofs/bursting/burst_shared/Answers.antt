@@ -28,6 +28,7 @@ returns g c =
       links = b.links;
       capacities = b.capacities;
       waited = b.waited;
+      arrived = c.burst_each.ensures.arrived;
     }
   where
     drop_none : {A : Type 0} (xs : List A) → drop 0 xs ≡ xs

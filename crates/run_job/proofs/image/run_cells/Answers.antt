@@ -32,7 +32,7 @@ returns g c =
     (subst (λ codes. AreCellsOf (map arc_value codes) c.as_slice-2.result.now job.burst job.grow cells) c.as_slice.ensures.value c.in-Ok.ensures.cells) in
     record {
       leaves = λ actors net inputs has is given. source_leaves image actors net has is job c.requires.within cells are
-          (g.F.Feeds.feeds c.args.feeds.now) (g.D.Drains.channels c.run_network.new.drains) c.run_network.result inputs c.run_network.ensures.leaves given;
+          (g.F.Feeds.feeds c.args.feeds.now) (g.F.Feeds.feeds c.run_network.new.feeds) (g.D.Drains.channels c.run_network.new.drains) c.run_network.result inputs c.run_network.ensures.leaves given;
       within = c.run_network.ensures.within;
       permitted = c.run_network.ensures.permitted;
       refused = c.run_network.ensures.refused;

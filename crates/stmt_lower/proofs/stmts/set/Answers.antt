@@ -11,10 +11,10 @@ pub returns-in_default-clause-fault : goal.returns-in_default-clause-fault
 returns-in_default-clause-fault c =
     let same = length-map c.args.places.now expr_tree in
     let many = c.in_default.len_at_least in
-    subst (λ o. IfErr c.set_deep.result (IsFault o c.set_deep.new.draft)) (sym (many_places (called c.args.scope.now).functions (seen c.args.scope.now) (string_bytes c.args.name.now.text) (expr_tree c.args.value.now) c.args.at (map expr_tree c.args.places.now) (omega (arith, same, many)))) c.set_deep.ensures.fault
+    subst (λ o. IfErr c.set_part.result (IsFault o c.set_part.new.draft)) (sym (many_places (called c.args.scope.now).functions (seen c.args.scope.now) (string_bytes c.args.name.now.text) (expr_tree c.args.value.now) c.args.at (map expr_tree c.args.places.now) (omega (arith, same, many)))) c.set_part.ensures.fault
 
 pub returns-in_default-clause-whole : goal.returns-in_default-clause-whole
 returns-in_default-clause-whole c =
     let same = length-map c.args.places.now expr_tree in
     let many = c.in_default.len_at_least in
-    subst (λ o. OnOk c.set_deep.result (o ≡ None)) (sym (many_places (called c.args.scope.now).functions (seen c.args.scope.now) (string_bytes c.args.name.now.text) (expr_tree c.args.value.now) c.args.at (map expr_tree c.args.places.now) (omega (arith, same, many)))) c.set_deep.ensures.whole
+    subst (λ o. OnOk c.set_part.result (o ≡ None)) (sym (many_places (called c.args.scope.now).functions (seen c.args.scope.now) (string_bytes c.args.name.now.text) (expr_tree c.args.value.now) c.args.at (map expr_tree c.args.places.now) (omega (arith, same, many)))) c.set_part.ensures.whole

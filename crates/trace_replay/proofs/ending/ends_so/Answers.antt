@@ -34,4 +34,4 @@ returns-in-Err-clause-elsewhere g c = inputs_pulled (g.F.Feeds.feeds c.args.feed
 
 pub returns-in-Err-clause-feed : goal.returns-in-Err-clause-feed
 returns-in-Err-clause-feed g c =
-    feed_named c.args.links.now c.deliver_all.new.readers (g.F.Feeds.feeds c.deliver_all.new.feeds) c.in-Err.fault.feed c.deliver_all.ensures.still_fit c.in-Err.ensures.feed
+    feed_named c.args.links.now c.args.readers.now c.deliver_all.new.readers (g.F.Feeds.feeds c.deliver_all.new.feeds) c.in-Err.fault.feed c.deliver_all.ensures.still_fit c.deliver_all.ensures.still_there c.in-Err.ensures.feed

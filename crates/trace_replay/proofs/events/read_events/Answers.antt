@@ -1,11 +1,12 @@
-use Rattle.std.proofs.Common.{◌∙◌, ◌⊎◌, inr, length, refl, sym, subst, arith}
+use Rattle.std.proofs.Common.{◌∙◌, ◌⊎◌, inr, length, map, refl, sym, ap, subst, arith}
+use Rattle.std.specs.Prelude.{is_some}
 use Rattle.rvc_io.specs.Feeds.{ReadFails}
 use Rattle.port_files.specs.Coming.{coming_on}
 use Rattle.trace_text.specs.Text.{line_feed}
 use Rattle.trace_text.specs.declared.line.Line.{Line}
 use Rattle.trace_replay.specs.Between.{stand}
-use Rattle.trace_replay.specs.Events.{IsEnded, IsJudgedOrNot, IsTextOf, IsUnjudged}
-use Rattle.trace_replay.specs.Feeding.{IsFeedOf}
+use Rattle.trace_replay.specs.Events.{IsEnded, IsJudgedOrNot, IsTextOf, IsUnfedGrowth}
+use Rattle.trace_replay.specs.Feeding.{IsFeedRead}
 use Rattle.trace_replay.specs.Judging.{AtEvents, IsNotRun}
 use Rattle.trace_replay.specs.declared.bytes.TheConstants.{TRACE_FEED}
 use Rattle.trace_replay.specs.declared.reading.Read.{Read}
@@ -27,6 +28,8 @@ lines-init g c = record {
   ready = c.requires.ready;
   grow = refl;
   links = refl;
+  noted = c.requires.noted;
+  read = refl;
   trace_grow = c.requires.grow;
   pulls = only_none (g.F.Feeds.feeds c.args.feeds.now);
 }
@@ -34,7 +37,7 @@ lines-init g c = record {
 pub come-requires-clause-ready : goal.come-requires-clause-ready
 come-requires-clause-ready g c =
     ready_pulled (stand g.A.Firing.cell g.F.Feeds.feeds c.lines.replay c.lines.feeds) (stand g.A.Firing.cell g.F.Feeds.feeds c.lines.replay c.next_line.new.feeds)
-    c.lines.replay.links.items (length c.lines.replay.came.items) c.lines.replay.grow refl refl refl refl c.next_line.ensures.elsewhere c.lines.invariant.ready
+    c.lines.replay.links.items (length c.lines.replay.came.items) c.lines.replay.grow refl refl refl c.next_line.ensures.elsewhere c.lines.invariant.ready
 
 pub lines-preserved : goal.lines-preserved
 lines-preserved g c = record {
@@ -44,7 +47,7 @@ lines-preserved g c = record {
       (begins.grow_is ∙ sym c.lines.invariant.grow) begins.wired begins.lawful (c.lines.invariant.led t text inputs begins)
       (is_next c.lines.trace c.next_line.new.self (stand g.A.Firing.cell g.F.Feeds.feeds c.lines.replay c.lines.feeds) (g.F.Feeds.feeds c.next_line.new.feeds)
       c.lines.replay.grow c.in-Ok.read.line c.in-Ok.read.same c.lines.invariant.trace_grow c.next_line.ensures.elsewhere c.in-Ok.ensures.read c.in-Ok.ensures.count)
-      c.in-Goes.ensures.goes c.in-Goes.ensures.counts c.in-Goes.ensures.goes_on c.in-Goes.ensures.rested c.come.ensures.elsewhere;
+      c.in-Goes.ensures.goes c.in-Goes.ensures.counts c.in-Goes.ensures.goes_on c.come.ensures.elsewhere;
   firings = omega (arith, c.lines.invariant.firings, c.in-Goes.ensures.firings, c.in-Ok.ensures.count);
   rounds = omega (arith, c.lines.invariant.rounds, c.in-Goes.ensures.rounds, c.in-Ok.ensures.count);
   is_open = c.come.ensures.elsewhere.pulls.same_open TRACE_FEED ∙ c.next_line.ensures.elsewhere.same_open TRACE_FEED ∙ c.lines.invariant.is_open;
@@ -53,6 +56,8 @@ lines-preserved g c = record {
   ready = c.in-Goes.ensures.still_ready;
   grow = c.in-Goes.ensures.grow ∙ c.lines.invariant.grow;
   links = c.in-Goes.ensures.links ∙ c.lines.invariant.links;
+  read = c.in-Goes.ensures.still_read ∙ c.lines.invariant.read;
+  noted = c.in-Goes.ensures.noted ∙ (c.lines.invariant.noted ∙ sym (ap (λ ls. length ls.items) c.in-Goes.ensures.links));
   trace_grow = c.next_line.ensures.grow ∙ c.lines.invariant.trace_grow ∙ sym c.in-Goes.ensures.grow;
   pulls = only_line TRACE_FEED (g.F.Feeds.feeds c.args.feeds.now) (g.F.Feeds.feeds c.lines.feeds) (g.F.Feeds.feeds c.next_line.new.feeds) (g.F.Feeds.feeds c.come.new.feeds)
       c.lines.invariant.pulls c.next_line.ensures.elsewhere c.come.ensures.elsewhere.pulls;
@@ -115,7 +120,7 @@ returns-in-Ends-clause-failed g c =
 pub returns-in-Fails-clause-judged : goal.returns-in-Fails-clause-judged
 returns-in-Fails-clause-judged g c = λ t text inputs begins.
     subst (IsJudgedOrNot t text) (sym c.not_run.ensures)
-    (subst (λ n. IsNotRun t text n c.in-Fails.why ⊎ IsUnjudged t text n c.in-Fails.why) (sym c.number.ensures)
+    (subst (λ n. IsNotRun t text n c.in-Fails.why ⊎ IsUnfedGrowth t text n c.in-Fails.why) (sym c.number.ensures)
     (led_fails t text inputs c.lines.trace c.next_line.new.self (stand g.A.Firing.cell g.F.Feeds.feeds c.lines.replay c.lines.feeds) (g.F.Feeds.feeds c.next_line.new.feeds)
     c.lines.replay.grow c.in-Ok.read.line c.in-Ok.read.same c.in-Fails.why
     (begins.grow_is ∙ sym c.lines.invariant.grow) begins.wired begins.lawful (c.lines.invariant.led t text inputs begins)
@@ -157,10 +162,11 @@ returns-in-Ends-clause-feeds_stay g c =
     (only_at TRACE_FEED (g.F.Feeds.feeds c.come.new.feeds) (g.F.Feeds.feeds c.end_at.new.feeds) c.end_at.ensures.elsewhere)
 
 pub returns-in-Err-clause-feed : goal.returns-in-Err-clause-feed
-returns-in-Err-clause-feed g c = names_too c.args.replay.now.links.items c.in-Err.fault c.in-Err.ensures.feed
+returns-in-Err-clause-feed g c = names_too c.args.replay.now.links.items (map is_some c.args.replay.now.readers.items) c.in-Err.fault c.in-Err.ensures.feed
 
 pub returns-in-Ends-clause-feed : goal.returns-in-Ends-clause-feed
-returns-in-Ends-clause-feed g c = err_after c.end_at.result _ _ (λ fault named. names_too c.args.replay.now.links.items fault named) c.end_at.ensures.feed
+returns-in-Ends-clause-feed g c = err_after c.end_at.result _ _ (λ fault named. names_too c.args.replay.now.links.items (map is_some c.args.replay.now.readers.items) fault named) c.end_at.ensures.feed
 
 pub returns-in-FeedFails-clause-feed : goal.returns-in-FeedFails-clause-feed
-returns-in-FeedFails-clause-feed g c = inr (subst (λ links. IsFeedOf links.items c.in-FeedFails.feed) c.lines.invariant.links c.in-FeedFails.ensures.feed)
+returns-in-FeedFails-clause-feed g c = inr (subst (λ read. IsFeedRead c.args.replay.now.links.items read c.in-FeedFails.feed) c.lines.invariant.read
+    (subst (λ links. IsFeedRead links.items (map is_some c.lines.replay.readers.items) c.in-FeedFails.feed) c.lines.invariant.links c.in-FeedFails.ensures.feed))

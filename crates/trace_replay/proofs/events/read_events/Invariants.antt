@@ -1,4 +1,4 @@
-use Rattle.std.specs.Prelude.{◌≡◌, ◌-◌, ◌≤◌, true, length}
+use Rattle.std.specs.Prelude.{◌≡◌, ◌-◌, ◌≤◌, true, is_some, length, map}
 use Rattle.trace_replay.specs.Between.{IsReadyToGo, stand}
 use Rattle.trace_replay.specs.Feeding.{OnlyPulls}
 use Rattle.trace_replay.specs.Judging.{max_trace_bytes}
@@ -20,6 +20,8 @@ invariant-lines g l =
       ready : IsReadyToGo g.A.Firing.cell g.F.Feeds.feeds l.replay l.feeds;
       grow : l.replay.grow ≡ l.initial.replay.grow;
       links : l.replay.links ≡ l.initial.replay.links;
+      read : map is_some l.replay.readers.items ≡ map is_some l.initial.replay.readers.items;
+      noted : length l.replay.noted.items ≡ length l.replay.links.items;
       trace_grow : l.trace.grow ≡ l.replay.grow;
       pulls : OnlyPulls (g.F.Feeds.feeds l.initial.feeds) (g.F.Feeds.feeds l.feeds);
     }

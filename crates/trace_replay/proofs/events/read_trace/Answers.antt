@@ -1,6 +1,6 @@
 use Rattle.std.proofs.Common.{length, map, refl, sym}
 use Rattle.std.proofs.lemmas.List.{length-map}
-use Rattle.std.specs.Prelude.{string_bytes}
+use Rattle.std.specs.Prelude.{is_some, string_bytes}
 use Rattle.rvc_io.specs.Feeds.{ReadFails}
 use Rattle.trace_replay.specs.Between.{stand}
 use Rattle.trace_replay.proofs.Heads.{err_after, fault_after}
@@ -14,7 +14,7 @@ use Rattle.trace_replay.proofs.events.read_trace.Goals as goal
 pub read_events-requires-clause-ready : goal.read_events-requires-clause-ready
 read_events-requires-clause-ready g c =
     ready_pulled (stand g.A.Firing.cell g.F.Feeds.feeds c.args.replay.now c.args.feeds.now) (stand g.A.Firing.cell g.F.Feeds.feeds c.args.replay.now c.read_head.new.feeds)
-    c.args.replay.now.links.items (length c.args.replay.now.came.items) c.args.replay.now.grow refl refl refl refl c.read_head.ensures.elsewhere c.requires.ready
+    c.args.replay.now.links.items (length c.args.replay.now.came.items) c.args.replay.now.grow refl refl refl c.read_head.ensures.elsewhere c.requires.ready
 
 pub returns-in-Err-clause-judged : goal.returns-in-Err-clause-judged
 returns-in-Err-clause-judged g c = λ t text inputs begins. judged_or_not t text c.in-Err.fault (c.in-Err.ensures.judged t text begins.head begins.reached)
@@ -44,7 +44,7 @@ returns-clause-failed g c =
     c.read_events.ensures.failed
 
 pub returns-in-Err-clause-feed : goal.returns-in-Err-clause-feed
-returns-in-Err-clause-feed g c = names_too c.args.replay.now.links.items c.in-Err.fault c.in-Err.ensures.feed
+returns-in-Err-clause-feed g c = names_too c.args.replay.now.links.items (map is_some c.args.replay.now.readers.items) c.in-Err.fault c.in-Err.ensures.feed
 
 pub returns-in-Err-clause-feeds_stay : goal.returns-in-Err-clause-feeds_stay
 returns-in-Err-clause-feeds_stay g c = only_at TRACE_FEED (g.F.Feeds.feeds c.args.feeds.now) (g.F.Feeds.feeds c.read_head.new.feeds) c.read_head.ensures.elsewhere

@@ -1,8 +1,8 @@
 use Rattle.std.proofs.Common.{map, sym, subst}
-use Rattle.std.specs.Prelude.{string_bytes}
+use Rattle.std.specs.Prelude.{is_some, string_bytes}
 use Rattle.trace_replay.specs.Events.{IsEnded}
-use Rattle.trace_replay.specs.Reading.{NamesFeed}
-use Rattle.trace_replay.proofs.Opened.{begins, can_work, have_ports, ready_to_go}
+use Rattle.trace_replay.specs.Reading.{NamesRead}
+use Rattle.trace_replay.proofs.Opened.{begins, can_work, fault_named, have_ports, ready_to_go}
 use Rattle.trace_replay.proofs.Told.{refused_is, replayed_is}
 use Rattle.trace_replay.proofs.replaying.replay.Goals as goal
 
@@ -36,4 +36,6 @@ returns-clause-replayed g c = λ t text inputs is.
     (subst (IsEnded t text inputs c.in-Ok-read_trace.end) (sym c.into_numbers.ensures) (c.in-Ok-read_trace.ensures.ended t text inputs start))
 
 pub returns-in-Err-clause-feed : goal.returns-in-Err-clause-feed
-returns-in-Err-clause-feed g c = subst (λ links. NamesFeed links c.in-Err.fault) c.in-Ok-new.ensures.links_are c.in-Err.ensures.feed
+returns-in-Err-clause-feed g c =
+    fault_named c.args.wiring.ins.items c.args.wiring.open_ins.items c.args.wiring.links.items c.in-Ok-new.replay.readers.items c.in-Err.fault c.in-Ok-new.ensures.readers
+    (subst (λ links. NamesRead links (map is_some c.in-Ok-new.replay.readers.items) c.in-Err.fault) c.in-Ok-new.ensures.links_are c.in-Err.ensures.feed)

@@ -43,4 +43,5 @@ returns g c =
     rw cells (record {
       work = subst (λ h. WorkEach (share_of c.args.shares) 0 0 c.args.marks.now (seen g.A.Firing.cell h) c.burst_part.result (held_of new c.self.inside.links.items c.self.inside.capacities.items c.self.inside.waited.items)) c.self.view_is leave.work;
       few = c.burst_part.ensures.few;
+      arrived = c.burst_part.ensures.arrived;
     })

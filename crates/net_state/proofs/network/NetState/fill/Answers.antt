@@ -1,5 +1,5 @@
 use Rattle.std.proofs.Common.{◌≡◌, ◌++◌, ◌<◌, ℕ, ℤ, List, true, arith, ap, sym, subst, refl, length, map, take, drop}
-use Rattle.std.specs.Prelude.{slice_get, slice_index_or, vec_items, Some, IfOk}
+use Rattle.std.specs.Prelude.{slice_get, slice_index_or, vec_items, Some, IfOk, OnErr}
 use Rattle.std.proofs.lemmas.List.{get_or_read}
 use Rattle.std.proofs.lemmas.Result.{IfOk-weaker}
 use Rattle.std.proofs.lemmas.Option.{slice_get_read, slice_get_within}
@@ -9,11 +9,11 @@ use Rattle.net_model.specs.Network.{is_input}
 use Rattle.port_files.specs.Coming.{coming_on}
 use Rattle.net_state.specs.Held.{held_of, seen}
 use Rattle.net_state.specs.Moving.{EachGains, HasRoomUpTo, IsInput, SameActors, SameMarks, only_to}
-use Rattle.net_state.specs.Filling.{AreArrivals, AtPort, Fills, Inflow, IsFilled, IsFull, IsInputLink, Takes, inflow}
+use Rattle.net_state.specs.Filling.{AreArrivals, AtPort, Fills, Inflow, IsDue, IsDueFor, IsFilled, IsFull, IsInputLink, Takes, inflow}
 use Rattle.net_state.proofs.Fed.{fill_all, fill_full, fill_gains, fill_rests, fill_told}
 use Rattle.net_state.specs.Working.{IsAtRest}
 use Rattle.net_state.proofs.Slices.{written_back}
-use Rattle.net_state.proofs.Feeding.{at_port_as, kept_by_fill, on_input, reader_at}
+use Rattle.net_state.proofs.Feeding.{at_port_as, at_reader, due_so, kept_by_fill, on_input, reader_at}
 use Rattle.net_state.proofs.network.NetState.fill.Goals as goal
 
 pub fill_link-requires : goal.fill_link-requires
@@ -108,6 +108,9 @@ returns g c =
       capacities = ap (λ h. h.capacities) c.self.view_is;
       waited = ap (λ h. h.waited) c.self.view_is;
       failed = c.fill_link.ensures.failed;
+      due = due_so c.fill_link.result _ (IsDueFor c.args.link.0 (held_of new c.self.inside.links.items c.self.inside.capacities.items c.self.inside.waited.items) c.fill_link.new.tokens)
+          (at_reader c.self.inside.links.items c.args.link.0 c.index.result.now (λ (that : Link) (j : ℕ) (q : ℕ). IsDue j q (slice_index_or c.self.inside.capacities.items c.args.link.0 0) new c.fill_link.new.tokens) at)
+          (subst (λ n. OnErr c.fill_link.result (AtPort c.index.result.now (λ (that : Link) (j : ℕ) (q : ℕ). IsDue j q n new c.fill_link.new.tokens) c.index.result.now.to)) capacity c.fill_link.ensures.due);
       kind = c.fill_link.ensures.kind;
       same_rest = c.fill_link.ensures.same_rest;
       still_same_feed = c.fill_link.ensures.still_same_feed;

@@ -7,13 +7,14 @@ use Rattle.round_runner.specs.Running.{FeedsFit}
 use Rattle.network_runner.specs.Asking.{IsFeed, seen_run}
 use Rattle.network_runner.specs.Counting.{arrived_with, rests_with}
 use Rattle.network_runner.specs.Delivering.{Delivers}
-use Rattle.network_runner.specs.Filling.{IsFeedOf, ReadersFit}
+use Rattle.network_runner.specs.Filling.{IsFeedOf, ReadersFit, StopsDelivery, kind_read}
 use Rattle.network_runner.specs.Keeping.{running_of}
-use Rattle.network_runner.specs.Stepping.{DeliversRun}
+use Rattle.network_runner.specs.Stepping.{DeliversRun, StopsRun}
 use Rattle.network_runner.proofs.Fitting.{as_many_cells, delivers_run, feeds_still, its_feed, parts_kept, readers_fit}
 use Rattle.network_runner.proofs.Going.{going_delivered}
 use Rattle.network_runner.proofs.Numbers.{arrived_long, rests_long}
 use Rattle.network_runner.proofs.Parted.{err_as}
+use Rattle.network_runner.proofs.Unread.{stops_run}
 use Rattle.network_runner.proofs.runner.Runner.deliver.Goals as goal
 
 pub deliver_all-requires-clause-readers : goal.deliver_all-requires-clause-readers
@@ -33,7 +34,8 @@ invariant_of-self g c =
       parts_kept view new c.self.inside.links.items c.self.inside.outlets.items (length c.self.inside.came.items) (length (take c.self.inside.came.len (c.deliver_all.new.came ++ drop (length c.deliver_all.new.came) c.self.inside.came.items))) (length c.self.inside.writers.items) (length c.self.inside.writers.items) c.self.inside.cells
           (c.deliver_all.ensures.links ∙ c.self.invariant.0.links_are) (as_many_cells g.A.Firing.cell c.deliver_all.new.net.cells c.self.inside.net.cells c.deliver_all.ensures.same_actors.count)
           (ap (λ fs. length fs) came_back ∙ (c.deliver_all.ensures.still_as_many ∙ ap (λ fs. length fs) c.deref_mut-2.ensures.value)) refl
-          (ap (map is_some) back ∙ (c.deliver_all.ensures.still_there ∙ ap (map is_some) c.deref_mut.ensures.value)) refl refl refl
+          (ap (map is_some) back ∙ (c.deliver_all.ensures.still_there ∙ ap (map is_some) c.deref_mut.ensures.value))
+          (ap (map kind_read) back ∙ (c.deliver_all.ensures.same_kinds ∙ ap (map kind_read) c.deref_mut.ensures.value)) refl refl refl refl
           refl refl refl c.self.invariant.0,
       λ going. going_delivered (seen_run g.A.Firing.cell view) (seen_run g.A.Firing.cell new) (length c.self.inside.marks.items) (g.P.Policy.rounds c.self.inside.policy) (g.P.Policy.instances c.self.inside.policy)
           c.deliver_all.ensures.same_actors c.deliver_all.ensures.same_marks c.deliver_all.ensures.links c.deliver_all.ensures.capacities refl refl refl refl refl (c.self.invariant.1 going),
@@ -48,13 +50,26 @@ returns-in_err-deliver_all-clause-feed g c =
     let parts = parts_kept view new c.self.inside.links.items c.self.inside.outlets.items (length c.self.inside.came.items) (length (take c.self.inside.came.len (c.deliver_all.new.came ++ drop (length c.deliver_all.new.came) c.self.inside.came.items))) (length c.self.inside.writers.items) (length c.self.inside.writers.items) c.self.inside.cells
     (c.deliver_all.ensures.links ∙ c.self.invariant.0.links_are) (as_many_cells g.A.Firing.cell c.deliver_all.new.net.cells c.self.inside.net.cells c.deliver_all.ensures.same_actors.count)
     (ap (λ fs. length fs) came_back ∙ (c.deliver_all.ensures.still_as_many ∙ ap (λ fs. length fs) c.deref_mut-2.ensures.value)) refl
-    (ap (map is_some) back ∙ (c.deliver_all.ensures.still_there ∙ ap (map is_some) c.deref_mut.ensures.value)) refl refl refl
+    (ap (map is_some) back ∙ (c.deliver_all.ensures.still_there ∙ ap (map is_some) c.deref_mut.ensures.value))
+    (ap (map kind_read) back ∙ (c.deliver_all.ensures.same_kinds ∙ ap (map kind_read) c.deref_mut.ensures.value)) refl refl refl refl
     refl refl refl c.self.invariant.0 in
     let same : IfErr c.from_residual.result (λ fault. IsFeedOf c.deref.result.now c.deliver_all.new.readers fault.feed) = search rules in
     subst (λ r. IfErr c.from_residual.result (λ fault. IsFeed r fault.feed)) c.self.view_is
     (err_as c.from_residual.result (λ fault. IsFeedOf c.deref.result.now c.deliver_all.new.readers fault.feed) (λ fault. IsFeed view fault.feed)
     (λ fault is. its_feed new c.self.inside.links.items c.self.inside.outlets.items (length (take c.self.inside.came.len (c.deliver_all.new.came ++ drop (length c.deliver_all.new.came) c.self.inside.came.items))) (length c.self.inside.writers.items) c.self.inside.cells parts view fault.feed c.self.invariant.0.links_are refl
     (subst (λ rs. IsFeedOf c.self.inside.links.items rs fault.feed) (sym back) (subst (λ ls. IsFeedOf ls c.deliver_all.new.readers fault.feed) c.deref.ensures.value is))) same)
+
+pub returns-in_err-deliver_all-clause-stops : goal.returns-in_err-deliver_all-clause-stops
+returns-in_err-deliver_all-clause-stops g c =
+    let view = running_of c.self.inside.net c.self.inside.ins.items c.self.inside.open_ins.items c.self.inside.outlets.items c.self.inside.readers.items (g.P.Policy.kind c.self.inside.policy) c.self.inside.plan c.self.inside.idle c.self.inside.trace c.self.inside.writers.items c.self.inside.counts c.self.inside.ended in
+    let fo = g.F.Feeds.feeds c.args.feeds.now in
+    let fn = g.F.Feeds.feeds c.deliver_all.new.feeds in
+    let held = seen g.A.Firing.cell c.self.inside.net in
+    let same : IfErr c.from_residual.result (λ fault. StopsDelivery c.deref.result.now c.deref_mut.result.now fault.feed held fo fn) = search rules in
+    subst (λ r. IfErr c.from_residual.result (λ fault. StopsRun (seen_run g.A.Firing.cell r) fault.feed fo fn)) c.self.view_is
+    (err_as c.from_residual.result (λ fault. StopsDelivery c.deref.result.now c.deref_mut.result.now fault.feed held fo fn) (λ fault. StopsRun (seen_run g.A.Firing.cell view) fault.feed fo fn)
+    (λ fault stops. stops_run (seen_run g.A.Firing.cell view) c.self.inside.links.items fault.feed fo fn c.self.invariant.0.links_are c.self.invariant.0.kinds
+    (subst (λ ls. StopsDelivery ls c.self.inside.readers.items fault.feed held fo fn) c.deref.ensures.value (subst (λ rs. StopsDelivery c.deref.result.now rs fault.feed held fo fn) c.deref_mut.ensures.value stops))) same)
 
 pub returns-in_err-deliver_all-clause-feeds_fit : goal.returns-in_err-deliver_all-clause-feeds_fit
 returns-in_err-deliver_all-clause-feeds_fit g c =
@@ -80,7 +95,8 @@ invariant_of-self-2 g c =
       parts_kept view new c.self.inside.links.items c.self.inside.outlets.items (length c.self.inside.came.items) (length (take c.self.inside.came.len (c.deliver_all.new.came ++ drop (length c.deliver_all.new.came) c.self.inside.came.items))) (length c.self.inside.writers.items) (length c.self.inside.writers.items) c.self.inside.cells
           (c.deliver_all.ensures.links ∙ c.self.invariant.0.links_are) (as_many_cells g.A.Firing.cell c.deliver_all.new.net.cells c.self.inside.net.cells c.deliver_all.ensures.same_actors.count)
           (ap (λ fs. length fs) came_back ∙ (c.deliver_all.ensures.still_as_many ∙ ap (λ fs. length fs) c.deref_mut-2.ensures.value)) refl
-          (ap (map is_some) back ∙ (c.deliver_all.ensures.still_there ∙ ap (map is_some) c.deref_mut.ensures.value)) refl refl refl
+          (ap (map is_some) back ∙ (c.deliver_all.ensures.still_there ∙ ap (map is_some) c.deref_mut.ensures.value))
+          (ap (map kind_read) back ∙ (c.deliver_all.ensures.same_kinds ∙ ap (map kind_read) c.deref_mut.ensures.value)) refl refl refl refl
           (ap (λ ns. length ns) arrived_is ∙ arrived_long c.deref-2.result.now c.self.inside.counts.arrived.items) (ap (λ ns. length ns) rests_is ∙ rests_long c.deref-2.result.now c.self.inside.counts.rests.items) refl c.self.invariant.0,
       λ going. going_delivered (seen_run g.A.Firing.cell view) (seen_run g.A.Firing.cell new) (length c.self.inside.marks.items) (g.P.Policy.rounds c.self.inside.policy) (g.P.Policy.instances c.self.inside.policy)
           c.deliver_all.ensures.same_actors c.deliver_all.ensures.same_marks c.deliver_all.ensures.links c.deliver_all.ensures.capacities refl refl refl refl refl (c.self.invariant.1 going),

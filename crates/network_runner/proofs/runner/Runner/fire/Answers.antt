@@ -1,10 +1,12 @@
 use Rattle.std.proofs.Common.{◌≡◌, ◌+◌, ◌≤◌, suc, ◌++◌, length, map, take, drop, sym, ap, subst, refl, ◌∙◌, arith}
 use Rattle.std.specs.Prelude.{None, IfNone, ◌==◌}
 use Rattle.std.specs.Vec.{with_items}
+use Rattle.std.proofs.lemmas.List.{length-map}
 use Rattle.net_state.specs.Held.{seen}
 use Rattle.net_state.specs.Surveyed.{AreUntrapped}
 use Rattle.net_state.specs.Working.{IsAtRest}
 use Rattle.net_state.proofs.Slices.{written_back}
+use Rattle.network_runner.specs.Arriving.{RoundArrives, WorkersArrive, stage_of}
 use Rattle.network_runner.specs.Asking.{Advances, end_of, seen_run}
 use Rattle.network_runner.specs.Counting.{IsToPort, sent_with}
 use Rattle.network_runner.specs.Keeping.{running_of}
@@ -51,7 +53,7 @@ invariant_of-self g c =
     let budget : c.self.inside.counts.firings + c.args.left ≤ 1000000000000 = subst (λ r. r.counts.firings + c.args.left ≤ 1000000000000) (sym c.self.view_is) c.requires.budget in (
       parts_kept view new c.self.inside.links.items c.self.inside.outlets.items (length c.self.inside.came.items) (length c.self.inside.came.items) (length c.self.inside.writers.items) (length c.self.inside.writers.items) c.self.inside.cells
           (c.make_firings-made.ensures.links ∙ c.self.invariant.0.links_are) (as_many_cells g.A.Firing.cell c.make_firings-made.new.net.cells c.self.inside.net.cells c.make_firings-made.ensures.same_actors.count)
-          refl refl refl refl refl refl refl refl
+          refl refl refl refl refl refl refl refl refl refl
           (ap (λ ns. length ns) sent_is ∙ sent_long (map g.A.Firing.cell c.make_firings-made.new.net.cells) c.deref.result.now c.self.inside.counts.sent.items) c.self.invariant.0,
       λ still.
           let on : end_of c.make_firings-made.result.answer ≡ None = sym c.end_of-self-inside.ensures ∙ still in
@@ -91,3 +93,15 @@ returns-clause-advances g c =
     let new = running_of c.make_firings-made.new.net c.self.inside.ins.items c.self.inside.open_ins.items c.self.inside.outlets.items c.self.inside.readers.items (g.P.Policy.kind c.make_firings-made.new.policy) c.self.inside.plan (c.make_firings-made.result.fired == 0) c.self.inside.trace c.self.inside.writers.items (record c.self.inside.counts { firings = c.self.inside.counts.firings + c.make_firings-made.result.fired; rounds = c.self.inside.counts.rounds + 1; sent = with_items c.self.inside.counts.sent c.count_sent.new.sent }) c.end_of-self-inside.result in
     subst (λ r. IfNone (end_of c.make_firings-made.result.answer) (Advances r new)) c.self.view_is
     (advances_fired view new c.make_firings-made.result.answer c.make_firings-made.result.fired c.make_firings-made.ensures.grows refl c.make_firings-made.ensures.counted c.make_firings-made.ensures.not_idle_again refl refl)
+
+pub returns-clause-arrive : goal.returns-clause-arrive
+returns-clause-arrive g c =
+    let view = running_of c.self.inside.net c.self.inside.ins.items c.self.inside.open_ins.items c.self.inside.outlets.items c.self.inside.readers.items (g.P.Policy.kind c.self.inside.policy) c.self.inside.plan c.self.inside.idle c.self.inside.trace c.self.inside.writers.items c.self.inside.counts c.self.inside.ended in
+    let arrived = g.G.Gate.arrived c.args.gate.now in
+    let goes = c.self.invariant.1 (ap (λ r. r.ended) c.self.view_is ∙ c.requires.going) in
+    let marks : length c.deref_mut.result.now ≡ length c.self.inside.net.cells =
+    ap (λ ms. length ms) c.deref_mut.ensures.value ∙ (goes.mark_for_each ∙ length-map c.self.inside.net.cells g.A.Firing.cell) in
+    let next : c.self.inside.counts.rounds + 1 ≡ suc c.self.inside.counts.rounds = omega arith in
+    subst (λ r. RoundArrives arrived r c.args.left) c.self.view_is
+    (subst (λ n. WorkersArrive arrived view.kind view.workers n (stage_of view c.args.left)) marks
+    (subst (λ n. WorkersArrive arrived view.kind view.workers (length c.deref_mut.result.now) (record { round = n; idle = view.idle; left = c.args.left })) next c.make_firings-made.ensures.arrive))

@@ -1,5 +1,6 @@
 use Rattle.std.proofs.Common.{◌≡◌, ap}
 use Rattle.network_runner.specs.Asking.{end_of, seen_run}
+use Rattle.network_runner.proofs.Arrived.{arrive_put}
 use Rattle.network_runner.proofs.Ended.{leaves_put}
 use Rattle.network_runner.proofs.Finished.{if_none_so, puts_seen, within_then}
 use Rattle.network_runner.proofs.Whole.{within_too}
@@ -17,3 +18,8 @@ returns-clause-leaves g c = λ going net inputs budget s stands.
 pub returns-clause-others : goal.returns-clause-others
 returns-clause-others g c =
     within_then c.args.self.now (g.D.Drains.channels c.args.drains.now) (g.D.Drains.channels c.make_round-answer.new.drains) (g.D.Drains.channels c.finish.new.drains) c.make_round-answer.ensures.others (within_too c.make_round-answer.new.self c.args.self.now (g.D.Drains.channels c.make_round-answer.new.drains) (g.D.Drains.channels c.finish.new.drains) c.make_round-answer.ensures.same_run.same_writes c.finish.ensures.others)
+
+pub returns-clause-arrive : goal.returns-clause-arrive
+returns-clause-arrive g c = λ going.
+    arrive_put (g.G.Gate.arrived c.args.gate.now) c.make_round-answer.result c.finish.result c.args.left c.args.self.now c.make_round-answer.new.self c.finish.new.self
+    (g.D.Drains.channels c.make_round-answer.new.drains) (g.D.Drains.channels c.finish.new.drains) c.finish.ensures.puts c.finish.ensures.same c.make_round-answer.ensures.arrive

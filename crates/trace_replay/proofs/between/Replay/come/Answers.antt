@@ -20,7 +20,7 @@ returns-in-Deliver-clause-counts g c =
 
 pub returns-in-Grow-clause-goes : goal.returns-in-Grow-clause-goes
 returns-in-Grow-clause-goes g c =
-    subst (λ line. LineGoes g.A.Firing.cell g.F.Feeds.feeds c.grow.result line c.args.self.now c.args.feeds.now c.grow.new.self c.args.feeds.now) (sym c.in-Grow.is) c.grow.ensures.goes
+    subst (λ line. LineGoes g.A.Firing.cell g.F.Feeds.feeds c.grow.result line c.args.self.now c.args.feeds.now c.grow.new.self c.grow.new.feeds) (sym c.in-Grow.is) c.grow.ensures.goes
 
 pub returns-in-Grow-clause-counts : goal.returns-in-Grow-clause-counts
 returns-in-Grow-clause-counts g c =

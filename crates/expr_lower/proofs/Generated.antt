@@ -1,0 +1,169 @@
+-- Generators that are written out count as they are seen to.
+use Rattle.std.proofs.Common.{◌≡◌, ℕ, zero, suc, ◌*◌, ℤ, pos, ◌+ℤ◌, Bool, true, false, refl, sym, ap, ◌∙◌, subst, Option, None, Some, arith}
+use Rattle.std.specs.Prelude.{◌^◌, if◌then◌else◌, int_lt, nat_lt, ◌-ℤ◌, neg_ℤ, unsigned_abs}
+use Rattle.std.proofs.lemmas.Bool.Decides.{nat_tests}
+use Rattle.std.proofs.lemmas.Int.{ints}
+use Rattle.rvc_base.specs.declared.scalar.Scalar.{Scalar}
+use Rattle.rvc_base.specs.declared.trap.Trap.TheVariants.{Overflow}
+use Rattle.rvc_base.specs.Arithmetic as arithmetic
+use Rattle.rvc_base.specs.Arithmetic.{Computed}
+use Rattle.rvc_base.specs.Turns.{max_turns}
+use Rattle.rvc_base.specs.Width.{is_num, IsNum}
+use Rattle.cal_ast.specs.declared.expr.PrefixOp.{PrefixOp}
+use Rattle.cal_ast.specs.declared.expr.PrefixOp.TheVariants.{Neg}
+use Rattle.cal_ast.specs.declared.expr.BinOp.{BinOp}
+use Rattle.cal_ast.specs.declared.expr.BinOp.TheVariants.{Sub}
+use Rattle.cal_ast.specs.Tree as tree
+use Rattle.cal_ast.specs.Tree.{Tree}
+use Rattle.cal_model.specs.Value.{Shape, Single, Value, Num, Values, stored}
+use Rattle.cal_model.specs.Outcome.{Out, Gives, alone, and_then}
+use Rattle.cal_model.specs.Env.{Env, variable, with_local}
+use Rattle.cal_model.specs.Expression.{Calls, applied, computed, each_from, elements, eval, prefixed, range_of, span, with_right}
+use Rattle.cal_model.proofs.Numbers.{is-num}
+use Rattle.expr_lower.specs.Generators.{Counted, bound_of, counted, counted_by, difference_of, how_many, number_given, opposite_of, spanned, times}
+use Rattle.expr_lower.specs.Meant.{single_meant}
+use Rattle.expr_lower.proofs.MeantIs.{meant_is}
+
+-- ---- bounds
+
+pub negative_num : (k : ℕ) → is_num (pos k) ≡ true → is_num (neg_ℤ (pos k)) ≡ true
+negative_num zero h = h
+negative_num (suc j) h = grind (arith, nat_tests)
+
+given_is : (c : Computed) (z : ℤ) (left : ℕ) → number_given c ≡ Some z → computed c left ≡ Gives (Num z) left
+given_is (arithmetic.Gives y) z left e = let same : y ≡ z = cc in ap (λ x. Gives (Num x) left) same
+given_is (arithmetic.Traps c) z left e = cc
+
+opposite_gives : (o : PrefixOp) (b : Option ℤ) (z : ℤ) (out : Out Value) (left : ℕ) → opposite_of o b ≡ Some z → ((a : ℤ) → b ≡ Some a → out ≡ Gives (Num a) left) → and_then out (λ v m. prefixed o v m) ≡ Gives (Num z) left
+opposite_gives Neg None z out left e h = cc
+opposite_gives Neg (Some a) z out left e h = ap (λ (x : Out Value). and_then x (λ v m. prefixed Neg v m)) (h a refl) ∙ given_is (arithmetic.neg a) z left e
+opposite_gives o b z out left e h = cc
+
+difference_gives : (o : BinOp) (b d : Option ℤ) (z : ℤ) (out : Out Value) (right : ℕ → Out Value) (left : ℕ) → difference_of o b d ≡ Some z → ((a : ℤ) → b ≡ Some a → out ≡ Gives (Num a) left) → ((a : ℤ) → d ≡ Some a → right left ≡ Gives (Num a) left)
+    → and_then out (λ v m. with_right o v right m) ≡ Gives (Num z) left
+difference_gives Sub None d z out right left e h g = cc
+difference_gives Sub (Some a) None z out right left e h g = cc
+difference_gives Sub (Some a) (Some c) z out right left e h g =
+    ap (λ (x : Out Value). and_then x (λ v m. with_right Sub v right m)) (h a refl)
+    ∙ ap (λ (x : Out Value). and_then x (λ w m. applied Sub (Num a) w m)) (g c refl) ∙ given_is (arithmetic.sub a c) z left e
+difference_gives o b d z out right left e h g = cc
+
+pub bound_gives : (e : Tree) (z : ℤ) (calls : Calls) (env : Env) (left : ℕ) → bound_of e ≡ Some z → eval e calls env left ≡ Gives (Num z) left
+bound_gives (tree.number k at) z calls env left h = given_is (arithmetic.whole (pos k)) z left h
+bound_gives (tree.paren e at) z calls env left h = bound_gives e z calls env left h
+bound_gives (tree.prefix o e at) z calls env left h = opposite_gives o (bound_of e) z (eval e calls env left) left h (λ a i. bound_gives e a calls env left i)
+bound_gives (tree.binary o l r at) z calls env left h =
+    difference_gives o (bound_of l) (bound_of r) z (eval l calls env left) (λ k. eval r calls env k) left h (λ a i. bound_gives l a calls env left i) (λ a i. bound_gives r a calls env left i)
+bound_gives other z calls env left h = cc
+
+whole_num : (x z : ℤ) → number_given (arithmetic.whole x) ≡ Some z → IsNum z
+whole_num x z e = go (is_num x) refl e
+  where
+    go : (b : Bool) → is_num x ≡ b → number_given (if b then arithmetic.Gives x else arithmetic.Traps Overflow) ≡ Some z → IsNum z
+    go true is h = let same : x ≡ z = cc in subst IsNum same (is-num x is)
+    go false is h = cc
+
+opposite_num : (o : PrefixOp) (b : Option ℤ) (z : ℤ) → opposite_of o b ≡ Some z → IsNum z
+opposite_num Neg None z e = cc
+opposite_num Neg (Some a) z e = whole_num (neg_ℤ a) z e
+opposite_num o b z e = cc
+
+difference_num : (o : BinOp) (b d : Option ℤ) (z : ℤ) → difference_of o b d ≡ Some z → IsNum z
+difference_num Sub None d z e = cc
+difference_num Sub (Some a) None z e = cc
+difference_num Sub (Some a) (Some c) z e = whole_num (a -ℤ c) z e
+difference_num o b d z e = cc
+
+pub bound_num : (e : Tree) (z : ℤ) → bound_of e ≡ Some z → IsNum z
+bound_num (tree.number k at) z h = whole_num (pos k) z h
+bound_num (tree.paren e at) z h = bound_num e z h
+bound_num (tree.prefix o e at) z h = opposite_num o (bound_of e) z h
+bound_num (tree.binary o l r at) z h = difference_num o (bound_of l) (bound_of r) z h
+bound_num other z h = cc
+
+-- ---- generators
+
+no_count : (x : Counted) → ◌≡◌ {A = Option Counted} None (Some x) → ⊥
+no_count x e = cc
+
+-- a tree is a generator that counts
+pub record IsGenerator (g : Tree) (x : Counted) : Type 0 where
+  pub shape : Tree
+  pub place : ℕ
+  pub from : Tree
+  pub to : Tree
+  pub at : ℕ
+  pub is : g ≡ tree.gen shape (tree.ident x.text place) from to at
+  pub kind : single_meant shape ≡ Some x.kind
+  pub low : bound_of from ≡ Some x.low
+  pub high : bound_of to ≡ Some x.high
+  pub some : int_lt x.high x.low ≡ false
+
+pub generator : (g : Tree) (x : Counted) → counted_by g ≡ Some x → IsGenerator g x
+generator (tree.gen shape (tree.ident text place) from to at) x e = go (single_meant shape) (bound_of from) (bound_of to) refl refl refl e
+  where
+    by : (t : Scalar) (low high : ℤ) (b : Bool) → single_meant shape ≡ Some t → bound_of from ≡ Some low → bound_of to ≡ Some high → int_lt high low ≡ b
+        → ◌≡◌ {A = Option Counted} (if b then None else Some (record { text = text; kind = t; low = low; high = high })) (Some x) → IsGenerator (tree.gen shape (tree.ident text place) from to at) x
+    by t low high true p q r i h = cc
+    by t low high false p q r i h =
+        let made : Counted = record { text = text; kind = t; low = low; high = high } in
+        let same : made ≡ x = cc in
+        subst (λ y. IsGenerator (tree.gen shape (tree.ident text place) from to at) y) same
+        (record { shape = shape; place = place; from = from; to = to; at = at; is = refl; kind = p; low = q; high = r; some = i })
+
+    go : (t : Option Scalar) (a b : Option ℤ) → single_meant shape ≡ t → bound_of from ≡ a → bound_of to ≡ b → counted text t a b ≡ Some x → IsGenerator (tree.gen shape (tree.ident text place) from to at) x
+    go None a b p q r h = cc
+    go (Some t) None b p q r h = cc
+    go (Some t) (Some low) None p q r h = cc
+    go (Some t) (Some low) (Some high) p q r h = by t low high (int_lt high low) p q r refl h
+generator g x e = absurd (no_count x e)
+
+-- what the elements are, for each number of the first generator
+pub elements_are : (g gens : Tree) (x : Counted) (item : Env → ℕ → Out Value) (calls : Calls) (env : Env) (left : ℕ) → counted_by g ≡ Some x
+    → elements (tree.cons g gens) item calls env left ≡ each_from (span x.low x.high) x.low (λ i m. elements gens item calls (with_local (variable x.text (Single x.kind) false (stored (Single x.kind) (Num i))) env) m) left
+elements_are g gens x item calls env left e =
+    let f : IsGenerator g x = generator g x e in
+    let each : Shape → ℤ → ℤ → ℕ → Out Values = λ t low high k. each_from (span low high) low (λ i m. elements gens item calls (with_local (variable x.text t false (stored t (Num i))) env) m) k in
+    ap (λ y. elements (tree.cons y gens) item calls env left) f.is
+    ∙ ap (λ (o : Out Shape). and_then o (λ t h. and_then (alone (eval f.from calls env max_turns) h) (λ a j. and_then (alone (eval f.to calls env max_turns) j) (λ b k. range_of a b (λ low high. each t low high k))))) (meant_is f.shape x.kind calls env left f.kind)
+    ∙ ap (λ (o : Out Value). and_then (alone o left) (λ a j. and_then (alone (eval f.to calls env max_turns) j) (λ b k. range_of a b (λ low high. each (Single x.kind) low high k)))) (bound_gives f.from x.low calls env max_turns f.low)
+    ∙ ap (λ (o : Out Value). and_then (alone o left) (λ b k. range_of (Num x.low) b (λ low high. each (Single x.kind) low high k))) (bound_gives f.to x.high calls env max_turns f.high)
+
+-- the numbers of a range behind the first
+range_count : (low high : ℤ) → int_lt high low ≡ false → high ≡ low +ℤ pos (unsigned_abs (high -ℤ low))
+range_count low high e = grind (arith, ints, e)
+
+-- how many numbers come behind the first one
+pub record IsRange (low high : ℤ) : Type 0 where
+  pub behind : ℕ
+  pub is : span low high ≡ suc behind
+  pub last : high ≡ low +ℤ pos behind
+
+pub range : (low high : ℤ) → int_lt high low ≡ false → IsRange low high
+range low high e = record {
+  behind = unsigned_abs (high -ℤ low);
+  is = ap (λ b. if b then 0 else suc (unsigned_abs (high -ℤ low))) e;
+  last = range_count low high e;
+}
+
+-- how many elements there are, if there are so many for each number
+pub record IsMany (x : Counted) (gens : Tree) (many : ℕ) : Type 0 where
+  pub each : ℕ
+  pub inside : how_many gens ≡ Some each
+  pub is : many ≡ span x.low x.high * each
+
+bounded : (n m : ℕ) (b : Bool) → ◌≡◌ {A = Option ℕ} (if b then Some n else None) (Some m) → n ≡ m
+bounded n m true e = cc
+bounded n m false e = cc
+
+pub many_found : (g gens : Tree) (x : Counted) (many : ℕ) → counted_by g ≡ Some x → how_many (tree.cons g gens) ≡ Some many → IsMany x gens many
+many_found g gens x many e h =
+    go (spanned x.low x.high) (how_many gens) refl refl
+    (sym (ap (λ (o : Option Counted). elim o [ None ↦ None | Some y ↦ times (spanned y.low y.high) (how_many gens) ]) e) ∙ h)
+  where
+    go : (o p : Option ℕ) → spanned x.low x.high ≡ o → how_many gens ≡ p → times o p ≡ Some many → IsMany x gens many
+    go None p q r f = cc
+    go (Some n) None q r f = cc
+    go (Some n) (Some k) q r f =
+        let wide : span x.low x.high ≡ n = bounded (span x.low x.high) n (nat_lt (span x.low x.high) (2 ^ 32)) q in
+        record { each = k; inside = r; is = sym (bounded (n * k) many (nat_lt (n * k) (2 ^ 32)) f) ∙ ap (λ y. y * k) (sym wide) }

@@ -1,0 +1,25 @@
+//! A queue across the end of its block.
+
+use std::test::Fail;
+use token_ring::Ring;
+
+#[test]
+fn a_ring_is_a_list(rt: HostRuntime) -> Result<(), Fail> {
+    let mut ring = Ring::new(rt.alloc(), 3)?;
+    assert!(rt; ring.is_empty());
+    ring.push(1);
+    ring.push(2);
+    ring.push(3);
+    ring.take(2);
+    ring.push(4);
+    ring.push(5);
+    assert_eq!(rt; ring.len(), 3);
+    assert_eq!(rt; ring.room(), 0);
+    assert_eq!(rt; ring.at(0), 3);
+    assert_eq!(rt; ring.at(1), 4);
+    assert_eq!(rt; ring.at(2), 5);
+    let tokens = ring.peek();
+    assert_eq!(rt; tokens.at(0), 3);
+    assert_eq!(rt; tokens.at(2), 5);
+    Ok(())
+}

@@ -1,0 +1,171 @@
+//! Each adapter once on real files, in a folder of its own where the test runs.
+
+ghost use Rattle.std.specs.Prelude.{◌≡◌, ◌<◌, ℕ, true, length};
+ghost use Rattle.rvc_real.specs.Open.{feed_is_open, channel_is_open};
+
+use rvc_io::{Drains, Failed, Feeds, Library, MAX_FILE_BYTES, ReadAnswer};
+use rvc_real::{FileDrains, FileFeeds, FolderLibrary};
+use std::fs;
+use std::process::Abort;
+use std::test::Fail;
+
+const FOLDER: &str = "rvc_real_library";
+
+/// A file of so many zero bytes.
+fn write_zeros(rt: &HostRuntime, path: &str, bytes: usize) -> Result<(), Fail> {
+    let zeros = vec![in rt.alloc(); 0u8; bytes]?;
+    fs::write(rt, path, zeros.as_slice())?;
+    Ok(())
+}
+
+/// The folder with its files.
+fn write_folder(rt: &HostRuntime) -> Result<(), Fail> {
+    fs::create_dir(rt, FOLDER)?;
+    fs::create_dir(rt, "rvc_real_library/folder")?;
+    fs::write(rt, "rvc_real_library/three", b"abc".as_slice())?;
+    fs::write(rt, "rvc_real_library/empty", b"".as_slice())?;
+    write_zeros(rt, "rvc_real_library/full", MAX_FILE_BYTES)?;
+    write_zeros(rt, "rvc_real_library/longer", MAX_FILE_BYTES + 1)
+}
+
+/// Reads `name`, and says how that went and how many bytes there were.
+fn read(
+    rt: &HostRuntime,
+    library: &mut FolderLibrary<&HostRuntime>,
+    name: &str,
+) -> (ReadAnswer, usize) {
+    let mut out = Vec::new(rt.alloc());
+    let answer = library.read(rt.alloc(), name, &mut out);
+    (answer, out.len())
+}
+
+/// Stops unless the names are read so.
+fn hold_reads(
+    rt: &impl Abort,
+    host: &HostRuntime,
+    library: &mut FolderLibrary<&HostRuntime>,
+    rows: &[(&str, ReadAnswer, usize)],
+) {
+    for &(name, answer, bytes) in rows {
+        let found = read(host, library, name);
+        assert!(rt; found == (answer, bytes), "{name}");
+    }
+}
+
+/// Names, how they are read, and how many bytes they have.
+const READS: &[(&str, ReadAnswer, usize)] = &[
+    ("rvc_real_library/three", ReadAnswer::Found, 3),
+    ("rvc_real_library/empty", ReadAnswer::Found, 0),
+    ("rvc_real_library/full", ReadAnswer::Found, MAX_FILE_BYTES),
+    ("rvc_real_library/longer", ReadAnswer::TooLong, 0),
+    ("rvc_real_library/none", ReadAnswer::Missing, 0),
+    ("rvc_real_library/three/within", ReadAnswer::Missing, 0),
+    ("rvc_real_library/folder", ReadAnswer::Failed, 0),
+    ("rvc_real_library/folder/../three", ReadAnswer::Missing, 0),
+    ("/dev/null", ReadAnswer::Missing, 0),
+];
+
+/// Stops unless the file has these bytes.
+fn hold_bytes(
+    rt: &impl Abort,
+    host: &HostRuntime,
+    library: &mut FolderLibrary<&HostRuntime>,
+    name: &str,
+    want: &[u8],
+) {
+    let mut out = Vec::new(host.alloc());
+    let answer = library.read(host.alloc(), name, &mut out);
+    assert!(rt;
+        answer == ReadAnswer::Found && out.as_slice() == want,
+        "{name}"
+    );
+}
+
+/// Reads the files of the folder.
+fn read_folder(rt: &impl Abort, host: &HostRuntime) {
+    let mut library = FolderLibrary::new(host);
+    hold_reads(rt, host, &mut library, READS);
+    hold_bytes(rt, host, &mut library, "rvc_real_library/three", b"abc");
+}
+
+#[test]
+fn reads_below_the_current_folder(rt: HostRuntime) -> Result<(), Fail> {
+    let _ = fs::remove_dir_all(&rt, FOLDER);
+    write_folder(&rt)?;
+    read_folder(&rt, &rt);
+    fs::remove_dir_all(&rt, FOLDER)?;
+    Ok(())
+}
+
+/// Pulls into two bytes, to which these come.
+fn pull(rt: &impl Abort, feeds: &mut FileFeeds<&HostRuntime>, feed: u32, want: &[u8])
+    requires { feed_is_open feeds.old feed ≡ true }
+    ensures { (other : ℕ) → feed_is_open feeds.new other ≡ feed_is_open feeds.old other }
+{
+    let mut buffer = [0u8; 2];
+    let Ok(count) = feeds.pull(feed, &mut buffer) else {
+        panic!(rt; "feed {feed} fails")
+    };
+    assert!(rt; &buffer[..count] == want);
+}
+
+/// Pulls a file of three bytes by two feeds.
+fn pull_three(rt: &impl Abort, host: &HostRuntime) {
+    let mut feeds = FileFeeds::new(host, host.alloc());
+    assert!(rt; feeds.open(3, "rvc_real_no_feed") == Err(Failed));
+    assert!(rt; feeds.open(3, "rvc_real_feed") == Ok(()));
+    assert!(rt; feeds.open(1, "rvc_real_feed") == Ok(()));
+    pull(rt, &mut feeds, 3, b"ab");
+    pull(rt, &mut feeds, 3, b"c");
+    pull(rt, &mut feeds, 3, b"");
+    pull(rt, &mut feeds, 1, b"ab");
+}
+
+#[test]
+fn pulls_from_files(rt: HostRuntime) -> Result<(), Fail> {
+    fs::write(&rt, "rvc_real_feed", b"abc".as_slice())?;
+    pull_three(&rt, &rt);
+    fs::remove_file(&rt, "rvc_real_feed")?;
+    Ok(())
+}
+
+/// Puts a piece, which is taken whole.
+fn put(rt: &impl Abort, drains: &mut FileDrains<&HostRuntime>, channel: u32, piece: &[u8])
+    requires open { channel_is_open drains.old channel ≡ true }
+    requires some { 0 < length piece.now }
+    ensures { (other : ℕ) → channel_is_open drains.new other ≡ channel_is_open drains.old other }
+{
+    let Ok(count) = drains.put(channel, piece) else {
+        panic!(rt; "channel {channel} fails")
+    };
+    assert!(rt; count == piece.len());
+}
+
+/// Stops unless a file has this text.
+fn hold_text(rt: &impl Abort, host: &HostRuntime, path: &str, want: &str) {
+    let Ok(text) = fs::read_to_string(host, path) else {
+        panic!(rt; "no file {path}")
+    };
+    assert!(rt; text.as_str() == want);
+}
+
+/// Puts pieces into standard output and a file, and one into a file that takes none.
+fn put_pieces(rt: &impl Abort, host: &HostRuntime) {
+    let mut drains = FileDrains::new(host, host.alloc());
+    put(rt, &mut drains, 0, b"out\n");
+    assert!(rt; drains.open(2, "rvc_real_no_folder/drain") == Err(Failed));
+    assert!(rt; drains.open(2, "rvc_real_drain") == Ok(()));
+    put(rt, &mut drains, 2, b"ab");
+    put(rt, &mut drains, 2, b"c");
+    hold_text(rt, host, "rvc_real_drain", "abc");
+    assert!(rt; drains.open(1, "/dev/full") == Ok(()));
+    assert!(rt; drains.put(1, b"a") == Err(Failed));
+}
+
+#[test]
+fn puts_into_files_and_standard_output(rt: HostRuntime) -> Result<(), Fail> {
+    fs::write(&rt, "rvc_real_drain", b"before".as_slice())?;
+    put_pieces(&rt, &rt);
+    fs::remove_file(&rt, "rvc_real_drain")?;
+    Ok(())
+}
