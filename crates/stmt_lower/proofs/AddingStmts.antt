@@ -40,12 +40,12 @@ use Rattle.expr_lower.specs.Meant.{single_meant}
 use Rattle.list_lower.specs.ShapeMeant.{shape_meant}
 use Rattle.stmt_lower.specs.ListStarting.{left_out_list_start, local_of}
 use Rattle.stmt_lower.specs.StartWords.{TakesListStart}
-use Rattle.stmt_lower.specs.Stating.{IsKept, IsStmt, copy_code, no_place, part_tail, place_more, set_filled, set_items, set_list, set_part, set_part_list, step_code, AreStmts, set, set_item, if_alone, if_else, while_code, each_code, none, one_more, IsBlock, variable_more, counter_at, each_bounds, each_head, each_less, each_next, each_tail, each_turn, call, run_code, list_more}
+use Rattle.stmt_lower.specs.Stating.{IsKept, IsStmt, copy_code, no_place, part_tail, place_more, set_filled, set_items, set_list, set_part, set_part_list, set_whole, step_code, AreStmts, set, set_item, if_alone, if_else, while_code, each_code, none, one_more, IsBlock, variable_more, counter_at, each_bounds, each_head, each_less, each_next, each_tail, each_turn, call, run_code, list_more}
 use Rattle.expr_lower.specs.Starting.{IsStart, left_out_start}
 use Rattle.stmt_lower.specs.Reserving.{HasMore, HasTaken}
 use Rattle.expr_lower.specs.Taking.{HasOneMore}
 use Rattle.expr_lower.specs.Callees.{Function}
-use Rattle.stmt_lower.specs.StmtGrowing.{left_out_chosen, left_out_deep, left_out_each, left_out_items, left_out_put, left_out_set, left_out_stmt, left_out_all, left_out_vars}
+use Rattle.stmt_lower.specs.StmtGrowing.{left_out_chosen, left_out_deep, left_out_each, left_out_filled, left_out_items, left_out_part, left_out_put, left_out_set, left_out_stmt, left_out_all, left_out_vars}
 use Rattle.expr_lower.proofs.Adding.{length_join, put_adds}
 use Rattle.list_lower.specs.LeftOut.{left_out_fill}
 use Rattle.stmt_lower.proofs.DeepItems.{grows_kept, part_leaf, part_sized}
@@ -473,6 +473,28 @@ part_fault fs names text places value at g draft fault h f = subst (λ o. IsFaul
     first TooLong f = f
     first TooManyCells f = f
     first (NotLowered n) f = ap (λ o. o or_else left_out_fill fs names (shape_view g.part.now) value) f
+
+-- ---- whole lists of names
+
+pub whole_adds : {rs : Routines} (names : List Name) (text : List ℕ) (value : Tree) (place at from : ℕ) (p : Part) (c : ListCells) (old new : Draft) → part_named names (tree.variable text 0) ≡ Some p → whole_cells_in p ≡ Some c → source_of names p.shape value ≡ Some from
+    → IsPut (op.Copy c.cell from c.size (Some c.kind) ∷ []) old new → Adds (IsStmt rs names (tree.assign (tree.ident text place) tree.nil value at)) old new
+whole_adds {rs = rs} names text value place at from p c old new e g s q =
+    let w : IsWhole names text p = whole_found names text 0 p e in
+    let cells = whole_cells p c p.seat refl g in
+    let v : IsSource names p.shape value from = source_found names p.shape value from s in
+    let wide : scalars_of_type w.x.shape ≡ c.size = sized_is w.x.shape p.size w.size ∙ sym cells.1 in
+    let leaf : leaf_of w.x.shape ≡ c.kind = ap leaf_of w.shape ∙ sym cells.2 in
+    let alike_there : alike w.x.shape v.y.shape ≡ true = ap (λ t. alike t v.y.shape) w.shape ∙ v.same in
+    put_adds (IsStmt rs names (tree.assign (tree.ident text place) tree.nil value at)) (op.Copy c.cell from c.size (Some c.kind) ∷ []) old new q
+    (λ base n. subst (λ k. IsStmt rs names (tree.assign (tree.ident text place) tree.nil value at) base n (op.Copy c.cell from k (Some c.kind) ∷ []) n) wide
+    (subst (λ t. IsStmt rs names (tree.assign (tree.ident text place) tree.nil value at) base n (op.Copy c.cell from (scalars_of_type w.x.shape) (Some t) ∷ []) n) leaf
+    (subst (λ u. IsStmt rs names (tree.assign (tree.ident text place) tree.nil u at) base n (op.Copy c.cell from (scalars_of_type w.x.shape) (Some (leaf_of w.x.shape)) ∷ []) n) (sym v.tree_is)
+    (set_whole names text v.text place v.place at base n c.cell from w.x v.y w.is (w.seat ∙ cells.0) v.is v.seat alike_there))))
+
+-- of which nothing is left out
+pub whole_none : (fs : List Function) (names : List Name) (text : List ℕ) (value : Tree) (at from : ℕ) (p : Part) (c : ListCells) → part_named names (tree.variable text 0) ≡ Some p → whole_cells_in p ≡ Some c → source_of names p.shape value ≡ Some from → left_out_filled fs names text value at ≡ None
+whole_none fs names text value at from p c e g s =
+    ap (λ o. left_out_part fs names o value at) e ∙ ap (λ (o : Option ListCells). elim o [ None ↦ Some at | Some d ↦ left_out_fill fs names p.shape value ]) g ∙ source_whole fs names p.shape value from s
 
 pub items_adds : {rs : Routines} (names : List Name) (text : List ℕ) (items : Tree) (list place at count first : ℕ) (c : ListCells) (old d0 d1 new : Draft) → cells_named names text ≡ Some c → count ≡ number_of items → count ≡ c.size → HasMore count old d0 first
     → Adds (IsKept rs.functions names first items) d0 d1 → IsPut (copy_code c.cell c.size c.kind (Cell first)) d1 new → Adds (IsStmt rs names (tree.assign (tree.ident text place) tree.nil (tree.list items list) at)) old new

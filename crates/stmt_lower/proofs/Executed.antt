@@ -17,7 +17,7 @@ use Rattle.expr_lower.specs.Names.{Name, named, local}
 use Rattle.expr_lower.specs.Held.{AreBelow, AllApart, AreApart}
 use Rattle.stmt_lower.specs.Changing.{AreTyped, HoldsVars, KeepsBut, NamesApart}
 use Rattle.expr_lower.specs.Coding.{AreArgs, IsCode, IsTest}
-use Rattle.stmt_lower.specs.Stating.{IsStmt, AreStmts, IsKept, call, set, set_filled, set_item, set_items, set_list, set_part, set_part_list, if_alone, if_else, while_code, each_code, block_code, none, one_more, IsBlock, list_more, no_more, variable_more}
+use Rattle.stmt_lower.specs.Stating.{IsStmt, AreStmts, IsKept, call, set, set_filled, set_item, set_items, set_list, set_part, set_part_list, set_whole, if_alone, if_else, while_code, each_code, block_code, none, one_more, IsBlock, list_more, no_more, variable_more}
 use Rattle.expr_lower.specs.Starting.{IsStart, at_zero, at_value}
 use Rattle.expr_lower.specs.Placed.{StandsAt, World, state}
 use Rattle.expr_lower.specs.Following.{Follows}
@@ -33,7 +33,7 @@ use Rattle.expr_lower.specs.Listed.{list_named}
 use Rattle.expr_lower.specs.Parted.{number_of}
 use Rattle.stmt_lower.proofs.Copying.{set_list_performs}
 use Rattle.stmt_lower.proofs.DeepItems.{grows_kept, set_part_performs}
-use Rattle.stmt_lower.proofs.NamedParts.{set_part_list_performs}
+use Rattle.stmt_lower.proofs.NamedParts.{set_part_list_performs, set_whole_performs}
 use Rattle.list_lower.specs.Filling.{IsFill}
 use Rattle.list_lower.proofs.Filled.{grows_fill}
 use Rattle.stmt_lower.proofs.FillingRuns.{set_filled_performs}
@@ -182,6 +182,7 @@ mutual
   grows_stmt (set names text value place at base n m c code x t e seat shape g) = grows g
   grows_stmt (set_list names text value place at base n c size x t l e seat shape g many) = omega arith
   grows_stmt (set_items names text items list place at base n m c size a x t e seat shape number g) = let x = grows_kept g in omega (arith, x)
+  grows_stmt (set_whole names text from place from_at at base n c d x y e seat f there same) = omega arith
   grows_stmt (set_filled names text value place at base n m c a x e seat g) = let y = grows_fill g in omega (arith, y)
   grows_stmt (set_item names text spot value place at base n k m c size a b x t e seat shape g d) = let x = grows g in let y = grows d in omega (arith, x, y)
   grows_stmt (set_part names text places value place at base n k m c size a b x t e seat shape part g d) = let x = grows_kept g in let y = grows_fill d in omega (arith, x, y)
@@ -214,6 +215,8 @@ module _ (rs : Routines) (outer : List Name) (w : World) (serves : Serves w oute
         set_list_performs rs outer w serves frames runs inner text value place at base n c size x t l (subst (λ ns. named text ns ≡ Some x) is e) seat shape (subst (λ ns. list_named ns value ≡ Some l) is g) many
     performs inner is (set_items names text items list place at base n m c size a x t e seat shape number g) =
         set_items_performs rs outer w serves frames runs inner text items list place at base n m c size a x t (subst (λ ns. named text ns ≡ Some x) is e) seat shape number (subst (λ ns. IsKept rs.functions ns n items base (n + size) a m) is g)
+    performs inner is (set_whole names text from place from_at at base n c d x y e seat f there same) =
+        set_whole_performs rs outer w serves frames runs inner text from place from_at at base n c d x y (subst (λ ns. named text ns ≡ Some x) is e) seat (subst (λ ns. named from ns ≡ Some y) is f) there same
     performs inner is (set_filled names text value place at base n m c a x e seat g) =
         set_filled_performs rs outer w serves frames runs inner text value place at base n m c a x (subst (λ ns. named text ns ≡ Some x) is e) seat (subst (λ ns. IsFill rs.functions ns value x.shape n base (n + scalars_of_type x.shape) a m) is g)
     performs inner is (set_item names text spot value place at base n k m c size a b x t e seat shape g d) =

@@ -18,7 +18,7 @@ use Rattle.stmt_lower.specs.Changing.{AreTyped}
 use Rattle.expr_lower.specs.Fitting.{Fits}
 use Rattle.expr_lower.specs.Parted.{number_of, sized}
 use Rattle.expr_lower.specs.Placed.{StandsAt}
-use Rattle.stmt_lower.specs.Stating.{IsKept, IsStmt, AreStmts, copy_code, no_place, part_tail, place_more, set, set_filled, set_item, set_items, set_list, set_part, set_part_list, step_code, step_in, if_alone, if_else, while_code, each_code, each_head, each_tail, block_code, none, one_more, IsBlock, list_more, no_more, variable_more, call, run_code}
+use Rattle.stmt_lower.specs.Stating.{IsKept, IsStmt, AreStmts, copy_code, no_place, part_tail, place_more, set, set_filled, set_item, set_items, set_list, set_part, set_part_list, set_whole, step_code, step_in, if_alone, if_else, while_code, each_code, each_head, each_tail, block_code, none, one_more, IsBlock, list_more, no_more, variable_more, call, run_code}
 use Rattle.expr_lower.specs.Starting.{IsStart, at_zero, at_value}
 use Rattle.expr_lower.proofs.Coded.{grows, grows_test}
 use Rattle.stmt_lower.proofs.DeepItems.{grows_kept, part_typed}
@@ -176,6 +176,12 @@ module _ (code : Code) (callable limit : ℕ) where
           let listed : IsType (Many size (Single t)) = subst IsType shape (typed text x e) in
           plain_then code callable limit base h h h a (copy_code c size t (Cell n)) (fits_kept names h (omega (arith, number)) below le (stands_left code.instrs base a (copy_code c size t (Cell n)) stands) g)
           (fits_copy (base + length a) h c size t (Cell n) (omega (arith, to)) (omega (arith, wide, le)) listed.2)
+      fits_stmt h below typed le stands (set_whole names text from place from_at at base n c d x y e seat f there same) =
+          let size : ℕ = scalars_of_type x.shape in
+          let to = cells_there n c names text x x.shape below le e seat refl in
+          let from_cells = cells_there n d names from y y.shape below le f there refl in
+          let sizes = alike_sizes x.shape y.shape same in
+          fits_one code callable limit base h h (op.Copy c d size (Some (leaf_of x.shape))) (omega arith) (omega arith) refl (to, omega (arith, from_cells, sizes)) tt tt (leaf_size x.shape (typed text x e))
       fits_stmt h below typed le stands (set_filled names text value place at base n m c a x e seat g) =
           let size : ℕ = scalars_of_type x.shape in
           let wide = grows_fill g in

@@ -1,16 +1,21 @@
--- The code that stores the list of a name in a part of a list does what executing the assignment does.
-use Rattle.std.proofs.Common.{◌≡◌, ℕ, ◌+◌, ◌≤◌, ◌⊎◌, inl, inr, ⊎_elim, List, ◌++◌, length, Bool, true, false, refl, sym, ap, ◌∙◌, subst, Option, Some, arith, length-append}
+-- The code that stores the list of a name, in a part of a list or in a whole one, does what executing the assignment does.
+use Rattle.std.proofs.Common.{◌≡◌, ℕ, ◌+◌, ◌≤◌, ◌⊎◌, inl, inr, ⊎_elim, ℤ, List, [], ◌∷◌, ◌++◌, length, Bool, true, false, refl, sym, ap, ◌∙◌, subst, Option, Some, arith, length-append}
+use Rattle.std.specs.Prelude.{slice_get}
 use Rattle.std.specs.Str.{bytes_eq}
+use Rattle.std.proofs.lemmas.Option.{slice_get_within}
+use Rattle.rvc_base.specs.declared.scalar.Scalar.{Scalar}
 use Rattle.std.proofs.lemmas.Slice.Eq.{bytes_eq-Decides}
 use Rattle.cal_ast.specs.Tree as tree
 use Rattle.cal_ast.specs.Tree.{Tree}
-use Rattle.cal_model.specs.Value.{Shape, Value, scalars_of_type}
+use Rattle.cal_model.specs.Value.{Shape, Value, Nil, IsType, scalars_of_type, stored}
 use Rattle.cal_model.specs.Outcome.{Out, Gives, and_then, known}
 use Rattle.cal_model.specs.Env.{assign}
 use Rattle.cal_model.specs.Expression.{eval, eval_all}
 use Rattle.cal_model.specs.Statement.{Runs, exec}
 use Rattle.code_ir.specs.declared.instr.Instr.{Instr}
-use Rattle.code_ir.specs.Running.{State}
+use Rattle.code_ir.specs.declared.instr.Instr.TheVariants as op
+use Rattle.code_ir.specs.Effect.{copied, stored as in_cell}
+use Rattle.code_ir.specs.Running.{State, Reaches}
 use Rattle.expr_lower.specs.declared.names.Seat.TheVariants.{Cell}
 use Rattle.expr_lower.specs.Calling.{Serves}
 use Rattle.expr_lower.specs.Flat.{flat}
@@ -21,16 +26,21 @@ use Rattle.expr_lower.specs.Parted.{alike, number_of, sized}
 use Rattle.expr_lower.specs.Placed.{World, state}
 use Rattle.expr_lower.proofs.PartValues.{sized_is}
 use Rattle.expr_lower.proofs.Runs.{follows_then, stands_left, stands_right}
-use Rattle.list_lower.proofs.Shapes.{alike_sizes, kind_shaped}
+use Rattle.expr_lower.proofs.Written.{Written}
+use Rattle.list_lower.specs.Shaped.{IsShaped}
+use Rattle.list_lower.proofs.Moving.{AreMoved, copied_are, copy_leaves}
+use Rattle.list_lower.proofs.Shapes.{alike_sizes, flat_shaped, kind_shaped}
+use Rattle.list_lower.proofs.Steps.{straight_reaches}
 use Rattle.stmt_lower.specs.Bodies.{CutShort}
 use Rattle.stmt_lower.specs.Changing.{SeatsApart}
 use Rattle.stmt_lower.specs.Procedures.{Routines}
 use Rattle.stmt_lower.specs.Stating.{IsKept, part_tail, step_code}
-use Rattle.stmt_lower.specs.Targets.{part_in}
-use Rattle.stmt_lower.proofs.Copying.{laid_distinct}
+use Rattle.stmt_lower.specs.Targets.{leaf_of, part_in}
+use Rattle.stmt_lower.proofs.Copying.{laid_distinct, stores_run}
 use Rattle.stmt_lower.proofs.DeepItems.{AtKept, grows_kept, keep, tail_moves}
+use Rattle.stmt_lower.proofs.Leaves.{stored_leaf}
 use Rattle.stmt_lower.proofs.Performing.{Moves, Performs, cut_breaks, moves_at}
-use Rattle.stmt_lower.proofs.Scoping.{AreLaid, HoldsInside, inside_still, laid_below, names_held}
+use Rattle.stmt_lower.proofs.Scoping.{AreLaid, HoldsInside, PutsAt, inside_still, laid_below, laid_typed, names_held}
 
 module _ (rs : Routines) (outer : List Name) (w : World) (serves : Serves w outer rs.functions) (frames : List ℕ) (runs : Runs) where
   -- the two lists share no cell, or they are one
@@ -89,3 +99,40 @@ module _ (rs : Routines) (outer : List Name) (w : World) (serves : Serves w oute
       (away inner n c d size text from x y t laid e seat many f there same) (omega (arith, under, wide, grown, one, room)) (subst (λ z. StandAt z w.tokens q.cells (flat v.value)) there v.stands) (kind_shaped t y.shape v.value same v.of_type)
       q.kept q.as_many q.reaches q.keeps holds)))
       (λ b q. cut_breaks rs outer w serves frames names n n m m s b (omega arith) (omega arith) q)
+
+  -- .. or in the whole variable
+  pub set_whole_performs : (inner : List Name) (text from : List ℕ) (place from_at at base n c d : ℕ) (x y : Name) → named text (inner ++ outer) ≡ Some x → x.seat ≡ Cell c → named from (inner ++ outer) ≡ Some y → y.seat ≡ Cell d → alike x.shape y.shape ≡ true
+      → Performs rs outer w serves frames inner (λ env left. exec (tree.assign (tree.ident text place) tree.nil (tree.variable from from_at) at) w.calls runs env left) base n (op.Copy c d (scalars_of_type x.shape) (Some (leaf_of x.shape)) ∷ []) n
+  set_whole_performs inner text from place from_at at base n c d x y e seat f there same stack cells env left stands laid apart room holds =
+      let names : List Name = inner ++ outer in
+      let size : ℕ = scalars_of_type x.shape in
+      let leaf : Scalar = leaf_of x.shape in
+      let i : Instr = op.Copy c d size (Some leaf) in
+      let s : State = state base stack frames cells left in
+      let v : HoldsName w.tokens cells env from y = names_held rs outer w.tokens w.low w.high inner cells env holds from y f in
+      let gives : eval (tree.variable from from_at) w.calls env left ≡ Gives v.value left = ap (λ (o : Option Value). known o left) v.meant in
+      let wide : size ≡ scalars_of_type y.shape = alike_sizes x.shape y.shape same in
+      let under : c + size ≤ n = subst (λ z. SeatIsBelow n size z) seat (laid_below rs outer w.tokens w.low w.high n inner laid text x e) in
+      let below : d + scalars_of_type y.shape ≤ n = subst (λ z. SeatIsBelow n (scalars_of_type y.shape) z) there (laid_below rs outer w.tokens w.low w.high n inner laid from y f) in
+      let typed : IsType x.shape = laid_typed rs outer w.tokens w.low w.high n inner laid text x e in
+      let to : c + size ≤ length cells = omega (arith, under, room) in
+      let source : d + size ≤ length cells = omega (arith, below, wide, room) in
+      let far : (d + size ≤ c) ⊎ (c ≤ d) = ⊎_elim (λ (a : d + size ≤ c). inl a) (λ (a : c + size ≤ d + size). inr (omega (arith, a))) (away inner n c d size text from x y x.shape laid e seat refl f there same) in
+      let written : List ℤ = copied (Some leaf) c d size cells in
+      let moved : AreMoved (in_cell (Some leaf)) (λ j. slice_get cells (d + j)) c size cells written = copied_are (Some leaf) c d size cells far to in
+      let on : Reaches w.code w.tokens s (state (base + 1) stack frames written left) =
+      straight_reaches w base i stack stack frames cells written left (λ code tokens q. refl) stands.0 (copy_leaves (Some leaf) c d size w.tokens stack cells to source) in
+      let wrote : Written c size cells written = record { length_same = moved.same_size; cell = moved.others } in
+      let shaped : IsShaped x.shape v.value = kind_shaped x.shape y.shape v.value same v.of_type in
+      let made = stored_leaf x.shape v.value shaped typed in
+      let all : length (flat v.value) ≡ size = flat_shaped x.shape v.value shaped in
+      let stands_there : StandAt (Cell d) w.tokens cells (flat v.value) = subst (λ z. StandAt z w.tokens cells (flat v.value)) there v.stands in
+      let now : StandAt (Cell c) w.tokens written (flat (stored x.shape v.value)) = λ j z g.
+      let old = made.1 j z g in
+      let within = slice_get_within (flat v.value) j old.0 old.1 in
+      moved.there j old.0 (omega (arith, within, all)) (stands_there j old.0 old.1) ∙ ap Some (sym old.2)
+      in
+      let puts : PutsAt rs outer w.tokens w.low w.high (Unit {0}) x cells written Nil v.value left (λ b. ⊥) =
+      λ u kind stand. (refl, ((made.0, subst (λ z. StandAt z w.tokens written (flat (stored x.shape v.value))) (sym seat) now), tt)) in
+      subst (λ (o : Out Value). Follows (and_then o (λ v j. assign env text Nil v j)) (Moves rs outer w serves frames inner n n s (base + 1) (length env.locals)) (CutShort w names outer n n s)) (sym gives)
+      (stores_run rs outer w serves frames runs inner n base (base + 1) c text x stack cells written v.value env left on laid e seat wrote puts holds)

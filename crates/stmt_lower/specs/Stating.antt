@@ -122,6 +122,13 @@ mutual
         → number_of items ≡ size → IsKept rs.functions names n items base (n + size) a m
         → IsStmt rs names (tree.assign (tree.ident text place) tree.nil (tree.list items list) at)
         base n (a ++ copy_code c size t (Cell n)) m
+    -- the numbers of another list at any depth, which isn't copied before
+    set_whole : (names : List Name) (text from : List ℕ) (place from_at at base n c d : ℕ)
+        (x y : Name)
+        → named text names ≡ Some x → x.seat ≡ Cell c
+        → named from names ≡ Some y → y.seat ≡ Cell d → alike x.shape y.shape ≡ true
+        → IsStmt rs names (tree.assign (tree.ident text place) tree.nil (tree.variable from from_at) at) base n
+        (op.Copy c d (scalars_of_type x.shape) (Some (leaf_of x.shape)) ∷ []) n
     -- any other list, which is filled apart before its items are stored
     set_filled : (names : List Name) (text : List ℕ) (value : Tree) (place at base n m c : ℕ)
         (a : List Instr) (x : Name)

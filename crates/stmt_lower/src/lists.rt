@@ -18,7 +18,7 @@ ghost use Rattle.stmt_lower.specs.StmtWords.{set_one_of};
 use crate::counter::take_row;
 use crate::deep::keep;
 use crate::scope::StmtScope;
-use crate::targets::{ListCells, whole_cells};
+use crate::targets::{ListCells, source_of, whole_cells};
 use cal_ast::{Expr, Ident};
 use code_ir::Instr;
 use expr_lower::{Draft, LowerFault, Seat, list_named, put, put_all, whole_called};
@@ -75,8 +75,8 @@ pub(crate) fn set_items(
     copy(to, Seat::Cell(first), draft)
 }
 
-/// Appends an assignment of any other list, at any depth: it is filled apart, since it may read what the variable
-/// held, and then stored.
+/// Appends an assignment of any other list, at any depth. That of a name is stored from where it stands; any other one
+/// is filled apart, since it may read what the variable held, and then stored.
 pub(crate) fn set_filled(
     scope: &StmtScope,
     name: &Ident,
@@ -97,6 +97,9 @@ pub(crate) fn set_filled(
     let Some(to) = whole_cells(whole) else {
         return Err(LowerFault::NotLowered { at });
     };
+    if let Some(from) = source_of(&scope.values, whole.shape, value) {
+        return put(draft, Instr::Copy(to.cell, from, to.size, Some(to.kind)));
+    }
     let first = take_row(to.size as usize, draft)?;
     fill(&scope.values, value, whole.shape, first, draft)?;
     put(draft, Instr::Copy(to.cell, first, to.size, Some(to.kind)))

@@ -11,7 +11,7 @@ use Rattle.network_runner.proofs.runner.Runner.make_round.Goals as goal
 
 pub returns-in-Err-clause-leaves : goal.returns-in-Err-clause-leaves
 returns-in-Err-clause-leaves g c = λ net inputs budget s stands.
-    cut_now net inputs s c.in-Err.feed (seen_run g.A.Firing.cell c.args.self.now) (seen_run g.A.Firing.cell c.deliver.new.self) (g.F.Feeds.feeds c.deliver.new.feeds) (g.D.Drains.channels c.args.drains.now)
+    cut_now net inputs s c.in-Err.field-0.feed (seen_run g.A.Firing.cell c.args.self.now) (seen_run g.A.Firing.cell c.deliver.new.self) (g.F.Feeds.feeds c.deliver.new.feeds) (g.D.Drains.channels c.args.drains.now)
     (c.in-Err.ensures.stops net inputs s stands)
     c.deliver.ensures.same_others.trace c.deliver.ensures.same_others.buffers c.in-Err.ensures.not_counted
 

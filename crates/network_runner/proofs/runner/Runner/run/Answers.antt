@@ -1,6 +1,6 @@
 use Rattle.std.proofs.Common.{◌-◌, ⊎_elim, sym, ap}
 use Rattle.network_runner.specs.Asking.{end_of}
-use Rattle.network_runner.proofs.Onward.{onward_more, onward_starts, run_leaves, run_too}
+use Rattle.network_runner.proofs.Onward.{onward_more, onward_starts, run_arrive, run_leaves, run_too}
 use Rattle.network_runner.proofs.Continued.{left_after}
 use Rattle.network_runner.proofs.runner.Runner.run.Goals as goal
 
@@ -25,6 +25,12 @@ rounds-preserved g c =
 
 pub returns-in-End-clause-leaves : goal.returns-in-End-clause-leaves
 returns-in-End-clause-leaves g c = run_leaves g.A.Firing.cell g.F.Feeds.feeds g.D.Drains.channels (g.G.Gate.arrived c.args.gate.now) c.args.self.now c.rounds.self c.round.new.self c.args.feeds.now c.rounds.feeds c.round.new.feeds c.args.drains.now c.rounds.drains c.round.new.drains c.args.budget c.rounds.left c.round.result c.rounds.invariant
+    c.round.ensures.leaves c.round.ensures.faults c.round.ensures.firings c.round.ensures.within c.round.ensures.ended c.round.ensures.advances c.round.ensures.arrive c.round.ensures.same_end c.round.ensures.untouched
+    c.round.ensures.same_run c.round.ensures.feeds_fit c.round.ensures.same_feeds c.round.ensures.others
+    c.in-End.end c.in-End.is
+
+pub returns-in-End-clause-arrive : goal.returns-in-End-clause-arrive
+returns-in-End-clause-arrive g c = run_arrive g.A.Firing.cell g.F.Feeds.feeds g.D.Drains.channels (g.G.Gate.arrived c.args.gate.now) c.args.self.now c.rounds.self c.round.new.self c.args.feeds.now c.rounds.feeds c.round.new.feeds c.args.drains.now c.rounds.drains c.round.new.drains c.args.budget c.rounds.left c.round.result c.rounds.invariant
     c.round.ensures.leaves c.round.ensures.faults c.round.ensures.firings c.round.ensures.within c.round.ensures.ended c.round.ensures.advances c.round.ensures.arrive c.round.ensures.same_end c.round.ensures.untouched
     c.round.ensures.same_run c.round.ensures.feeds_fit c.round.ensures.same_feeds c.round.ensures.others
     c.in-End.end c.in-End.is
