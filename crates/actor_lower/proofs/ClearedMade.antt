@@ -41,12 +41,12 @@ use Rattle.actor_lower.proofs.Rowed.{has-behind, second-sized, stood-in}
 -- ---- routines
 
 body-of : (whole : Code) (begin number : ℕ) (places : List ℕ) → AreBodies whole begin number places → (k p : ℕ) → slice_get places k ≡ Some p → (end : ℕ) × IsBody whole (number + k) p end
-body-of whole begin number [] (no_body n number e) k p at = absurd (cc)
-body-of whole begin number (q ∷ places) (body_more b end n others one rest) zero p at =
-    let same : q ≡ p = cc in
+body-of whole _ _ _ (no_body n number e) k p at = absurd (cc)
+body-of whole _ _ _ (body_more begin end number places one rest) zero p at =
+    let same : begin ≡ p = cc in
     let still : number ≡ number + 0 = omega arith in
     (end, subst (λ m. IsBody whole m p end) still (subst (λ x. IsBody whole number x end) same one))
-body-of whole begin number (q ∷ places) (body_more b end n others one rest) (suc k) p at =
+body-of whole _ _ _ (body_more begin end number places one rest) (suc k) p at =
     let more = body-of whole (end + 1) (number + 1) places rest k p at in
     let count : number + 1 + k ≡ number + suc k = omega arith in
     (more.0, subst (λ m. IsBody whole m p more.0) count more.1)
@@ -200,12 +200,14 @@ module _ (b : Bound) (a : ℕ) (low : a < length b.actions.items) where
   guards-from rs clears kept es old new is served added k entry e =
       let there = action-there b a low in
       let one = (subst (λ c. AddsGuards c rs.functions (actor_of b) a es old new) is added) there.0 there.1 in
-      let found = guards-cleared {rs = rs} one.has (omega arith) k entry e in
-      (found.0, record {
-        below = found.1;
-        body = λ whole more goes.
-            found.2 whole (has-behind (actor_of b) rs old new whole more one.code served one.is one.routines goes) (stood-in whole old.instrs.items new.instrs.items one.code more one.is goes.0);
-      })
+      let found = guards-cleared {rs = rs} one.has (omega arith) k entry e in (
+        found.0,
+        record {
+          below = found.1;
+          body = λ whole more goes.
+              found.2 whole (has-behind (actor_of b) rs old new whole more one.code served one.is one.routines goes) (stood-in whole old.instrs.items new.instrs.items one.code more one.is goes.0);
+        },
+      )
 
 -- ---- firings
 

@@ -141,15 +141,16 @@ place-in : (instrs : List Instr) (base : ℕ) (code : List Instr) (end : Instr) 
 place-in instrs base [] end p i stands from to e =
     let same : p ≡ base = omega (arith, from, to) in
     inr (omega (arith, same), same-some (sym e ∙ (ap (slice_get instrs) same ∙ stands.0)))
-place-in instrs base (x ∷ code) end p i stands from to e = by (cases_lt base p)
+place-in instrs base (x ∷ code) end p i stands from to e =
+    by (λ past. place-in instrs (base + 1) code end p i stands.1 (omega (arith, past)) (omega (arith, to)) e) (cases_lt base p)
   where
     later : Placed code (base + 1) end p i → Placed (x ∷ code) base end p i
     later (inl h) = inl (suc h.0, (let at = h.1 in omega (arith, at)), h.2)
     later (inr h) = inr ((let at = h.0 in omega (arith, at)), h.1)
 
-    by : (base < p) ⊎ (p ≤ base) → Placed (x ∷ code) base end p i
-    by (inl past) = later (place-in instrs (base + 1) code end p i stands.1 (omega (arith, past)) (omega (arith, to)) e)
-    by (inr le) =
+    by : (base < p → Placed code (base + 1) end p i) → (base < p) ⊎ (p ≤ base) → Placed (x ∷ code) base end p i
+    by behind (inl past) = later (behind past)
+    by behind (inr le) =
         let same : p ≡ base = omega (arith, from, le) in
         inl (0, omega (arith, same), sym stands.0 ∙ (ap (slice_get instrs) (sym same) ∙ e))
 
@@ -244,26 +245,35 @@ module _ (l : coded.Actor) where
 
       -- no call stands there
       quiet : ((i : Instr) (r : ℕ) → slice_get instrs to ≡ Some i → called i ≡ Some r → ⊥) → Top begin (to + 1)
-      quiet none = (n, wider begin to n h (λ p i r low less e is.
-          ⊎_elim (λ (before : p < to). h.above p i r low before e is) (λ (same : p ≡ to). absurd (none i r (ap (slice_get instrs) (sym same) ∙ e) is)) (split p less)))
+      quiet none = (
+        n,
+        wider begin to n h (λ p i r low less e is.
+            ⊎_elim (λ (before : p < to). h.above p i r low before e is) (λ (same : p ≡ to). absurd (none i r (ap (slice_get instrs) (sym same) ∙ e) is)) (split p less)),
+      )
 
       -- one does
       loud : (i : Instr) (r : ℕ) → slice_get instrs to ≡ Some i → called i ≡ Some r → (r < n) ⊎ (n ≤ r) → Top begin (to + 1)
-      loud i r e is (inl low) = (n, wider begin to n h (λ p x q from' less f g.
-          ⊎_elim (λ (before : p < to). h.above p x q from' before f g)
-          (λ (same : p ≡ to).
-          let one : i ≡ x = same-some (sym e ∙ (ap (slice_get instrs) (sym same) ∙ f)) in
-          let two : r ≡ q = let k : called i ≡ Some q = ap called one ∙ g in cc in
-          subst (λ k. k < n) two low) (split p less)))
-      loud i r e is (inr high) = (r + 1, record {
-        above = λ p x q from' less f g.
-            ⊎_elim (λ (before : p < to). let one = h.above p x q from' before f g in omega (arith, one, high))
+      loud i r e is (inl low) = (
+        n,
+        wider begin to n h (λ p x q from' less f g.
+            ⊎_elim (λ (before : p < to). h.above p x q from' before f g)
             (λ (same : p ≡ to).
             let one : i ≡ x = same-some (sym e ∙ (ap (slice_get instrs) (sym same) ∙ f)) in
             let two : r ≡ q = let k : called i ≡ Some q = ap called one ∙ g in cc in
-            omega (arith, two)) (split p less);
-        least = inr (to, i, r, from, omega arith, e, is, refl);
-      })
+            subst (λ k. k < n) two low) (split p less)),
+      )
+      loud i r e is (inr high) = (
+        r + 1,
+        record {
+          above = λ p x q from' less f g.
+              ⊎_elim (λ (before : p < to). let one = h.above p x q from' before f g in omega (arith, one, high))
+              (λ (same : p ≡ to).
+              let one : i ≡ x = same-some (sym e ∙ (ap (slice_get instrs) (sym same) ∙ f)) in
+              let two : r ≡ q = let k : called i ≡ Some q = ap called one ∙ g in cc in
+              omega (arith, two)) (split p less);
+          least = inr (to, i, r, from, omega arith, e, is, refl);
+        },
+      )
 
       by-call : (i : Instr) → slice_get instrs to ≡ Some i → (o : Option ℕ) → called i ≡ o → Top begin (to + 1)
       by-call i e None is = quiet (λ x r f g. let one : i ≡ x = same-some (sym e ∙ f) in let no : called i ≡ Some r = ap called one ∙ g in absurd (cc))
@@ -279,20 +289,14 @@ module _ (l : coded.Actor) where
       let next : begin + n + 1 ≡ begin + suc n = omega arith in
       subst (Top begin) next (top-more begin (begin + n) (omega arith) (top-up begin n))
 
+  -- what is between two numbers
+  the-gap : (a b : ℕ) → a ≤ b → (n : ℕ) × (a + n ≡ b)
+  the-gap zero b h = (b, omega arith)
+  the-gap (suc a) zero h = absurd (omega (arith, h))
+  the-gap (suc a) (suc b) h = let g = the-gap a b (omega (arith, h)) in (g.0, let e = g.1 in omega (arith, e))
+
   top-to : (begin to : ℕ) → begin ≤ to → Top begin to
-  top-to begin to le = by (cases_lt begin to)
-    where
-      rest : (n : ℕ) → begin + n ≡ to → Top begin to
-      rest n e = subst (Top begin) e (top-up begin n)
-
-      by : (begin < to) ⊎ (to ≤ begin) → Top begin to
-      by (inl low) = let gap = the-gap begin to le in rest gap.0 gap.1
-      by (inr high) = rest 0 (omega (arith, le, high))
-
-      the-gap : (a b : ℕ) → a ≤ b → (n : ℕ) × (a + n ≡ b)
-      the-gap zero b h = (b, omega arith)
-      the-gap (suc a) zero h = absurd (omega (arith, h))
-      the-gap (suc a) (suc b) h = let g = the-gap a b (omega (arith, h)) in (g.0, let e = g.1 in omega (arith, e))
+  top-to begin to le = let gap = the-gap begin to le in subst (Top begin) gap.1 (top-up begin gap.0)
 
   -- ---- guards and firings
 

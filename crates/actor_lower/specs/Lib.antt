@@ -5,5 +5,6 @@ pub mod Settled
 pub mod Standing
 pub mod Fitting
 pub mod RoutineWords
+pub mod Leaves
 pub mod May
 pub mod ClearedBodies

@@ -46,14 +46,18 @@ actor Both() uint(size=8) In ==> uint(size=8) Out :
   action In:[x] ==> Out:[3] guard not (even(x) or x > 3) end end
 > 4 2 5 1
 = fires 0 1 1 2, sends 1 2 2 3, waits, 0 left
-# Items of lists that are written out, that generators make, and that are chosen.
+# Items of lists that are written out, and that generators make.
 actor Items() uint(size=8) In ==> uint(size=8) Out :
-  function even(uint(size=8) v) --> bool : v mod 2 = 0 end
   action In:[x, i] ==> Out:[if [true, x > 5][i] and x < 9 then 1 else 2 end,
-    if [k = i : for int k in 0 .. 2][x mod 3] or x = 7 then 3 else 4 end,
-    if (if x > 5 then [even(x), true] else [false, even(x)] end)[i] and x > 1 then 5 else 6 end] end end
+    if [k = i : for int k in 0 .. 2][x mod 3] or x = 7 then 3 else 4 end] end end
 > 6 1 4 1 7 2
-= fires 0 0, sends 1 4 5 2 3 5, traps in 0 by IndexRange, 2 left
+= fires 0 0, sends 1 4 2 3, traps in 0 by IndexRange, 2 left
+# Items of a list that is chosen.
+actor Chosen() uint(size=8) In ==> uint(size=8) Out :
+  function even(uint(size=8) v) --> bool : v mod 2 = 0 end
+  action In:[x, i] ==> Out:[if (if x > 5 then [even(x), true] else [false, even(x)] end)[i] and x > 1 then 5 else 6 end] end end
+> 6 1 4 1 7 0 5 1
+= fires 0 0 0 0, sends 5 5 6 6, waits, 0 left
 # Lists in lists, with a name and without one, and what stands behind is evaluated only if it decides.
 actor Deep() uint(size=8) In ==> uint(size=8) Out :
   List(type: List(type: bool, size=2), size=2) m := [[true, false], [false, true]];

@@ -1,5 +1,5 @@
 -- How a command ends, from what the engine and the port words answer.
-use Rattle.std.proofs.Common.{◌≡◌, ℕ, suc, List, [], ◌∷◌, length, map, refl, sym, ap, ◌∙◌}
+use Rattle.std.proofs.Common.{◌≡◌, ℕ, List, [], ◌∷◌, length, map, refl, sym, ap, ◌∙◌}
 use Rattle.std.specs.Prelude.{string_bytes}
 use Rattle.std.proofs.lemmas.List.{length-map}
 use Rattle.rvc_base.specs.declared.refusal.Refusal.{Refusal}
@@ -9,14 +9,14 @@ use Rattle.cal_model.specs.Actor.{Actor}
 use Rattle.cal_model.specs.Selection.{State}
 use Rattle.fnl_flatten.specs.declared.flat.Flat.{Flat}
 use Rattle.leaf_actors.specs.Leaves.{actors_at_leaves}
-use Rattle.net_model.specs.Network.{Leaf as NetLeaf, Network}
+use Rattle.net_model.specs.Network.{Network}
 use Rattle.net_model.specs.Ready.{port_of}
 use Rattle.net_model.specs.declared.wiring.Port.{Port}
 use Rattle.port_words.specs.Matching.{AreMatched, IsWrongWord, names_of}
 use Rattle.run_report.specs.About.{About}
 use Rattle.run_report.specs.Report.{size_lines}
 use Rattle.run_report.specs.declared.status.Status.TheVariants as status
-use Rattle.rvc_engine.specs.Checked.{AreLeavesOf, IsChecked}
+use Rattle.rvc_engine.specs.Checked.{IsChecked, IsNetworkOf}
 use Rattle.rvc_engine.specs.Refused.{IsFault}
 use Rattle.rvc_engine.specs.declared.checked.Checked.{Checked}
 use Rattle.rvc_engine.specs.declared.fault.BuildFault.{BuildFault}
@@ -41,15 +41,9 @@ in_names flat net h = ap port_names h.ins ∙ own_names flat.ins.items
 out_names : (flat : Flat) (net : Network State) → HasWiring flat net → port_names net.outs ≡ names_of flat.outs.items
 out_names flat net h = ap port_names h.outs ∙ own_names flat.outs.items
 
-leaf_count : (paths classes : List (List ℕ)) (actors : List Actor) (xs : List (NetLeaf State)) → AreLeavesOf paths classes actors xs → length xs ≡ length paths
-leaf_count [] [] [] [] h = refl
-leaf_count [] [] [] (x ∷ xs) h = absurd h
-leaf_count [] [] (a ∷ actors) xs h = absurd h
-leaf_count [] (c ∷ classes) actors xs h = absurd h
-leaf_count (p ∷ paths) [] actors xs h = absurd h
-leaf_count (p ∷ paths) (c ∷ classes) [] xs h = absurd h
-leaf_count (p ∷ paths) (c ∷ classes) (a ∷ actors) [] h = absurd h
-leaf_count (p ∷ paths) (c ∷ classes) (a ∷ actors) (x ∷ xs) h = ap suc (leaf_count paths classes actors xs h.1)
+leaf_count : (actors : List Actor) (flat : Flat) (net : Network State) → IsNetworkOf actors flat net → length flat.paths.items ≡ length net.leaves
+leaf_count actors flat net is =
+    sym (length-map flat.paths.items string_bytes) ∙ ap length (sym is.paths_are) ∙ length-map net.leaves (λ leaf. leaf.path)
 
 -- what a report speaks of, by its parts
 about_same : (cmd : Command) (names : List (List ℕ)) (net : Network State) (c : Checked) (n : ℕ) → n ≡ length net.leaves → c.flat.links.items ≡ net.links
@@ -58,11 +52,11 @@ about_same : (cmd : Command) (names : List (List ℕ)) (net : Network State) (c 
     ≡ about_net cmd names net
 about_same cmd names net c n a b d e = λ i. record { files = names; trace = string_bytes cmd.job.trace; words = words_of cmd; instances = a i; links = b i; ins = d i; outs = e i }
 
-about_is : (cmd : Command) (names : Names) (c : Checked) (net : Network State) → AreLeavesOf (map string_bytes c.flat.paths.items) (map string_bytes c.flat.classes.items) (actors_at_leaves c.actors) net.leaves
-    → HasWiring c.flat net → about_checked c names cmd.job ≡ about_net cmd (file_names names) net
-about_is cmd names c net leaves h = about_same cmd (file_names names) net c (length c.flat.paths.items)
-    (sym (leaf_count (map string_bytes c.flat.paths.items) (map string_bytes c.flat.classes.items) (actors_at_leaves c.actors) net.leaves leaves ∙ length-map c.flat.paths.items string_bytes))
-    (sym h.links) (sym (in_names c.flat net h)) (sym (out_names c.flat net h))
+about_is : (cmd : Command) (names : Names) (c : Checked) (net : Network State) → IsNetworkOf (actors_at_leaves c.actors) c.flat net
+    → about_checked c names cmd.job ≡ about_net cmd (file_names names) net
+about_is cmd names c net is = about_same cmd (file_names names) net c (length c.flat.paths.items)
+    (leaf_count (actors_at_leaves c.actors) c.flat net is)
+    (sym is.wiring.links) (sym (in_names c.flat net is.wiring)) (sym (out_names c.flat net is.wiring))
 
 abbrev has_files : (cmd : Command) (names : List (List ℕ)) (c : Checked) → (h : IsChecked cmd.library (top_of cmd) names c) → HasFiles cmd h.source.net
 has_files cmd names c h = record { names = names; reads = h.reads; are_read = h.are_read; means = h.source.means }
@@ -81,7 +75,7 @@ conformed cmd names c matched h = record {
       matched = matched;
     };
   };
-  about_is = about_is cmd names c h.source.net h.source.has_net.is_net.leaves h.source.has_net.is_net.wiring;
+  about_is = about_is cmd names c h.source.net h.source.has_net.is_net;
   lines_are = refl;
 }
 

@@ -20,7 +20,8 @@ use Rattle.source_network.specs.Answers.{ActorsHaveHeads, ActorsMakeWhole, LoneT
 use Rattle.source_network.specs.Laws.{ActorsAreOne}
 use Rattle.source_network.specs.Lone.{lone_leaf, lone_tree}
 use Rattle.source_network.specs.Source.{AreActors, Files, IsLeaf, IsTree}
-use Rattle.network_cells.specs.Sources.{AreLeavesOf, HaveTypes}
+use Rattle.actor_lower.specs.Leaves.{AreLeavesOf}
+use Rattle.network_cells.specs.Sources.{HaveTypes}
 use Rattle.network_cells.specs.SourceRuns.{AnswersAreActorNetworks, SourcesAreActorNetworks}
 use Rattle.network_cells.proofs.PortTypes.{IsTyped, bound_typed, lone_typed, types_of}
 

@@ -28,7 +28,8 @@ use Rattle.action_lower.specs.Seats.{numbers_of_vars}
 use Rattle.actor_tables.specs.Carrying.{MayCome, StandsFor}
 use Rattle.actor_lower.specs.Standing.{StandsForActor}
 use Rattle.source_network.specs.Actors.{head_of, ports_from}
-use Rattle.network_cells.specs.Sources.{AreLeavesOf, HaveTypes, IsActorNetwork, IsLeafOf, OfActor, StandForActors, lowered_leaves, lowered_network, may_come_at, stands_at}
+use Rattle.actor_lower.specs.Leaves.{AreLeavesOf, IsLeafOf, StandForActors}
+use Rattle.network_cells.specs.Sources.{HaveTypes, IsActorNetwork, OfActor, lowered_leaves, lowered_network, may_come_at, stands_at}
 
 -- ---- actors, their lowered actors and their leaves, one by one
 

@@ -23,8 +23,9 @@ use Rattle.fnl_flatten.proofs.Wired.{flat_wired}
 use Rattle.network_runner.specs.Asking.{HavePortSizes}
 use Rattle.network_runner.specs.Sending.{max_outlets}
 use Rattle.source_network.specs.Actors.{head_of}
+use Rattle.actor_lower.specs.Leaves.{AreLeavesOf, StandForActors}
 use Rattle.network_cells.specs.Runnable.{IsCodedNetwork}
-use Rattle.network_cells.specs.Sources.{AreLeavesOf, HaveTypes, IsActorNetwork, StandForActors, lowered_network, may_come_at, stands_at}
+use Rattle.network_cells.specs.Sources.{HaveTypes, IsActorNetwork, lowered_network, may_come_at, stands_at}
 use Rattle.network_cells.specs.SourceRuns.{ActorNetworksAreLawful, BeginAlike, CellsBeginAlike, CellsCanRun, CellsRunAsSources, Compiled, IsCompiled, LoweredAreAlike, LoweredCanBeWired, LoweredLinesAlike, LoweredTextsAlike, PacesTo, SamePacedLines, SourcesAlike, cells_start, lowered_of}
 use Rattle.network_cells.proofs.Lawlike.{begun_alike, bytes_alike, counted_alike, keep_alike, paced_alike, paced_back, starts_alike, texts_alike}
 use Rattle.network_cells.proofs.LikeSources.{link_sizes, lowered_alike, lowered_flat, matched, same_behaviours}

@@ -32,11 +32,12 @@ use Rattle.network_runner.specs.FromStart.{RunsFromStart}
 use Rattle.source_network.specs.Actors.{head_of}
 use Rattle.source_network.specs.Answers.{HasWiring}
 use Rattle.source_network.specs.Source.{AreActors, Files, IsSourceNetwork, IsTree}
+use Rattle.actor_lower.specs.Leaves.{StandForActors}
 use Rattle.network_cells.specs.Cells.{AreCellsOf}
 use Rattle.network_cells.specs.Runnable.{CanBeWired, IsPlanFor, IsWiringOf}
 use Rattle.network_cells.specs.LinesAlike.{BegunAlike, CountedAlike}
 use Rattle.network_cells.specs.RunAlike.{without_cells}
-use Rattle.network_cells.specs.Sources.{IsActorNetwork, StandForActors, lowered_network, may_come_at, stands_at}
+use Rattle.network_cells.specs.Sources.{IsActorNetwork, lowered_network, may_come_at, stands_at}
 
 -- The actors at the leaves of the tree of a class, joined as its flattening answers, are the network of these actors.
 abbrev pub AnswersAreActorNetworks : Type 0

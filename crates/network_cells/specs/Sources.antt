@@ -1,10 +1,9 @@
--- A network of actors, and the lowered actors that stand for them at its leaves.
+-- A network of actors, and the same network of the lowered actors that stand for them.
 -- Trusted: part of what a promise means.
 use Rattle.std.specs.Prelude.{◌≡◌, ℕ, List, [], ◌∷◌, map, slice_get, Option, None, Some}
 use Rattle.rvc_base.specs.Storing.{IsSize}
 use Rattle.cal_model.specs.Actor.{Actor}
-use Rattle.cal_model.specs.Firing.{behaviour}
-use Rattle.cal_model.specs.Selection.{Priorities, State}
+use Rattle.cal_model.specs.Selection.{State}
 use Rattle.cal_model.specs.Sound.{Each, IsSound}
 use Rattle.lowered_actor.specs.Actor as coded
 use Rattle.lowered_actor.specs.Meaning as lowered
@@ -15,20 +14,10 @@ use Rattle.fnl_tree.specs.Tree.{Tree}
 use Rattle.fnl_flatten.specs.Flat.{IsFlat}
 use Rattle.action_lower.specs.Seats.{numbers_of_vars}
 use Rattle.actor_tables.specs.Carrying.{MayCome, StandsFor}
-use Rattle.actor_lower.specs.Standing.{StandsForActor}
+use Rattle.actor_lower.specs.Leaves.{AreLeavesOf}
 use Rattle.source_network.specs.Actors.{head_of}
 
 -- ---- the network of the sources
-
--- a leaf behaves as an actor does, at its priorities
-pub record IsLeafOf (actor : Actor) (leaf : Leaf State) : Type 0 where
-  pub priorities : Priorities actor
-  pub behaviour : leaf.behaviour ≡ behaviour actor priorities
-
-abbrev pub AreLeavesOf : List Actor → List (Leaf State) → Type 0
-AreLeavesOf [] [] = Unit {0}
-AreLeavesOf (actor ∷ actors) (leaf ∷ leaves) = IsLeafOf actor leaf × AreLeavesOf actors leaves
-AreLeavesOf actors leaves = ⊥
 
 -- each port of a network has a type of tokens
 abbrev pub HaveTypes : List NetPort → Type 0
@@ -44,13 +33,7 @@ pub record IsActorNetwork (actors : List Actor) (net : Network State) : Type 0 w
   pub in_types : HaveTypes net.ins
   pub out_types : HaveTypes net.outs
 
--- ---- the lowered actors that stand for them
-
-abbrev pub StandForActors : List Actor → List coded.Actor → Type 0
-StandForActors [] [] = Unit {0}
-StandForActors (actor ∷ actors) (code ∷ codes) =
-    StandsForActor actor code × StandForActors actors codes
-StandForActors actors codes = ⊥
+-- ---- the network of the lowered actors
 
 -- the leaves with lowered actors in the place of their own
 abbrev pub lowered_leaves : List coded.Actor → List (Leaf State) → List (Leaf lowered.ActorState)

@@ -40,7 +40,7 @@ pub data BreaksJob (opened : Opened) (cmd : Command) (r : Refusal) : About → T
 pub record FileUnread (cmd : Command) (file : ℕ) (about : About) : Type 0 where
   pub counted : HasRisen cmd.faults.old cmd.faults.new
   pub names : List (List ℕ)
-  pub told : IsFaulted cmd.library (top_of cmd) file names
+  pub told : IsFaulted cmd.library (top_of cmd) cmd.misses file names
   pub about_is : about ≡ about_files cmd names
 
 -- ---- the answer

@@ -9,6 +9,8 @@ use Rattle.actor_files.specs.Loading.{Counts, Library}
 use Rattle.fnl_bind.specs.Library.{network_of}
 use Rattle.source_network.proofs.Choices.{by_told, choice_by}
 use Rattle.source_network.specs.Files.{AreReadBehind, Asked, Choice, Content, IsNextRead, Read, Says, says_network, says_source, Wanted, is_network, is_read, is_same_kind, name_of, network_file, wanted}
+use Rattle.network_files.specs.Loading.{NoneAsks}
+use Rattle.network_files.specs.Requests.{AreAllRead, Request}
 use Rattle.network_files.specs.SoFar.{Agrees, IsThere, Means, State, means_actor, means_known, means_missed, means_network, means_other, means_there}
 use Rattle.network_files.proofs.Lists.{read_stays, same_class}
 use Rattle.network_files.proofs.Missed.{among_more, among_only, among_with}
@@ -127,7 +129,7 @@ means_keeps library misses s _ _ _ (means_other class h risen k) = record { netw
 abbrev pub AreNetworks : State → List Read → Type 0
 AreNetworks s reads = (class : List ℕ) (b : Bool) → is_some (network_of class s.networks) ≡ b → is_read (of_kind class true) reads ≡ b
 
-never : {P : Type 0} (b : Bool) → b ≡ true → b ≡ false → P
+pub never : {P : Type 0} (b : Bool) → b ≡ true → b ≡ false → P
 never true h k = cc
 never false h k = cc
 
@@ -193,3 +195,15 @@ wanted_chosen library misses s _ _ _ reads (means_there class m k) nets lacking 
     ap (of_kind class) (sym (there_so (library (network_file class)) (is_among class s.missed) m k))
 wanted_chosen library misses s _ _ _ reads (means_other class none risen k) nets lacking there =
     ap (of_kind class) (sym (lacks_so (library (network_file class)) (is_among class (with_name class s.missed)) (among_with class s.missed) k))
+
+-- ---- what was asked for
+
+-- where no network of a class is read that would be taken as one, none of the requests whose files are read asks for it
+pub none_asks : (choice : Choice) (reads : List Read) (class : List ℕ) (passed : List Request) → choice class ≡ true → is_read (of_kind class true) reads ≡ false
+    → AreAllRead choice reads passed → NoneAsks class passed
+none_asks choice reads class [] net unread all = tt
+none_asks choice reads class (q ∷ passed) net unread all = (
+  (λ same. never (is_read (of_kind class true) reads)
+      (subst (λ b. is_read (of_kind class b) reads ≡ true) net (subst (λ asked. is_read (wanted choice asked) reads ≡ true) same all.0)) unread),
+  none_asks choice reads class passed net unread all.1,
+)

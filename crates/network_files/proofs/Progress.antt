@@ -1,7 +1,7 @@
 -- A loading goes on, and how it ends.
 use Rattle.std.proofs.Common.{◌≡◌, ℕ, suc, ◌+◌, ◌≤◌, Bool, true, false, List, [], ◌∷◌, ◌++◌, length, refl, sym, ap, subst, ◌∙◌, arith}
 use Rattle.std.proofs.lemmas.List.{append_assoc, append-nil}
-use Rattle.std.specs.Prelude.{None, Some, is_some}
+use Rattle.std.specs.Prelude.{None, Some, is_some, not}
 use Rattle.rvc_base.specs.declared.refusal.Refusal.{Refusal}
 use Rattle.rvc_io.specs.Count.{HasRisen}
 use Rattle.cal_scope.specs.Names.{is_among}
@@ -9,11 +9,11 @@ use Rattle.actor_files.specs.Loading.{Counts, Library, max_bytes, max_files}
 use Rattle.cal_imports.specs.Sources.{Source}
 use Rattle.fnl_bind.specs.Library.{Entry, network_of}
 use Rattle.source_network.proofs.Choices.{choice_fits}
-use Rattle.source_network.specs.Files.{AreLoaded, AreReadBehind, Asked, Choice, Fits, IsNextRead, Read, Wanted, asked_by_all, bytes_of, is_network, is_read, name_of, network_file, networks_from, networks_in, next_wanted, sources_from, sources_in, wanted}
-use Rattle.network_files.specs.Loading.{ComesTo, IsFaulted, IsRefused, LooksUp, Refuses, is_missing, is_there, looks_up_file, looks_up_network}
+use Rattle.source_network.specs.Files.{AreLoaded, AreReadBehind, Asked, Choice, Fits, IsNextRead, Read, Wanted, asked_by_all, bytes_of, is_network, is_read, name_of, networks_from, networks_in, next_wanted, sources_from, sources_in, wanted}
+use Rattle.network_files.specs.Loading.{ComesTo, IsFaulted, IsRefused, LooksUp, NoneAsks, Refuses, is_missing, is_there, looks_up_actor, looks_up_either, looks_up_network, looks_up_other}
 use Rattle.network_files.specs.Requests.{AreTried, Request, names_of, requests, requests_by}
-use Rattle.network_files.specs.SoFar.{AddsRead, Agrees, Fails, HasRead, IsBegun, IsDenied, IsSoFar, Means, State, Tries, denied_file, denied_missing, has, tries_file, tries_network, trial_of}
-use Rattle.network_files.proofs.Known.{AreLacking, AreNetworks, AreThere, Keeps, agrees_before, agrees_fewer, as_found, chosen, chosen_agrees, found_agrees, found_missed, lacking_known, means_keeps, network_there, of_kind, says_kind, wanted_chosen, wanted_read}
+use Rattle.network_files.specs.SoFar.{AddsRead, Agrees, Fails, HasRead, IsBegun, IsDenied, IsSoFar, Means, State, Tries, denied_file, denied_missing, has, means_actor, means_known, means_missed, means_network, means_other, means_there, tries_file, tries_network, trial_of}
+use Rattle.network_files.proofs.Known.{AreLacking, AreNetworks, AreThere, Keeps, agrees_before, agrees_fewer, as_found, chosen, chosen_agrees, found_agrees, found_missed, lacking_known, means_keeps, network_there, never, none_asks, of_kind, says_kind, wanted_chosen, wanted_read}
 use Rattle.network_files.proofs.Lists.{all_read_join, all_read_more, bytes_more, count_names, first_none, first_past, length_more, names_more, networks_more, next_is, read_there, requests_more, same_has, sources_more}
 use Rattle.network_files.proofs.Served.{all_tried}
 
@@ -64,7 +64,7 @@ module _ (library : Library) (top : Asked) (done : List Read) (names : List (Lis
   nets : AreNetworks (behind s rest) done
   nets = nets_are done (behind s rest) is.networks_are
 
-  comes_by : (choice : Choice) → Agrees choice s.missed done → ComesTo library choice top done q
+  abbrev comes_by : (choice : Choice) → Agrees choice s.missed done → ComesTo library choice top done q
   comes_by choice h = record {
     are_read = is.are_read choice h;
     before = is.looked_at.passed;
@@ -212,37 +212,59 @@ module _ (library : Library) (top : Asked) (done : List Read) (names : List (Lis
             (subst (λ n. Refuses library w q.missing (suc (length done)) n all names refusal found) is.bytes_are
             (subst (λ n. Refuses library w q.missing (suc n) s.bytes all names refusal found) (count_names done names is.names_are) k))
 
-  -- the reading of a name failed
-  pub faulted : (misses faults : Counts) (found : List (List ℕ)) (file : ℕ) → Fails library q misses faults names found (behind s rest) file
-      → IsFaulted library top file found
-  faulted misses faults found file h = go q.asked h.want refl refl h.tries
+  -- a class that may be either, of which no network was read or missed, wasn't asked for before
+  untried : (class : List ℕ) → is_among class s.missed ≡ false → is_read (of_kind class true) done ≡ false → NoneAsks class is.looked_at.passed
+  untried class m unread =
+      none_asks (as_found s.missed) done class is.looked_at.passed (ap not m) unread (is.looked_at.all_read (as_found s.missed) (found_agrees s.missed done))
+
+  -- what is looked up, by what the request tells
+  looks : (misses all : Counts) (asked : Asked) (w : Wanted) (known : State) → ((class : List ℕ) → is_among class s.missed ≡ true → HasRisen all.old all.new)
+      → (HasRisen misses.old misses.new → HasRisen all.old all.new) → Means library misses (behind s rest) asked w known → is_read w done ≡ false
+      → w ≡ wanted (chosen library known.missed) asked → LooksUp (chosen library known.missed) is.looked_at.passed all asked w
+  looks misses all _ _ _ tried since (means_network class) unread e = looks_up_network class
+  looks misses all _ _ _ tried since (means_actor class) unread e = looks_up_actor class
+  looks misses all _ _ _ tried since (means_missed class m) unread e = looks_up_other class (ap (λ v. v.network) (sym e)) (tried class m)
+  looks misses all _ _ _ tried since (means_known class m k) unread e = never (is_read (of_kind class true) done) (nets class true k) unread
+  looks misses all _ _ _ tried since (means_there class m k) unread e = looks_up_either class (untried class m unread)
+  looks misses all _ _ _ tried since (means_other class none risen k) unread e = looks_up_other class (ap (λ v. v.network) (sym e)) (since risen)
+
+  -- the reading of a file failed
+  pub faulted : (misses faults all : Counts) (found : List (List ℕ)) (file : ℕ) → ((class : List ℕ) → is_among class s.missed ≡ true → HasRisen all.old all.new)
+      → (HasRisen misses.old misses.new → HasRisen all.old all.new) → Fails library q misses faults names found (behind s rest) file
+      → IsFaulted library top all file found
+  faulted misses faults all found file tried since h = go q.asked h.want refl refl h.tries
     where
-      by : (choice : Choice) → Fits library choice → Agrees choice s.missed done → LooksUp choice q.asked (name_of h.want) → IsFaulted library top file found
-      by choice fits agrees looks = record {
+      unread : is_read h.want done ≡ false
+      unread = has_is done s.networks s.sources h.want false is.networks_are is.sources_are h.unread
+
+      by : (choice : Choice) → Fits library choice → Agrees choice s.missed done → LooksUp choice is.looked_at.passed all q.asked h.want → IsFaulted library top all file found
+      by choice fits agrees looked = record {
         choice = choice;
         fits = fits;
         reads = done;
         request = q;
         comes = comes_by choice agrees;
-        name = name_of h.want;
-        looks_up = looks;
+        failing = h.want;
+        looks_up = looked;
+        unread = unread;
         file_is = h.failed.file_is ∙ ap suc (count_names done names is.names_are);
         names_are = h.failed.names_are ∙ ap (λ ns. ns ++ name_of h.want ∷ []) is.names_are;
       }
 
-      go : (asked : Asked) (w : Wanted) → asked ≡ q.asked → w ≡ h.want → Tries library misses (behind s rest) asked w → IsFaulted library top file found
+      go : (asked : Asked) (w : Wanted) → asked ≡ q.asked → w ≡ h.want → Tries library misses (behind s rest) asked w → IsFaulted library top all file found
       go asked w e f (tries_file known means) =
           by (chosen library known.missed) (choice_fits library (as_found known.missed))
           (agrees misses h.want known moved)
-          (subst (λ v. LooksUp (chosen library known.missed) q.asked (name_of v)) (sym (wanted_now_is misses h.want known moved)) (looks_up_file q.asked))
+          (looks misses all q.asked h.want known tried since moved unread (wanted_now_is misses h.want known moved))
         where
           moved : Means library misses (behind s rest) q.asked h.want known
           moved = subst (λ v. Means library misses (behind s rest) q.asked v known) f (subst (λ x. Means library misses (behind s rest) x w known) e means)
-      go _ _ e f (tries_network class) =
+      go _ _ e f (tries_network class m) =
           by (chosen library s.missed) (choice_fits library (as_found s.missed))
           (chosen_agrees library s.missed done is.are_lacking (nets_there library top done names s is))
-          (subst (λ v. LooksUp (chosen library s.missed) q.asked (name_of v)) f
-          (subst (λ x. LooksUp (chosen library s.missed) x (network_file class)) e (looks_up_network class)))
+          (subst (λ v. LooksUp (chosen library s.missed) is.looked_at.passed all q.asked v) f
+          (subst (λ x. LooksUp (chosen library s.missed) is.looked_at.passed all x (of_kind class true)) e
+          (looks_up_either class (untried class m (subst (λ v. is_read v done ≡ false) (sym f) unread)))))
 
 -- ---- where a loading begins and ends
 

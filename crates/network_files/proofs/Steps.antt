@@ -101,9 +101,9 @@ reads_one a b c q rest same takes = ap length takes.taken.adds.names_are ∙ one
 
 -- .. can't be read
 pub halts : (a b c : Seen) (q : Request) (rest : List Request) (fault : LoadFault) → GoesOn a b → b.state.waiting ≡ q ∷ rest
-    → Halts b.files q (since_then b c) (record { old = b.faults; new = c.faults }) b.names c.names (behind b.state rest) fault
+    → b.misses ≤ c.misses → Halts b.files q (since_then b c) (record { old = b.faults; new = c.faults }) b.names c.names (behind b.state rest) fault
     → GoesWrong a c fault
-halts a b c q rest (Refused refusal) on waits h = λ library faults misses top start.
+halts a b c q rest (Refused refusal) on waits ms h = λ library faults misses top start.
     let k = on library faults misses top start in
     let files : b.files ≡ library = λ i other. k.same_files other i in
     let d : Denies library q (since_then b c) b.names c.names (behind b.state rest) refusal =
@@ -111,16 +111,18 @@ halts a b c q rest (Refused refusal) on waits h = λ library faults misses top s
     refused library top k.has_read.done b.names b.state q rest k.has_read.is_so_far waits (since_then b c) d.want d.known d.means
     (record { old = misses; new = c.misses }) c.names refusal d.unread
     (denied_since (trial_of library d.want b.names) q.missing b.state.bytes misses b.misses c.misses c.names refusal k.misses_stay d.denied)
-halts a b c q rest (ReadFault file) on waits h = λ library faults misses top start.
+halts a b c q rest (ReadFault file) on waits ms h = λ library faults misses top start.
     let k = on library faults misses top start in
     let files : b.files ≡ library = λ i other. k.same_files other i in
     let d : Fails library q (since_then b c) (record { old = b.faults; new = c.faults }) b.names c.names (behind b.state rest) file =
     subst (λ l. Fails l q (since_then b c) (record { old = b.faults; new = c.faults }) b.names c.names (behind b.state rest) file) files h in
     let failed = failed_since (trial_of library d.want b.names) faults b.faults c.faults c.names file k.faults_stay d.failed in (
       failed.risen,
-      faulted library top k.has_read.done b.names b.state q rest k.has_read.is_so_far waits (since_then b c) (record { old = b.faults; new = c.faults }) c.names file d,
+      faulted library top k.has_read.done b.names b.state q rest k.has_read.is_so_far waits (since_then b c) (record { old = b.faults; new = c.faults })
+          (record { old = misses; new = c.misses }) c.names file (λ class m. rose_until misses b.misses c.misses ms (k.tried class m))
+          (rose_since misses b.misses c.misses k.misses_stay) d,
     )
-halts a b c q rest Memory on waits h = λ library faults misses top start. tt
+halts a b c q rest Memory on waits ms h = λ library faults misses top start. tt
 
 -- ---- from the start
 

@@ -36,7 +36,7 @@ pub stops_held : (t : Trial) (missing : Refusal) (s : State) (misses faults : Co
     → has t.want s.networks s.sources ≡ false → IsStopped t s.bytes faults names fault → IsHeld t missing s misses faults names fault
 stops_held t missing s misses faults names (Refused refusal) unread h =
     (unread, subst (λ ns. IsDenied t missing s.bytes misses ns refusal) (sym h.1) (denied_file refusal h.0))
-stops_held t missing s misses faults names (ReadFault file) unread h = h
+stops_held t missing s misses faults names (ReadFault file) unread h = (unread, h)
 stops_held t missing s misses faults names Memory unread h = tt
 
 -- a file that is missing
@@ -55,7 +55,7 @@ takes_one (Err f) library q misses w known names found old new means h = tt
 held_halts : (library : Library) (q : Request) (w : Wanted) (misses faults : Counts) (names found : List (List ℕ)) (s known : State) (fault : LoadFault)
     → Means library misses s q.asked w known → IsHeld (trial_of library w names) q.missing s misses faults found fault → Halts library q misses faults names found s fault
 held_halts library q w misses faults names found s known (Refused refusal) means h = record { want = w; known = known; means = means; unread = h.0; denied = h.1 }
-held_halts library q w misses faults names found s known (ReadFault file) means h = record { want = w; tries = tries_file known means; failed = h }
+held_halts library q w misses faults names found s known (ReadFault file) means h = record { want = w; tries = tries_file known means; unread = h.0; failed = h.1 }
 held_halts library q w misses faults names found s known Memory means h = tt
 
 pub halts_one : (r : Result Bool LoadFault) (library : Library) (q : Request) (w : Wanted) (misses faults : Counts) (names found : List (List ℕ)) (s known : State)
@@ -84,7 +84,7 @@ new_stops library class missing misses faults names found s (Refused refusal) un
   denied = subst (λ ns. IsDenied (trial_of library (of_kind class true) names) missing s.bytes misses ns refusal) (sym h.1) (denied_file refusal h.0);
 }
 new_stops library class missing misses faults names found s (ReadFault file) unread untried h =
-    record { want = of_kind class true; tries = tries_network class; failed = h }
+    record { want = of_kind class true; tries = tries_network class untried; unread = unread; failed = h }
 new_stops library class missing misses faults names found s Memory unread untried h = tt
 
 -- .. was read before
@@ -138,7 +138,7 @@ held_since : (t : Trial) (missing : Refusal) (s : State) (mo m n fo f g : ℕ) (
     → IsHeld t missing s (record { old = m; new = n }) (record { old = f; new = g }) names fault
     → IsHeld t missing s (record { old = mo; new = n }) (record { old = fo; new = g }) names fault
 held_since t missing s mo m n fo f g names (Refused refusal) b c h = (h.0, denied_since t missing s.bytes mo m n names refusal b h.1)
-held_since t missing s mo m n fo f g names (ReadFault file) b c h = failed_since t fo f g names file c h
+held_since t missing s mo m n fo f g names (ReadFault file) b c h = (h.0, failed_since t fo f g names file c h.1)
 held_since t missing s mo m n fo f g names Memory b c h = tt
 
 pub new_halts : (r : Result Bool LoadFault) (library mid : Library) (class : List ℕ) (missing : Refusal) (mo m n fo f g : ℕ) (names between found : List (List ℕ)) (s t : State)

@@ -1,6 +1,7 @@
 -- What refuses the files that a top needs, by what a library tells of them.
 -- Trusted: part of what a promise means.
-use Rattle.std.specs.Prelude.{◌≡◌, ◌<◌, ◌+◌, ◌⊎◌, ℕ, suc, Bool, true, false, List, [], ◌∷◌, ◌++◌, length}
+use Rattle.std.specs.Prelude.{◌≡◌, ◌≢◌, ◌<◌, ◌+◌, ◌⊎◌, ℕ, suc, Bool, true, false, List, [], ◌∷◌, ◌++◌, length}
+use Rattle.std.specs.List.{AllByRecursion}
 use Rattle.rvc_base.specs.Rules.{file_too_long, too_many_files}
 use Rattle.rvc_base.specs.declared.refusal.Refusal.{Refusal}
 use Rattle.rvc_base.specs.declared.refusal.Rule.{Rule}
@@ -12,7 +13,7 @@ use Rattle.actor_files.specs.FileText.{IsText}
 use Rattle.actor_files.specs.Loading.{Counts, Library, max_bytes, max_files}
 use Rattle.actor_files.specs.Reads.{refusal_at}
 use Rattle.fnl_read.specs.Network as net
-use Rattle.source_network.specs.Files.{AreReadBehind, Asked, a_class, Choice, Content, Fits, Read, Says, Wanted, bytes_of, is_read, name_of, network_file, wanted}
+use Rattle.source_network.specs.Files.{AreReadBehind, Asked, a_class, a_network, an_actor, Choice, Content, Fits, Read, Says, Wanted, bytes_of, is_read, name_of, wanted}
 use Rattle.network_files.specs.Requests.{AreAllRead, Request, names_of, requests}
 
 -- the rule that a text breaks first, as a network or as a file of the language, and where
@@ -69,19 +70,35 @@ pub record IsRefused (library : Library) (top : Asked) (misses : Counts) (refusa
   pub refuses : Refuses library (wanted choice request.asked) request.missing (suc (length reads))
       (bytes_of reads) misses (names_of reads) refusal names
 
--- a name that is looked up for what is asked for: of a class that may be either, that of its network comes first
-pub data LooksUp (choice : Choice) : Asked → List ℕ → Type 0 where
-  looks_up_file : (asked : Asked) → LooksUp choice asked (name_of (wanted choice asked))
-  looks_up_network : (class : List ℕ) → LooksUp choice (a_class class) (network_file class)
+-- none of these requests asks for the class as one that may be either
+abbrev pub NoneAsks : (class : List ℕ) → List Request → Type 0
+NoneAsks class list = AllByRecursion (λ q. q.asked ≢ a_class class) list
 
--- by such a choice, files are read up to a name whose reading fails: the last name is this one
-pub record IsFaulted (library : Library) (top : Asked) (file : ℕ) (names : List (List ℕ)) : Type 0 where
+-- The file that is looked up for what is asked, in its turn behind these requests: that of a network, or of an actor. Of a
+-- class that may be either, it is that of its network, if none of them asks for the class so; or that of its actor, if the
+-- class is taken as none and a miss was counted.
+pub data LooksUp (choice : Choice) (before : List Request) (misses : Counts) : Asked → Wanted
+    → Type 0 where
+  looks_up_network : (class : List ℕ)
+      → LooksUp choice before misses (a_network class) (record { class = class; network = true })
+  looks_up_actor : (class : List ℕ)
+      → LooksUp choice before misses (an_actor class) (record { class = class; network = false })
+  looks_up_either : (class : List ℕ) → NoneAsks class before
+      → LooksUp choice before misses (a_class class) (record { class = class; network = true })
+  looks_up_other : (class : List ℕ) → choice class ≡ false → HasRisen misses.old misses.new
+      → LooksUp choice before misses (a_class class) (record { class = class; network = false })
+
+-- By such a choice, files are read up to one whose reading fails. It is looked up in its turn, after those of all requests
+-- before were read, and wasn't read itself: it has the next number, and its name is the last.
+pub record IsFaulted (library : Library) (top : Asked) (misses : Counts) (file : ℕ) (names : List (List ℕ))
+    : Type 0 where
   pub choice : Choice
   pub fits : Fits library choice
   pub reads : List Read
   pub request : Request
   pub comes : ComesTo library choice top reads request
-  pub name : List ℕ
-  pub looks_up : LooksUp choice request.asked name
+  pub failing : Wanted
+  pub looks_up : LooksUp choice comes.before misses request.asked failing
+  pub unread : is_read failing reads ≡ false
   pub file_is : file ≡ suc (length reads)
-  pub names_are : names ≡ names_of reads ++ name ∷ []
+  pub names_are : names ≡ names_of reads ++ name_of failing ∷ []

@@ -166,7 +166,8 @@ pub data IsDenied (t : Trial) (missing : Refusal) (bytes : ℕ) (misses : Counts
 abbrev pub IsHeld : Trial → (missing : Refusal) → (s : State) → (misses faults : Counts) → (names : List (List ℕ)) → LoadFault → Type 0
 IsHeld t missing s misses faults names (Refused refusal) =
     (has t.want s.networks s.sources ≡ false) × IsDenied t missing s.bytes misses names refusal
-IsHeld t missing s misses faults names (ReadFault file) = IsFailed t faults names file
+IsHeld t missing s misses faults names (ReadFault file) =
+    (has t.want s.networks s.sources ≡ false) × IsFailed t faults names file
 IsHeld t missing s misses faults names Memory = Unit {0}
 
 -- ---- one request
@@ -218,18 +219,20 @@ pub record Denies (library : Library) (q : plain.Request) (misses : Counts) (nam
   pub unread : has want s.networks s.sources ≡ false
   pub denied : IsDenied (trial_of library want names) q.missing s.bytes misses found refusal
 
--- the name that is looked up is that of the file that is wanted, or of the network of a class that may be either
+-- the file that is looked up is the one that is wanted, or that of the network of a class that may be either, of which none
+-- was missed
 pub data Tries (library : Library) (misses : Counts) (s : State) : Asked → Wanted → Type 0 where
   tries_file : {asked : Asked} {w : Wanted} (known : State) → Means library misses s asked w known
       → Tries library misses s asked w
-  tries_network : (class : List ℕ)
+  tries_network : (class : List ℕ) → is_among class s.missed ≡ false
       → Tries library misses s (a_class class) (record { class = class; network = true })
 
--- the reading of a name failed
+-- the reading of a file failed that wasn't read
 pub record Fails (library : Library) (q : plain.Request) (misses faults : Counts) (names found : List (List ℕ))
     (s : State) (file : ℕ) : Type 0 where
   pub want : Wanted
   pub tries : Tries library misses s q.asked want
+  pub unread : has want s.networks s.sources ≡ false
   pub failed : IsFailed (trial_of library want names) faults found file
 
 abbrev pub Halts : Library → plain.Request → (misses faults : Counts) → (names found : List (List ℕ)) → State → LoadFault → Type 0

@@ -53,5 +53,5 @@ abbrev pub IsFault : Library → (top : Asked) → (misses faults : Counts) → 
 IsFault library top misses faults names (Refused refusal) =
     IsRefused library top misses refusal names
 IsFault library top misses faults names (ReadFault file) =
-    HasRisen faults.old faults.new × IsFaulted library top file names
+    HasRisen faults.old faults.new × IsFaulted library top misses file names
 IsFault library top misses faults names Memory = Unit {0}

@@ -1,5 +1,5 @@
 -- Feeds and channels that aren't of the job stay as they were.
-use Rattle.std.proofs.Common.{inl, inr, ℕ, List, ◌∷◌, sym, subst, ◌∙◌, arith, Contains}
+use Rattle.std.proofs.Common.{◌≡◌, inl, inr, ℕ, List, ◌∷◌, sym, subst, ◌∙◌, arith, Contains}
 use Rattle.std.proofs.lemmas.List.Elements.{Contains-append_left}
 use Rattle.rvc_io.specs.Channels.{Channels, WritesOnlyAt}
 use Rattle.rvc_io.specs.Feeds.{Inputs}
@@ -7,7 +7,9 @@ use Rattle.rvc_words.specs.Words.{PortText}
 use Rattle.net_model.specs.declared.wiring.Link.{Link}
 use Rattle.network_runner.specs.Filling.{SameOpen}
 use Rattle.port_words.specs.Opening.{ChannelFails, ChannelsAreOpened, FeedFails, FeedsAreOpened, IsApart, Opening, channels_of, feeds_of}
+use Rattle.network_job.specs.Answering.{AreAllOpen}
 use Rattle.network_job.specs.Files.{IsChannelOf, IsFeedOf, Keeps, OpensOnly, WritesOnly}
+use Rattle.network_job.specs.Preparing.{WritesHead}
 use Rattle.network_job.proofs.Numbered.{is_channel, is_feed}
 
 -- ---- feeds
@@ -84,3 +86,13 @@ module _ (outs : List (List ℕ)) (words : List PortText) where
 
   pub report_kept : (old new : Channels) → WritesOnly outs words old new → Keeps 0 old new
   report_kept old new only = record { same_open = only.same_open 0 not_report; same_held = λ tells. only.same_held tells 0 not_report }
+
+-- ---- all that was opened stays open
+
+pub all_open : (links : List Link) (ins outs : List (List ℕ)) (words : List PortText) (trace head : List ℕ) (feeds_old feeds_mid feeds_new : Inputs) (old mid new : Channels)
+    → FeedsAreOpened (feeds_of links ins words) feeds_old feeds_mid → SameOpen feeds_mid feeds_new → WritesHead trace outs words head old mid
+    → ((channel : ℕ) → new.is_open channel ≡ mid.is_open channel) → AreAllOpen links ins outs words trace feeds_new new
+all_open links ins outs words trace head feeds_old feeds_mid feeds_new old mid new are same wrote kept = record {
+  feeds_are = λ o h. same.same_open o.number ∙ are.opened o h;
+  channels_are = λ o h. kept o.number ∙ wrote.only.same_open o.number ∙ wrote.are_opened.opened o h;
+}

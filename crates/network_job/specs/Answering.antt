@@ -1,6 +1,6 @@
 -- How a job is answered: what each answer says, and when it comes.
 -- Trusted: part of what a promise means.
-use Rattle.std.specs.Prelude.{◌≡◌, ◌⊎◌, ℕ, List, ◌++◌, Result, Ok, Err}
+use Rattle.std.specs.Prelude.{◌≡◌, ◌⊎◌, ℕ, true, List, ◌++◌, Contains, Result, Ok, Err}
 use Rattle.rvc_base.specs.declared.refusal.Refusal.{Refusal}
 use Rattle.rvc_io.specs.Channels.{Channels, WritesOnlyAt}
 use Rattle.rvc_io.specs.Count.{HasRisen}
@@ -94,6 +94,13 @@ pub record HeadFails (openings : List Opening) (channel : ℕ) (old new : Channe
   pub are_opened : ChannelsAreOpened openings old between
   pub only : WritesOnlyAt 1 between new
   pub counted : HasRisen between.faults new.faults
+
+-- All feeds of inputs that have a file are open, the trace's channel, and all channels of outputs that have one.
+pub record AreAllOpen (links : List Link) (ins outs : List (List ℕ)) (words : List PortText) (trace : List ℕ) (feeds : Inputs) (channels : Channels) : Type 0 where
+  pub feeds_are : (o : Opening) → Contains (feeds_of links ins words) o
+      → feeds.is_open o.number ≡ true
+  pub channels_are : (o : Opening) → Contains (channels_of trace outs words) o
+      → channels.is_open o.number ≡ true
 
 -- a feed couldn't be opened
 abbrev pub IsUnread : List Link → (ins : List (List ℕ)) → List PortText → Inputs → Inputs

@@ -3,7 +3,7 @@
 ghost use Rattle.std.specs.Prelude.{◌≡◌, ◌≢◌, ◌≤◌, ℕ, List, false, IfOk, length, map, string_bytes};
 ghost use Rattle.net_model.specs.Network.{Network};
 ghost use Rattle.net_model.specs.Ready.{given_state};
-ghost use Rattle.network_job.specs.Answering.{EndIsCaused, IfStarted, IfUnstarted, IsPermitted, IsRefused, IsUnread, IsUnwritten, LeavesJob, OnRefused, OnUnread, OnUnwritten};
+ghost use Rattle.network_job.specs.Answering.{AreAllOpen, EndIsCaused, IfStarted, IfUnstarted, IsPermitted, IsRefused, IsUnread, IsUnwritten, LeavesJob, OnRefused, OnUnread, OnUnwritten};
 ghost use Rattle.network_job.specs.Arriving.{ArriveInEach};
 ghost use Rattle.network_job.specs.Files.{AreInputs, Keeps, OpensOnly, WritesOnly};
 ghost use Rattle.network_job.specs.Leaving.{setting_of};
@@ -65,6 +65,9 @@ fn run_by<R: Threads + Sync, A: Firing + Send, P: Policy, F: Feeds, D: Drains, G
     ensures unwritten { OnUnwritten result (IsUnwritten flat.now.links.items (in_names flat.now)
         (out_names flat.now) (words_of job.now) (string_bytes job.now.trace) (F.feeds feeds.old)
         (F.feeds feeds.new) (D.channels drains.old) (D.channels drains.new)) }
+    ensures opened { IfOk result (λ _. AreAllOpen flat.now.links.items (in_names flat.now)
+        (out_names flat.now) (words_of job.now) (string_bytes job.now.trace) (F.feeds feeds.new)
+        (D.channels drains.new)) }
     ensures faults { IfOk result (λ outcome. EndIsCaused flat.now.links.items (in_names flat.now)
         (out_names flat.now) (words_of job.now) (F.feeds feeds.old) (F.feeds feeds.new)
         (D.channels drains.old) (D.channels drains.new) outcome.end) }
@@ -110,6 +113,8 @@ fn run_by<R: Threads + Sync, A: Firing + Send, P: Policy, F: Feeds, D: Drains, G
 /// - `permitted`: if anything was opened, each port word names a port of its own, and the links don't grow too far.
 /// - `within`: no more firings were made than the job permits.
 /// - `arrive`: in each round that was made, each worker that worked has arrived at the gate.
+/// - `opened`: after a run all feeds of inputs that have a file are open, and so are the trace's channel and those of outputs
+///   that have one.
 /// - `faults`: a run ends by a feed or a channel only if that was counted, and only by one that was opened.
 /// - `other_feeds`, `other_channels` and `report`: no other feed was opened, and no other channel was opened or written; so
 ///   channel 0 is as it was.
@@ -163,6 +168,9 @@ pub fn run_network<R: Threads + Sync, A: Firing + Send, F: Feeds, D: Drains, G: 
     ensures unwritten { OnUnwritten result (IsUnwritten flat.now.links.items (in_names flat.now)
         (out_names flat.now) (words_of job.now) (string_bytes job.now.trace) (F.feeds feeds.old)
         (F.feeds feeds.new) (D.channels drains.old) (D.channels drains.new)) }
+    ensures opened { IfOk result (λ _. AreAllOpen flat.now.links.items (in_names flat.now)
+        (out_names flat.now) (words_of job.now) (string_bytes job.now.trace) (F.feeds feeds.new)
+        (D.channels drains.new)) }
     ensures faults { IfOk result (λ outcome. EndIsCaused flat.now.links.items (in_names flat.now)
         (out_names flat.now) (words_of job.now) (F.feeds feeds.old) (F.feeds feeds.new)
         (D.channels drains.old) (D.channels drains.new) outcome.end) }

@@ -34,7 +34,7 @@ use Rattle.rvc_engine.specs.Built.{HasImage, IsBuilt}
 use Rattle.rvc_engine.specs.Top.{top_asked}
 use Rattle.rvc_engine.specs.declared.image.Image.{Image}
 use Rattle.grown_links.specs.Growth.{GrowTooFar, IsGrownTooMuch}
-use Rattle.network_job.specs.Answering.{EndIsCaused, HeadFails, IsPermitted, IsUnread, LeavesJob}
+use Rattle.network_job.specs.Answering.{AreAllOpen, EndIsCaused, HeadFails, IsPermitted, IsUnread, IsUnwritten, LeavesJob}
 use Rattle.network_job.specs.Answering as answering
 use Rattle.network_job.specs.Files.{IsChannelOf, IsFeedOf, OpensOnly, WritesOnly}
 use Rattle.network_job.specs.Leaving.{Came, LeavesRun, ending_of}
@@ -45,7 +45,7 @@ use Rattle.network_job.specs.declared.outcome.Outcome.{Outcome}
 use Rattle.network_job.proofs.Numbered.{is_channel}
 use Rattle.run_report.specs.About.{About}
 use Rattle.network_commands.specs.Commands.{AreCertified, AreGiven, Command, HasFiles, IsToRun, OpenedNothing, TouchesOnly, about_net, count_none, port_names, run_over}
-use Rattle.run_job.specs.Ends.{Comes, IsRefused, Ran, WouldGrowTooFar, by_growth, by_words}
+use Rattle.run_job.specs.Ends.{AllAreOpen, ChannelUnopened, Comes, IsRefused, Ran, WouldGrowTooFar, by_growth, by_words}
 use Rattle.run_job.specs.Steps.{CellsRan, about_image, lines_at, status_at, status_of}
 use Rattle.run_job.proofs.Cells.{many_leaves}
 use Rattle.run_job.proofs.Leaving.{same_names}
@@ -158,17 +158,40 @@ module _ (job : Job) (library : loading.Library) (misses faults : loading.Counts
         same_held = λ tells channel other not_of. only.same_held (here.same_telling ∙ tells) channel other ∙ here.same_held tells channel not_of;
       }
 
+  -- what was opened
+  abbrev Opened : Type 0
+  Opened = AreAllOpen image.flat.links.items (asks.in_names image.flat) (asks.out_names image.flat) (asks.words_of job) (string_bytes job.trace) feeds_new between
+
+  all_open : Opened → AllAreOpen cmd net
+  all_open are =
+      let here : AreAllOpen net.links (port_names net.ins) (port_names net.outs) (asks.words_of job) (string_bytes job.trace) feeds_new between =
+      subst (λ ls. AreAllOpen ls (port_names net.ins) (port_names net.outs) (asks.words_of job) (string_bytes job.trace) feeds_new between) (sym links_are)
+      (subst (λ ps. AreAllOpen image.flat.links.items ps (port_names net.outs) (asks.words_of job) (string_bytes job.trace) feeds_new between) (sym ins_are)
+      (subst (λ ps. AreAllOpen image.flat.links.items (asks.in_names image.flat) ps (asks.words_of job) (string_bytes job.trace) feeds_new between) (sym outs_are) are)) in
+      record { feeds_are = here.feeds_are; channels_are = λ o h. only.same_open o.number ∙ here.channels_are o h }
+
+  unopened : (channel : ℕ) → IsUnwritten image.flat.links.items (asks.in_names image.flat) (asks.out_names image.flat) (asks.words_of job) (string_bytes job.trace) feeds feeds_new old between channel
+      → ChannelUnopened cmd net channel
+  unopened channel is = record {
+    between = between;
+    unwritten = subst (λ ls. IsUnwritten ls (port_names net.ins) (port_names net.outs) (asks.words_of job) (string_bytes job.trace) feeds feeds_new old between channel) (sym links_are)
+        (subst (λ ps. IsUnwritten image.flat.links.items ps (port_names net.outs) (asks.words_of job) (string_bytes job.trace) feeds feeds_new old between channel) (sym ins_are)
+        (subst (λ ps. IsUnwritten image.flat.links.items (asks.in_names image.flat) ps (asks.words_of job) (string_bytes job.trace) feeds feeds_new old between channel) (sym outs_are) is));
+    only_report = only;
+  }
+
   -- a run that came to its end
-  some_ran : (line : Line) (counts : Counts) → IsPermitted image.flat job → counts.firings ≤ job.budget → TouchesOnly cmd net
+  some_ran : (line : Line) (counts : Counts) → IsPermitted image.flat job → counts.firings ≤ job.budget → TouchesOnly cmd net → Opened
       → ((inputs : List (List ℕ)) → AreGiven cmd net inputs → LeavesRun (run_over cmd net inputs) (Came line) counts feeds_new between)
       → Ran cmd net line counts (lines_at image names job (Ok (record { end = end.Quiet; counts = counts }))) (about_image image names job)
   unfolding to_run files
-  some_ran line counts permitted within touches leaves = record {
+  some_ran line counts permitted within touches are_open leaves = record {
     is_to_run = to_run permitted.matched;
     fits = within_growth permitted.fits;
     leaves = λ inputs given. ended (run_over cmd net inputs) between new only line counts (leaves inputs given);
     within = within;
     touches = touches;
+    opened = all_open are_open;
     sound = has.sound;
     certified = count_none image.uncertified.items;
     are_certified = certified;
@@ -176,16 +199,16 @@ module _ (job : Job) (library : loading.Library) (misses faults : loading.Counts
     lines_are = refl;
   }
 
-  how_ended : (how : RunEnd) (counts : Counts) → IsPermitted image.flat job → counts.firings ≤ job.budget → TouchesOnly cmd net
+  how_ended : (how : RunEnd) (counts : Counts) → IsPermitted image.flat job → counts.firings ≤ job.budget → TouchesOnly cmd net → Opened
       → EndIsCaused image.flat.links.items (asks.in_names image.flat) (asks.out_names image.flat) (asks.words_of job) feeds feeds_new old between how
       → ((inputs : List (List ℕ)) → AreGiven cmd net inputs → LeavesRun (run_over cmd net inputs) (ending_of how) counts feeds_new between)
       → Comes cmd (status_at how counts.firings) (lines_at image names job (Ok (record { end = end.Quiet; counts = counts }))) (about_image image names job)
   unfolding to_run files
-  how_ended end.Quiet counts permitted within touches caused leaves = (net, record { counts = counts; ran = some_ran _ counts permitted within touches leaves })
-  how_ended (end.Trapped inst action trap) counts permitted within touches caused leaves = (net, record { counts = counts; ran = some_ran _ counts permitted within touches leaves })
-  how_ended (end.Stalled inst action link) counts permitted within touches caused leaves = (net, record { counts = counts; ran = some_ran _ counts permitted within touches leaves })
-  how_ended end.Budget counts permitted within touches caused leaves = (net, record { counts = counts; ran = some_ran BudgetLine counts permitted within touches leaves; firings_are = refl })
-  how_ended (end.ReadFault feed) counts permitted within touches caused leaves = (
+  how_ended end.Quiet counts permitted within touches are_open caused leaves = (net, record { counts = counts; ran = some_ran _ counts permitted within touches are_open leaves })
+  how_ended (end.Trapped inst action trap) counts permitted within touches are_open caused leaves = (net, record { counts = counts; ran = some_ran _ counts permitted within touches are_open leaves })
+  how_ended (end.Stalled inst action link) counts permitted within touches are_open caused leaves = (net, record { counts = counts; ran = some_ran _ counts permitted within touches are_open leaves })
+  how_ended end.Budget counts permitted within touches are_open caused leaves = (net, record { counts = counts; ran = some_ran BudgetLine counts permitted within touches are_open leaves; firings_are = refl })
+  how_ended (end.ReadFault feed) counts permitted within touches are_open caused leaves = (
     net,
     record {
       is_to_run = to_run permitted.matched;
@@ -198,17 +221,19 @@ module _ (job : Job) (library : loading.Library) (misses faults : loading.Counts
         leaves = λ inputs given. cut (run_over cmd net inputs) between new only counts feed feeds_new (leaves inputs given);
         within = within;
         touches = touches;
+        opened = all_open are_open;
       });
       about_is = about_is;
     },
   )
-  how_ended (end.WriteFault channel) counts permitted within touches caused leaves = (
+  how_ended (end.WriteFault channel) counts permitted within touches are_open caused leaves = (
     net,
     record {
       is_to_run = to_run permitted.matched;
       fits = within_growth permitted.fits;
       counted = risen_to old.faults between.faults new.faults caused.0 only.faults_stay;
       is_channel = subst (λ ps. IsChannelOf ps (asks.words_of job) channel) (sym outs_are) caused.1;
+      how = inr (all_open are_open);
       leaves = λ inputs given. broken (run_over cmd net inputs) between new only (leaves inputs given);
       touches = touches;
     },
@@ -235,7 +260,7 @@ module _ (job : Job) (library : loading.Library) (misses faults : loading.Counts
 
   pub comes : (came : Result Outcome JobFault) → CellsRan image job feeds feeds_new old between came → Comes cmd (status_of came) (lines_at image names job came) (about_image image names job)
   unfolding to_run files
-  comes (Ok outcome) ran = how_ended outcome.end outcome.counts ran.permitted ran.within (touched ran.only_feeds ran.others) ran.faults (leaves_of (Ok outcome) ran)
+  comes (Ok outcome) ran = how_ended outcome.end outcome.counts ran.permitted ran.within (touched ran.only_feeds ran.others) ran.opened ran.faults (leaves_of (Ok outcome) ran)
   comes (Err (fault.Refused r)) ran = (refused r ran.refused, nothing ran.unstarted)
   comes (Err fault.Memory) ran = nothing ran.unstarted
   comes (Err (fault.ReadFault feed)) ran = (
@@ -260,6 +285,7 @@ module _ (job : Job) (library : loading.Library) (misses faults : loading.Counts
           (is_counted (string_bytes job.trace) (asks.out_names image.flat) (asks.words_of job) channel old between ran.unwritten.fails) only.faults_stay;
       is_channel = subst (λ ps. IsChannelOf ps (asks.words_of job) channel) (sym outs_are)
           (is_one_of (string_bytes job.trace) (asks.out_names image.flat) (asks.words_of job) channel old between ran.unwritten.fails);
+      how = inl (unopened channel ran.unwritten);
       leaves = λ inputs given. broken (run_over cmd net inputs) between new only (leaves_of (Err (fault.WriteFault channel)) ran inputs given);
       touches = touched ran.only_feeds ran.others;
     },

@@ -18,53 +18,32 @@ use Rattle.net_model.specs.State.{start_of}
 use Rattle.net_model.specs.Alike.{StatesAlike}
 use Rattle.source_network.specs.Actors.{head_of}
 use Rattle.fnl_flatten.proofs.Wired.{flat_wired}
+use Rattle.actor_lower.specs.Leaves.{AreLeavesOf, StandForActors}
 use Rattle.network_cells.specs.Cells.{AreCellsOf}
 use Rattle.network_cells.specs.Runnable.{CanRunWith, IsCodedNetwork, IsPlanFor, IsWiringOf}
 use Rattle.network_cells.specs.SourceRuns.{LoweredCanBeWired}
-use Rattle.network_cells.specs.Sources.{IsActorNetwork, StandForActors, lowered_leaves, lowered_network, may_come_at, stands_at}
+use Rattle.network_cells.specs.Sources.{IsActorNetwork, lowered_leaves, lowered_network, may_come_at, stands_at}
 use Rattle.network_cells.proofs.Lawlike.{starts_alike}
 use Rattle.network_cells.proofs.LikeSources.{lowered_alike, lowered_flat, matched, same_behaviours}
 use Rattle.network_cells.proofs.Readied.{at_start, both_maps}
-use Rattle.rvc_engine.specs.Built.{HasImage, HaveCodes}
-use Rattle.rvc_engine.specs.Checked.{AreLeavesOf}
+use Rattle.rvc_engine.specs.Built.{HasImage}
 use Rattle.rvc_engine.specs.declared.image.Image.{Image}
 use Rattle.network_job.specs.Network as asks
 use Rattle.network_job.specs.Network.{CanRunAll, plan_of}
 
-pub stand_for : (actors : List Actor) (codes : List coded.Actor) → HaveCodes actors codes → StandForActors actors codes
-stand_for [] [] have = tt
-stand_for [] (code ∷ codes) have = absurd have
-stand_for (actor ∷ actors) [] have = absurd have
-stand_for (actor ∷ actors) (code ∷ codes) have = (have.0, stand_for actors codes have.1)
+-- ---- counts
 
--- ---- counts, and what leaves are called
+many_codes : (actors : List Actor) (codes : List coded.Actor) → StandForActors actors codes → length codes ≡ length actors
+many_codes [] [] stand = refl
+many_codes [] (code ∷ codes) stand = absurd stand
+many_codes (actor ∷ actors) [] stand = absurd stand
+many_codes (actor ∷ actors) (code ∷ codes) stand = (let e = many_codes actors codes stand.1 in omega (arith, e))
 
-many_codes : (actors : List Actor) (codes : List coded.Actor) → HaveCodes actors codes → length codes ≡ length actors
-many_codes [] [] have = refl
-many_codes [] (code ∷ codes) have = absurd have
-many_codes (actor ∷ actors) [] have = absurd have
-many_codes (actor ∷ actors) (code ∷ codes) have = (let e = many_codes actors codes have.1 in omega (arith, e))
-
-record Called (paths classes : List (List ℕ)) (actors : List Actor) (leaves : List (Leaf ActorState)) : Type 0 where
-  paths_are : map (λ leaf. leaf.path) leaves ≡ paths
-  classes_are : map (λ leaf. leaf.class) leaves ≡ classes
-  many : length leaves ≡ length actors
-
-called : (paths classes : List (List ℕ)) (actors : List Actor) (leaves : List (Leaf ActorState)) → AreLeavesOf paths classes actors leaves → Called paths classes actors leaves
-called [] [] [] [] are = record { paths_are = refl; classes_are = refl; many = refl }
-called [] [] [] (x ∷ xs) are = absurd are
-called [] [] (a ∷ actors) xs are = absurd are
-called [] (c ∷ classes) actors xs are = absurd are
-called (p ∷ paths) [] actors xs are = absurd are
-called (p ∷ paths) (c ∷ classes) [] xs are = absurd are
-called (p ∷ paths) (c ∷ classes) (a ∷ actors) [] are = absurd are
-called (p ∷ paths) (c ∷ classes) (a ∷ actors) (x ∷ xs) are =
-    let more = called paths classes actors xs are.1 in
-    record {
-      paths_are = ap (λ q. q ∷ map (λ leaf. leaf.path) xs) are.0.path_is ∙ ap (λ qs. p ∷ qs) more.paths_are;
-      classes_are = ap (λ q. q ∷ map (λ leaf. leaf.class) xs) are.0.class_is ∙ ap (λ qs. c ∷ qs) more.classes_are;
-      many = (let e = more.many in omega (arith, e));
-    }
+many_actors : (actors : List Actor) (leaves : List (Leaf ActorState)) → AreLeavesOf actors leaves → length leaves ≡ length actors
+many_actors [] [] are = refl
+many_actors [] (x ∷ xs) are = absurd are
+many_actors (a ∷ actors) [] are = absurd are
+many_actors (a ∷ actors) (x ∷ xs) are = (let e = many_actors actors xs are.1 in omega (arith, e))
 
 lowered_paths : (codes : List coded.Actor) (leaves : List (Leaf ActorState)) → length codes ≡ length leaves → map (λ leaf. leaf.path) (lowered_leaves codes leaves) ≡ map (λ leaf. leaf.path) leaves
 lowered_paths [] [] same = refl
@@ -83,13 +62,10 @@ module _ (image : Image) (actors : List Actor) (net : Network ActorState) (has :
   codes = map arc_value image.codes.items
 
   pub stand : StandForActors actors (map arc_value image.codes.items)
-  stand = stand_for actors (map arc_value image.codes.items) has.codes
-
-  leaves_called : Called (map string_bytes image.flat.paths.items) (map string_bytes image.flat.classes.items) actors net.leaves
-  leaves_called = called (map string_bytes image.flat.paths.items) (map string_bytes image.flat.classes.items) actors net.leaves (has.is_net).leaves
+  stand = has.codes
 
   pub many_leaves : length (map arc_value image.codes.items) ≡ length net.leaves
-  many_leaves = many_codes actors (map arc_value image.codes.items) has.codes ∙ sym leaves_called.many
+  many_leaves = many_codes actors (map arc_value image.codes.items) has.codes ∙ sym (many_actors actors net.leaves is.leaves)
 
   coded_network : IsCodedNetwork (map arc_value image.codes.items) (lowered_network (map arc_value image.codes.items) net)
   coded_network =
@@ -127,10 +103,10 @@ module _ (image : Image) (actors : List Actor) (net : Network ActorState) (has :
     many_cells = are.one_each ∙ many_leaves
 
     many_paths : length image.flat.paths.items ≡ length net.leaves
-    many_paths = sym (length-map image.flat.paths.items string_bytes) ∙ (ap length (sym leaves_called.paths_are) ∙ length-map net.leaves (λ leaf. leaf.path))
+    many_paths = sym (length-map image.flat.paths.items string_bytes) ∙ (ap length (sym (has.is_net).paths_are) ∙ length-map net.leaves (λ leaf. leaf.path))
 
     many_classes : length image.flat.classes.items ≡ length net.leaves
-    many_classes = sym (length-map image.flat.classes.items string_bytes) ∙ (ap length (sym leaves_called.classes_are) ∙ length-map net.leaves (λ leaf. leaf.class))
+    many_classes = sym (length-map image.flat.classes.items string_bytes) ∙ (ap length (sym (has.is_net).classes_are) ∙ length-map net.leaves (λ leaf. leaf.class))
 
     pub can_run_all : LoweredCanBeWired → CanRunWith (map arc_value image.codes.items) image.flat.links.items job.burst job.grow cells → CanRunAll cells image.flat (plan_of job)
     can_run_all law can = record {
@@ -152,8 +128,8 @@ module _ (image : Image) (actors : List Actor) (net : Network ActorState) (has :
     pub is_network : asks.IsNetworkOf (lowered_network (map arc_value image.codes.items) net) cells image.flat
     is_network = record {
       actors = coded_network.behaviours ∙ sym (both_maps (λ cell. cell.actor) lowered.behaviour cells (map arc_value image.codes.items) are.one_each (λ k cell code at there. (are.starts k code cell there at).is_of));
-      paths = lowered_paths (map arc_value image.codes.items) net.leaves many_leaves ∙ leaves_called.paths_are;
-      classes = lowered_classes (map arc_value image.codes.items) net.leaves many_leaves ∙ leaves_called.classes_are;
+      paths = lowered_paths (map arc_value image.codes.items) net.leaves many_leaves ∙ (has.is_net).paths_are;
+      classes = lowered_classes (map arc_value image.codes.items) net.leaves many_leaves ∙ (has.is_net).classes_are;
       links = (has.is_net).wiring.links;
       ins = (has.is_net).wiring.ins;
       outs = (has.is_net).wiring.outs;

@@ -18,7 +18,8 @@ use Rattle.net_model.specs.Paced.{IsBegun, IsPaced, Moment}
 use Rattle.net_model.specs.Trace.{KeepsFrom, PlaysFrom, bytes_out, text}
 use Rattle.net_model.specs.Counted.{IsCounted}
 use Rattle.net_model.proofs.Rounds.{begun_play, paced_play}
-use Rattle.network_cells.specs.Sources.{IsActorNetwork, StandForActors, lowered_network, may_come_at, stands_at}
+use Rattle.actor_lower.specs.Leaves.{StandForActors}
+use Rattle.network_cells.specs.Sources.{IsActorNetwork, lowered_network, may_come_at, stands_at}
 use Rattle.network_cells.proofs.Lawlike.{begun_alike, bytes_alike, counted_alike, keep_alike, paced_alike, texts_alike}
 use Rattle.network_cells.proofs.LikeSources.{lowered_alike}
 use Rattle.network_cells.proofs.RunsToo.{needs_alike}

@@ -1,8 +1,8 @@
 -- To what a command comes that runs the network of a library, and what it leaves: a case for each status.
 -- Trusted: part of what a promise means.
-use Rattle.std.specs.Prelude.{◌≡◌, ◌⊎◌, ℕ, ◌≤◌, List, Some}
+use Rattle.std.specs.Prelude.{◌≡◌, ◌⊎◌, ℕ, ◌≤◌, List, Some, string_bytes}
 use Rattle.rvc_base.specs.declared.refusal.Refusal.{Refusal}
-use Rattle.rvc_io.specs.Channels.{WritesOnlyAt}
+use Rattle.rvc_io.specs.Channels.{Channels, WritesOnlyAt}
 use Rattle.rvc_io.specs.Count.{HasRisen}
 use Rattle.trace_text.specs.declared.line.Line.{Line}
 use Rattle.trace_text.specs.declared.line.Line.TheVariants.{Quiet as QuietLine, Trap as TrapLine, Stall as StallLine, Budget as BudgetLine}
@@ -16,6 +16,7 @@ use Rattle.port_words.specs.Opening.{FeedFails, feeds_of}
 use Rattle.conforming_jobs.specs.Conforming.{names_of_ports}
 use Rattle.rvc_engine.specs.NotBuilt.{LacksForm}
 use Rattle.rvc_engine.specs.Refused.{RefusesTop}
+use Rattle.network_job.specs.Answering.{AreAllOpen, IsUnwritten}
 use Rattle.network_job.specs.Files.{IsChannelOf, IsFeedOf}
 use Rattle.network_job.specs.Leaving.{HasEnded, WasBroken, WasCut}
 use Rattle.run_report.specs.About.{About}
@@ -32,6 +33,11 @@ use Rattle.network_commands.specs.Commands.{AreCertified, AreGiven, Command, Has
 abbrev pub WouldGrowTooFar : Command → Network State → Type 0
 WouldGrowTooFar cmd net = GrowTooFar net.links cmd.job.grow
 
+-- all feeds of its inputs, the trace's channel and those of its outputs are open that have a file
+abbrev pub AllAreOpen : Command → Network State → Type 0
+AllAreOpen cmd net = AreAllOpen net.links (port_names net.ins) (port_names net.outs) (words_of cmd)
+    (string_bytes cmd.job.trace) cmd.feeds_after cmd.channels_after
+
 -- ---- a run that came to its end
 
 -- This network was run until this line. Whatever bytes its inputs have: the trace is the text of its paced lines, of which
@@ -44,6 +50,7 @@ pub record Ran (cmd : Command) (net : Network State) (end : Line) (counts : Coun
       → HasEnded (run_over cmd net inputs) end counts cmd.channels_after
   pub within : counts.firings ≤ cmd.job.budget
   pub touches : TouchesOnly cmd net
+  pub opened : AllAreOpen cmd net
   pub sound : Each IsSound is_to_run.files.means.actors
   pub certified : ℕ
   pub are_certified : AreCertified is_to_run.files.means.actors certified
@@ -79,6 +86,7 @@ pub record FeedBroke (cmd : Command) (net : Network State) (feed : ℕ) : Type 0
       → WasCut (run_over cmd net inputs) counts feed cmd.feeds_after cmd.channels_after
   pub within : counts.firings ≤ cmd.job.budget
   pub touches : TouchesOnly cmd net
+  pub opened : AllAreOpen cmd net
 
 pub record WasUnread (cmd : Command) (net : Network State) (feed : ℕ) (about : About) : Type 0 where
   pub is_to_run : IsToRun cmd net
@@ -86,13 +94,22 @@ pub record WasUnread (cmd : Command) (net : Network State) (feed : ℕ) (about :
   pub how : FeedUnopened cmd net feed ⊎ FeedBroke cmd net feed
   pub about_is : about ≡ about_net cmd is_to_run.files.names net
 
+-- A channel couldn't be opened: all feeds were, and the channels before it. Or all were opened, and what stands in the trace
+-- before its first event couldn't be written. Then nothing was written but the report.
+pub record ChannelUnopened (cmd : Command) (net : Network State) (channel : ℕ) : Type 0 where
+  pub between : Channels
+  pub unwritten : IsUnwritten net.links (port_names net.ins) (port_names net.outs) (words_of cmd)
+      (string_bytes cmd.job.trace) cmd.feeds cmd.feeds_after cmd.channels between channel
+  pub only_report : WritesOnlyAt 0 between cmd.channels_after
+
 -- The trace's channel or that of an output couldn't be opened or written, which was counted: each that was opened has a
--- prefix of what begun or paced lines give.
+-- prefix of what begun or paced lines give. If it could be opened, so could all.
 pub record WasUnwritten (cmd : Command) (net : Network State) (channel : ℕ) : Type 0 where
   pub is_to_run : IsToRun cmd net
   pub fits : WouldGrowTooFar cmd net → ⊥
   pub counted : HasRisen cmd.channels.faults cmd.channels_after.faults
   pub is_channel : IsChannelOf (port_names net.outs) (words_of cmd) channel
+  pub how : ChannelUnopened cmd net channel ⊎ AllAreOpen cmd net
   pub leaves : (inputs : List (List ℕ)) → AreGiven cmd net inputs
       → WasBroken (run_over cmd net inputs) cmd.channels_after
   pub touches : TouchesOnly cmd net

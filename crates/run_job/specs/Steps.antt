@@ -21,7 +21,7 @@ use Rattle.round_runner.specs.declared.outcome.RunEnd.TheVariants as end
 use Rattle.network_cells.specs.Sources.{IsActorNetwork}
 use Rattle.rvc_engine.specs.Built.{HasImage, IsBuilt}
 use Rattle.rvc_engine.specs.declared.image.Image.{Image}
-use Rattle.network_job.specs.Answering.{EndIsCaused, IfStarted, IfUnstarted, IsPermitted, IsRefused, IsUnread, IsUnwritten, LeavesJob, OnRefused, OnUnread, OnUnwritten}
+use Rattle.network_job.specs.Answering.{AreAllOpen, EndIsCaused, IfStarted, IfUnstarted, IsPermitted, IsRefused, IsUnread, IsUnwritten, LeavesJob, OnRefused, OnUnread, OnUnwritten}
 use Rattle.network_job.specs.Files.{AreInputs, Keeps, OpensOnly, WritesOnly}
 use Rattle.network_job.specs.Leaving.{setting_of}
 use Rattle.network_job.specs.Network as asks
@@ -102,6 +102,7 @@ pub record CellsRan (image : Image) (job : Job) (feeds feeds_new : Inputs) (old 
       → LeavesJob (setting_of net inputs (start_of net inputs) job) came feeds_new new
   pub within : IfOk came (λ outcome. outcome.counts.firings ≤ job.budget)
   pub permitted : IfStarted came (IsPermitted image.flat job)
+  pub opened : IfOk came (λ outcome. AreAllOpen image.flat.links.items (asks.in_names image.flat) (asks.out_names image.flat) (asks.words_of job) (string_bytes job.trace) feeds_new new)
   pub refused : OnRefused came (IsRefused image.flat job)
   pub unstarted : IfUnstarted came ((feeds_new ≡ feeds) × (new ≡ old))
   pub unread : OnUnread came (λ feed. IsUnread image.flat.links.items (asks.in_names image.flat) (asks.words_of job) feeds feeds_new feed × (new ≡ old))

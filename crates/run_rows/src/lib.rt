@@ -11,4 +11,6 @@ mod settings;
 #[cfg(test)]
 mod sources;
 #[cfg(test)]
+mod verbs;
+#[cfg(test)]
 mod words;

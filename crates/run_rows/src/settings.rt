@@ -34,8 +34,11 @@ fn words(alloc: Global, line: &str) -> Result<Vec<String>, AllocError> {
     Ok(words)
 }
 
+/// Files, by their names.
+pub type Files = Vec<(String, Vec<u8>)>;
+
 /// One file.
-fn file(alloc: Global, name: &str, bytes: &[u8]) -> Result<Vec<(String, Vec<u8>)>, AllocError> {
+fn file(alloc: Global, name: &str, bytes: &[u8]) -> Result<Files, AllocError> {
     let mut files = Vec::new(alloc);
     files.push((
         String::from_str(alloc, name)?,
@@ -59,14 +62,35 @@ pub fn run_setting<R: Abort + Threads + Sync>(
 ) -> Result<Ran, Fail> {
     let sources = file(alloc, setting.name, setting.source)?;
     let inputs = file(alloc, "in", setting.input)?;
+    run_words(
+        rt,
+        alloc,
+        setting.words,
+        sources,
+        inputs,
+        setting.step,
+        setting.failing,
+    )
+}
+
+/// Runs these words on a library of these sources and feeds of these inputs.
+pub fn run_words<R: Abort + Threads + Sync>(
+    rt: &R,
+    alloc: Global,
+    line: &str,
+    sources: Files,
+    inputs: Files,
+    step: u32,
+    failing: Failing,
+) -> Result<Ran, Fail> {
     assert!(rt; names_are_distinct(&sources));
     assert!(rt; names_are_distinct(&inputs));
-    assert!(rt; setting.step > 0);
-    let (read, feed, drain) = setting.failing;
+    assert!(rt; step > 0);
+    let (read, feed, drain) = failing;
     let mut library = MemLibrary::new(sources, vec![in alloc; read]?);
-    let mut feeds = MemFeeds::new(alloc, inputs, vec![in alloc; feed]?, setting.step, 2)?;
-    let mut drains = MemDrains::new(alloc, vec![in alloc; drain]?, setting.step, 3, 4096)?;
-    let words = words(alloc, setting.words)?;
+    let mut feeds = MemFeeds::new(alloc, inputs, vec![in alloc; feed]?, step, 2)?;
+    let mut drains = MemDrains::new(alloc, vec![in alloc; drain]?, step, 3, 4096)?;
+    let words = words(alloc, line)?;
     let status = rvc(
         rt,
         alloc,

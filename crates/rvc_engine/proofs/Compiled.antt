@@ -2,6 +2,7 @@
 use Rattle.std.proofs.Common.{◌≡◌, ℕ, zero, suc, ◌<◌, List, [], ◌∷◌, ◌++◌, length, map, Option, None, Some, refl, sym, ap, subst, ◌∙◌, arith}
 use Rattle.std.specs.Prelude.{All, Contains, slice_get, slice_index_or}
 use Rattle.std.proofs.lemmas.List.{append_assoc, append-nil, length-map}
+use Rattle.actor_lower.specs.Leaves.{StandForActors}
 use Rattle.cal_model.specs.Actor.{Actor}
 use Rattle.cal_model.specs.Sound.{Each, IsSound}
 use Rattle.cal_model.specs.View.{actor_of}
@@ -9,7 +10,7 @@ use Rattle.cal_model.specs.declared.bound.Bound.{Bound}
 use Rattle.determinacy_cert.specs.declared.fault.CertFault.{CertFault}
 use Rattle.lowered_actor.specs.Actor as coded
 use Rattle.leaf_actors.specs.Leaves.{at_places, with_first}
-use Rattle.rvc_engine.specs.Built.{AreJudged, HaveCodes}
+use Rattle.rvc_engine.specs.Built.{AreJudged}
 use Rattle.rvc_engine.specs.Compiling.{AddsCompiled, AreCompiled, IsCompiled}
 use Rattle.rvc_engine.specs.declared.compiling.Compiled.{Compiled}
 
@@ -86,8 +87,8 @@ places_more actors (q ∷ ps) p a h = first_more (slice_get actors q) (at_places
 
 -- ---- the codes at places
 
-pub codes_more : (actors : List Actor) (codes : List coded.Actor) (a : Actor) (code : coded.Actor) → HaveCodes actors codes → HaveCodes (a ∷ []) (code ∷ [])
-    → HaveCodes (actors ++ a ∷ []) (codes ++ code ∷ [])
+pub codes_more : (actors : List Actor) (codes : List coded.Actor) (a : Actor) (code : coded.Actor) → StandForActors actors codes → StandForActors (a ∷ []) (code ∷ [])
+    → StandForActors (actors ++ a ∷ []) (codes ++ code ∷ [])
 codes_more [] [] a code h is = is
 codes_more [] (x ∷ codes) a code h is = absurd h
 codes_more (b ∷ actors) [] a code h is = absurd h

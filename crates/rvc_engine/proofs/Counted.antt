@@ -18,19 +18,13 @@ use Rattle.network_files.specs.Requests.{AreTried}
 use Rattle.network_files.specs.Views.{HasFile}
 use Rattle.source_network.specs.Files.{Asked, a_class, a_network, an_actor, Read, asked_by_all, class_asked, files_of}
 use Rattle.source_network.specs.Source.{AreActors, Files, IsSourceNetwork, IsTree}
-use Rattle.rvc_engine.specs.Checked.{AreLeavesOf, CountsMisses, IsNetworkOf}
+use Rattle.rvc_engine.specs.Checked.{CountsMisses, IsNetworkOf}
 
 -- ---- how many leaves there are
 
-many_paths : (paths classes : List (List ℕ)) (actors : List Actor) (xs : List (NetLeaf State)) → AreLeavesOf paths classes actors xs → length paths ≡ length xs
-many_paths [] [] [] [] h = refl
-many_paths [] [] [] (x ∷ xs) h = absurd h
-many_paths [] [] (a ∷ actors) xs h = absurd h
-many_paths [] (c ∷ classes) actors xs h = absurd h
-many_paths (p ∷ paths) [] actors xs h = absurd h
-many_paths (p ∷ paths) (c ∷ classes) [] xs h = absurd h
-many_paths (p ∷ paths) (c ∷ classes) (a ∷ actors) [] h = absurd h
-many_paths (p ∷ paths) (c ∷ classes) (a ∷ actors) (x ∷ xs) h = ap suc (many_paths paths classes actors xs h.1)
+many_paths : (actors : List Actor) (flat : Flat) (net : Network State) → IsNetworkOf actors flat net → length flat.paths.items ≡ length net.leaves
+many_paths actors flat net is =
+    sym (length-map flat.paths.items string_bytes) ∙ ap length (sym is.paths_are) ∙ length-map net.leaves (λ leaf. leaf.path)
 
 many_leaves : (files : Files) (leaves : List Leaf) (actors : List Actor) (xs : List (NetLeaf State)) → AreActors files leaves actors xs → length xs ≡ length leaves
 many_leaves files [] [] [] h = refl
@@ -62,7 +56,7 @@ pub counts : LeavesAreTried → (reads : List Read) (top : Asked) (misses : Coun
     → IsSourceNetwork (files_of reads) (class_asked top) net → IsNetworkOf actors flat net → CountsMisses top misses flat
 counts law reads (a_network class) misses actors flat net tried has s is = λ some.
     let many : length flat.paths.items ≡ length s.tree.leaves =
-    sym (length-map flat.paths.items string_bytes) ∙ many_paths _ _ actors net.leaves is.leaves ∙ many_leaves (files_of reads) s.tree.leaves s.actors net.leaves s.are_actors in
+    many_paths actors flat net is ∙ many_leaves (files_of reads) s.tree.leaves s.actors net.leaves s.are_actors in
     of_first (HasRisen misses.old misses.new) s.tree.leaves
     (of_tree (files_of reads) class s.tree (HasRisen misses.old misses.new) s.is_tree has (law reads misses (a_network class) class tried))
     (subst (λ n. 0 < n) many some)

@@ -13,7 +13,7 @@ use Rattle.rvc_engine.specs.Checked.{CountsMisses}
 use Rattle.rvc_engine.specs.Images.{IsLeftOver, MeansNet}
 use Rattle.rvc_engine.specs.Laws.{NetworksAreNotRefused}
 use Rattle.rvc_engine.specs.NotBuilt.{IsNoImage, IsNotBuilt, IsUnbuilt, LacksForm}
-use Rattle.rvc_engine.specs.Refused.{RefusesTop}
+use Rattle.rvc_engine.specs.Refused.{IsFault, RefusesTop}
 use Rattle.rvc_engine.specs.Steps.{IsHeld}
 use Rattle.rvc_engine.specs.declared.held.Held.{Held}
 use Rattle.rvc_engine.specs.declared.image.Image.{Image}
@@ -44,6 +44,13 @@ no_image (Err (Refused r)) library top misses faults names held h why = inr (rec
 })
 no_image (Err (ReadFault file)) library top misses faults names held h why = absurd why
 no_image (Err Memory) library top misses faults names held h why = tt
+
+-- what was checked isn't given, so there is no image
+pub none_checked : (library : Library) (top : Asked) (misses faults : Counts) (names : List (List ℕ)) (f : BuildFault) → IsFault library top misses faults names f
+    → IsNoImage library top misses faults names f
+none_checked library top misses faults names (Refused r) h = inl h
+none_checked library top misses faults names (ReadFault file) h = h
+none_checked library top misses faults names Memory h = tt
 
 -- what was compiled is the library's network
 library_image : (library : Library) (top : Asked) (names : List (List ℕ)) (image : Image) (h : IsBuilt library top names image)

@@ -7,6 +7,7 @@ use Rattle.std.proofs.lemmas.List.Elements.{All-head, All-tail}
 use Rattle.std.proofs.lemmas.Option.{slice_get-map, slice_get_within}
 use Rattle.rvc_base.specs.Rules.{not_built}
 use Rattle.rvc_base.specs.declared.refusal.Place.{Place}
+use Rattle.actor_lower.specs.Leaves.{StandForActors}
 use Rattle.actor_lower.specs.Faults.{IsActorFault}
 use Rattle.actor_lower.specs.declared.fault.ActorFault.TheVariants as lowering
 use Rattle.cal_imports.specs.Resolved.{resolved}
@@ -20,9 +21,9 @@ use Rattle.leaf_actors.specs.Leaves.{actors_at_leaves, at_places, distinct_actor
 use Rattle.net_model.specs.Network.{Leaf as NetLeaf}
 use Rattle.source_network.specs.Actors.{IsActorOf}
 use Rattle.source_network.specs.Source.{AreActors, Files}
-use Rattle.rvc_engine.specs.Built.{AreJudged, HasImage, HaveCodes, IsImageOf}
+use Rattle.rvc_engine.specs.Built.{AreJudged, HasImage, IsImageOf}
 use Rattle.leaf_actors.specs.declared.found.LeafActors.{LeafActors}
-use Rattle.rvc_engine.specs.Checked.{AreLeavesOf, HasSource, IsNetworkOf, StandAtLeaves}
+use Rattle.rvc_engine.specs.Checked.{HasSource, IsNetworkOf, StandAtLeaves}
 use Rattle.rvc_engine.specs.Compiling.{AreCompiled}
 use Rattle.rvc_engine.specs.declared.compiling.Compiled.{Compiled}
 use Rattle.rvc_engine.proofs.Compiled.{as_many_compiled}
@@ -65,24 +66,21 @@ record IsAtLeaf (sources : List Source) (leaves : List Leaf) (classes : List (Li
   class_is : slice_get classes k ≡ Some leaf.class
   is : IsActorOf sources leaf a
 
-leaf_is : (files : Files) (leaves : List Leaf) (paths classes : List (List ℕ)) (actors : List Actor) (xs : List (NetLeaf State)) (k : ℕ) (a : Actor)
-    → AreActors files leaves actors xs → AreLeavesOf paths classes actors xs → slice_get actors k ≡ Some a → IsAtLeaf files.sources leaves classes k a
-leaf_is files leaves paths classes [] xs k a h i at = absurd cc
-leaf_is files [] paths classes (b ∷ actors) xs k a h i at = absurd h
-leaf_is files (leaf ∷ leaves) paths classes (b ∷ actors) [] k a h i at = absurd h
-leaf_is files (leaf ∷ leaves) [] [] (b ∷ actors) (x ∷ xs) k a h i at = absurd i
-leaf_is files (leaf ∷ leaves) [] (c ∷ classes) (b ∷ actors) (x ∷ xs) k a h i at = absurd i
-leaf_is files (leaf ∷ leaves) (p ∷ paths) [] (b ∷ actors) (x ∷ xs) k a h i at = absurd i
-leaf_is files (leaf ∷ leaves) (p ∷ paths) (c ∷ classes) (b ∷ actors) (x ∷ xs) zero a h i at =
+leaf_is : (files : Files) (leaves : List Leaf) (actors : List Actor) (xs : List (NetLeaf State)) (k : ℕ) (a : Actor)
+    → AreActors files leaves actors xs → slice_get actors k ≡ Some a → IsAtLeaf files.sources leaves (map (λ x. x.class) xs) k a
+leaf_is files leaves [] xs k a h at = absurd cc
+leaf_is files [] (b ∷ actors) xs k a h at = absurd h
+leaf_is files (leaf ∷ leaves) (b ∷ actors) [] k a h at = absurd h
+leaf_is files (leaf ∷ leaves) (b ∷ actors) (x ∷ xs) zero a h at =
     let same : b ≡ a = cc in
     record {
       leaf = leaf;
       is_leaf = refl;
-      class_is = ap Some (sym i.0.class_is ∙ h.1.0.class);
+      class_is = ap Some h.1.0.class;
       is = subst (IsActorOf files.sources leaf) same h.0;
     }
-leaf_is files (leaf ∷ leaves) (p ∷ paths) (c ∷ classes) (b ∷ actors) (x ∷ xs) (suc k) a h i at =
-    let rest = leaf_is files leaves paths classes actors xs k a h.1.1 i.1 at in
+leaf_is files (leaf ∷ leaves) (b ∷ actors) (x ∷ xs) (suc k) a h at =
+    let rest = leaf_is files leaves actors xs k a h.1.1 at in
     record { leaf = rest.leaf; is_leaf = rest.is_leaf; class_is = rest.class_is; is = rest.is }
 
 -- the actor of a number at one of its leaves
@@ -102,12 +100,12 @@ here files class checked s number k b at is =
     subst (λ n. All (λ q. q < n) checked.actors.of_leaf.items) (sym (length-map checked.actors.actors.items actor_of)) s.stand.within in
     let actor : slice_get (actors_at_leaves checked.actors) k ≡ Some (actor_of b) =
     at_leaf (distinct_actors checked.actors) checked.actors.of_leaf.items k number (actor_of b) within at distinct in
-    let found = leaf_is files s.means.tree.leaves (map string_bytes checked.flat.paths.items) (map string_bytes checked.flat.classes.items) (actors_at_leaves checked.actors)
-    s.net.leaves k (actor_of b) (subst (λ xs. AreActors files s.means.tree.leaves xs s.net.leaves) s.same_actors s.means.are_actors) s.has_net.is_net.leaves actor in
+    let found = leaf_is files s.means.tree.leaves (actors_at_leaves checked.actors) s.net.leaves k (actor_of b)
+    (subst (λ xs. AreActors files s.means.tree.leaves xs s.net.leaves) s.same_actors s.means.are_actors) actor in
     record {
       leaf = found.leaf;
       is_leaf = found.is_leaf;
-      class_is = found.class_is;
+      class_is = ap (λ cs. slice_get cs k) (sym s.has_net.is_net.classes_are) ∙ found.class_is;
       is = found.is;
       is_actor = ap (λ xs. slice_get xs k) s.same_actors ∙ actor;
     }
@@ -181,7 +179,7 @@ left_whole files class checked number place b said h is fault same =
 -- ---- the image of those that are compiled
 
 pub image_is : (files : Files) (class : List ℕ) (checked : Checked) (image : Image) (s : HasSource files class checked) → image.flat ≡ checked.flat
-    → HaveCodes (actors_at_leaves checked.actors) (map arc_value image.codes.items) → AreJudged (actors_at_leaves checked.actors) image.uncertified.items
+    → StandForActors (actors_at_leaves checked.actors) (map arc_value image.codes.items) → AreJudged (actors_at_leaves checked.actors) image.uncertified.items
     → IsImageOf files class image
 image_is files class checked image s flat codes judged = record {
   net = s.net;

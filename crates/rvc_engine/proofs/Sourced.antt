@@ -1,6 +1,6 @@
 -- The network that was checked is the source network of the files.
-use Rattle.std.proofs.Common.{ℕ, List, [], ◌∷◌, map, refl, sym, subst}
-use Rattle.std.specs.Prelude.{string_bytes}
+use Rattle.std.proofs.Common.{◌≡◌, ℕ, List, [], ◌∷◌, map, refl, sym, ap, subst, ◌∙◌}
+use Rattle.actor_lower.specs.Leaves.{AreLeavesOf}
 use Rattle.cal_model.specs.Actor.{Actor}
 use Rattle.cal_model.specs.Selection.{State}
 use Rattle.cal_model.specs.Sound.{Each, IsSound}
@@ -9,7 +9,7 @@ use Rattle.net_model.specs.Ready.{port_of as own_port}
 use Rattle.fnl_flatten.specs.Flattened.{IsFlattened}
 use Rattle.fnl_flatten.specs.Whole.{IsWhole}
 use Rattle.fnl_flatten.specs.declared.flat.Flat.{Flat}
-use Rattle.fnl_tree.specs.Tree.{Leaf, Tree, classes}
+use Rattle.fnl_tree.specs.Tree.{Leaf, Tree}
 use Rattle.leaf_actors.specs.Laws.{ActorsAreLeaves, HasLeaves}
 use Rattle.leaf_actors.specs.Leaves.{actors_at_leaves}
 use Rattle.leaf_actors.specs.declared.found.LeafActors.{LeafActors}
@@ -17,28 +17,31 @@ use Rattle.source_network.specs.Actors.{head_of}
 use Rattle.source_network.specs.Answers.{ActorsMakeWhole, AnswersAreSource, HasWiring}
 use Rattle.source_network.specs.Laws.{ActorsAreOne}
 use Rattle.source_network.specs.Source.{AreActors, Files, IsSourceNetwork}
-use Rattle.rvc_engine.specs.Checked.{AreLeavesOf, HasSource, IsNetworkOf}
+use Rattle.rvc_engine.specs.Checked.{HasSource, IsNetworkOf}
 use Rattle.rvc_engine.specs.Steps.{IsJoined, IsPeopled}
 use Rattle.rvc_engine.specs.declared.checked.Checked.{Checked}
 use Rattle.rvc_engine.proofs.Kept.{source_actors}
 
--- the leaves of a network stand at the paths of a tree
+-- the leaves of a network behave as their actors, and stand at the paths of a tree, with its classes
+record StandAt (leaves : List Leaf) (actors : List Actor) (xs : List (NetLeaf State)) : Type 0 where
+  are : AreLeavesOf actors xs
+  paths_are : map (λ x. x.path) xs ≡ map (λ leaf. leaf.path) leaves
+  classes_are : map (λ x. x.class) xs ≡ map (λ leaf. leaf.class) leaves
+
 are_leaves : (files : Files) (leaves : List Leaf) (actors : List Actor) (xs : List (NetLeaf State)) → AreActors files leaves actors xs
-    → AreLeavesOf (map (λ leaf. leaf.path) leaves) (map (λ leaf. leaf.class) leaves) actors xs
-are_leaves files [] [] [] h = tt
+    → StandAt leaves actors xs
+are_leaves files [] [] [] h = record { are = tt; paths_are = refl; classes_are = refl }
 are_leaves files [] [] (x ∷ xs) h = absurd h
 are_leaves files [] (a ∷ actors) xs h = absurd h
 are_leaves files (leaf ∷ leaves) [] xs h = absurd h
 are_leaves files (leaf ∷ leaves) (a ∷ actors) [] h = absurd h
-are_leaves files (leaf ∷ leaves) (a ∷ actors) (x ∷ xs) h = (
-  record {
-    path_is = h.1.0.path;
-    class_is = h.1.0.class;
-    priorities = h.1.0.priorities;
-    behaviour_is = h.1.0.behaviour;
-  },
-  are_leaves files leaves actors xs h.1.1,
-)
+are_leaves files (leaf ∷ leaves) (a ∷ actors) (x ∷ xs) h =
+    let rest = are_leaves files leaves actors xs h.1.1 in
+    record {
+      are = (record { priorities = h.1.0.priorities; behaviour = h.1.0.behaviour }, rest.are);
+      paths_are = ap (λ p. p ∷ map (λ y. y.path) xs) h.1.0.path ∙ ap (λ ps. leaf.path ∷ ps) rest.paths_are;
+      classes_are = ap (λ c. c ∷ map (λ y. y.class) xs) h.1.0.class ∙ ap (λ cs. leaf.class ∷ cs) rest.classes_are;
+    }
 
 -- the network of leaves with the links and the ports of a flat network
 abbrev net_of : Flat → List (NetLeaf State) → Network State
@@ -54,11 +57,14 @@ wired flat xs = record { links = refl; ins = refl; outs = refl }
 
 is_network : (files : Files) (tree : Tree) (actors : List Actor) (flat : Flat) (xs : List (NetLeaf State)) → AreActors files tree.leaves actors xs
     → IsFlattened tree (map head_of actors) flat → IsNetworkOf actors flat (net_of flat xs)
-is_network files tree actors flat xs are is = record {
-  leaves = subst (λ cs. AreLeavesOf (map string_bytes flat.paths.items) cs actors xs) (sym is.classes)
-      (subst (λ ps. AreLeavesOf ps (classes tree) actors xs) (sym is.paths) (are_leaves files tree.leaves actors xs are));
-  wiring = wired flat xs;
-}
+is_network files tree actors flat xs are is =
+    let stand = are_leaves files tree.leaves actors xs are in
+    record {
+      leaves = stand.are;
+      paths_are = stand.paths_are ∙ sym is.paths;
+      classes_are = stand.classes_are ∙ sym is.classes;
+      wiring = wired flat xs;
+    }
 
 -- the actors of a tree, joined by a flat network
 joined : (files : Files) (class : List ℕ) (tree : Tree) (flat : Flat) (found : LeafActors) → ActorsAreOne → ActorsAreLeaves → AnswersAreSource

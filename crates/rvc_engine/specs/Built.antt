@@ -8,23 +8,16 @@ use Rattle.cal_model.specs.Selection.{Priorities, State}
 use Rattle.cal_model.specs.Sound.{Each, IsSound}
 use Rattle.net_model.specs.Network.{Network}
 use Rattle.actor_files.specs.Loading.{Library}
-use Rattle.actor_lower.specs.Standing.{StandsForActor}
+use Rattle.actor_lower.specs.Leaves.{StandForActors}
 use Rattle.determinacy_cert.specs.Failing.{failures, first}
 use Rattle.determinacy_cert.specs.declared.fault.CertFault.{CertFault}
 use Rattle.determinacy_cert.specs.declared.fault.CertFault.TheVariants.{Uncertified, Memory}
-use Rattle.lowered_actor.specs.Actor as coded
 use Rattle.source_network.specs.Files.{Asked, class_asked, files_of, Read}
 use Rattle.source_network.specs.Source.{Files, IsSourceNetwork}
 use Rattle.rvc_engine.specs.Checked.{AreRead, IsNetworkOf}
 use Rattle.rvc_engine.specs.declared.image.Image.{Image}
 
 -- ---- actors
-
--- each actor has its code
-abbrev pub HaveCodes : List Actor → List coded.Actor → Type 0
-HaveCodes [] [] = Unit {0}
-HaveCodes (actor ∷ actors) (code ∷ codes) = StandsForActor actor code × HaveCodes actors codes
-HaveCodes actors codes = ⊥
 
 -- An actor is certified if nothing is said of it. If something is, it is the first failure of the certification rule.
 abbrev pub IsJudged : Actor → Option CertFault → Type 0
@@ -42,11 +35,11 @@ AreJudged actors more = ⊥
 
 -- ---- the network
 
--- the network of these actors, with their codes and with what is said of each
+-- the network of these actors, with the lowered actors that stand for them and with what is said of each
 pub record HasImage (image : Image) (actors : List Actor) (net : Network State) : Type 0 where
   pub sound : Each IsSound actors
   pub is_net : IsNetworkOf actors image.flat net
-  pub codes : HaveCodes actors (map arc_value image.codes.items)
+  pub codes : StandForActors actors (map arc_value image.codes.items)
   pub judged : AreJudged actors image.uncertified.items
 
 -- it is the network that files mean from a class down

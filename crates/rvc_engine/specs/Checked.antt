@@ -1,13 +1,13 @@
 -- What a network that was checked is: the source network of the files that were read.
 -- Trusted: part of what a promise means.
-use Rattle.std.specs.Prelude.{◌≡◌, ℕ, ◌<◌, List, [], ◌∷◌, Contains, length, map, string_bytes}
+use Rattle.std.specs.Prelude.{◌≡◌, ℕ, ◌<◌, List, Contains, length, map, string_bytes}
 use Rattle.cal_model.specs.Actor.{Actor}
-use Rattle.cal_model.specs.Firing.{behaviour}
-use Rattle.cal_model.specs.Selection.{Priorities, State}
+use Rattle.cal_model.specs.Selection.{State}
 use Rattle.cal_model.specs.Sound.{Each, IsSound}
-use Rattle.net_model.specs.Network.{Leaf as NetLeaf, Network}
+use Rattle.net_model.specs.Network.{Network}
 use Rattle.rvc_io.specs.Count.{HasRisen}
 use Rattle.actor_files.specs.Loading.{Counts, Library}
+use Rattle.actor_lower.specs.Leaves.{AreLeavesOf}
 use Rattle.fnl_flatten.specs.declared.flat.Flat.{Flat}
 use Rattle.leaf_actors.specs.Leaves.{HasSoundActors, IsWithin, actors_at_leaves}
 use Rattle.leaf_actors.specs.declared.found.LeafActors.{LeafActors}
@@ -19,24 +19,11 @@ use Rattle.rvc_engine.specs.declared.checked.Checked.{Checked}
 
 -- ---- the network that was checked
 
--- an actor of a network, with its path, its class and the behaviour of this source
-pub record IsLeafOf (path class : List ℕ) (actor : Actor) (x : NetLeaf State) : Type 0 where
-  pub path_is : x.path ≡ path
-  pub class_is : x.class ≡ class
-  pub priorities : Priorities actor
-  pub behaviour_is : x.behaviour ≡ behaviour actor priorities
-
--- .. and so is each of them, in instance order
-abbrev pub AreLeavesOf : (paths classes : List (List ℕ)) → List Actor → List (NetLeaf State) → Type 0
-AreLeavesOf [] [] [] [] = Unit {0}
-AreLeavesOf (path ∷ paths) (class ∷ classes) (actor ∷ actors) (x ∷ xs) =
-    IsLeafOf path class actor x × AreLeavesOf paths classes actors xs
-AreLeavesOf paths classes actors xs = ⊥
-
--- the network of these actors, at the paths and with the links and the ports of a flat network
+-- the network of these actors, one a leaf in instance order; its paths, classes, links and ports are those of a flat network
 pub record IsNetworkOf (actors : List Actor) (flat : Flat) (net : Network State) : Type 0 where
-  pub leaves : AreLeavesOf (map string_bytes flat.paths.items) (map string_bytes flat.classes.items)
-      actors net.leaves
+  pub leaves : AreLeavesOf actors net.leaves
+  pub paths_are : map (λ leaf. leaf.path) net.leaves ≡ map string_bytes flat.paths.items
+  pub classes_are : map (λ leaf. leaf.class) net.leaves ≡ map string_bytes flat.classes.items
   pub wiring : HasWiring flat net
 
 -- the network that was checked: its actors are sound

@@ -66,7 +66,7 @@ abbrev pub IsNoImage : Library → (top : Asked) → (misses faults : Counts) �
 IsNoImage library top misses faults names (Refused r) =
     RefusesTop library top misses names r ⊎ LacksForm library top names r
 IsNoImage library top misses faults names (ReadFault file) =
-    HasRisen faults.old faults.new × IsFaulted library top file names
+    HasRisen faults.old faults.new × IsFaulted library top misses file names
 IsNoImage library top misses faults names Memory = Unit {0}
 
 -- a form isn't built, a reading failed, or memory ran out

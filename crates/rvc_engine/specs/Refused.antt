@@ -68,7 +68,7 @@ abbrev pub IsFault : Library → (top : Asked) → (misses faults : Counts) → 
     → Type 0
 IsFault library top misses faults names (Refused r) = RefusesTop library top misses names r
 IsFault library top misses faults names (ReadFault file) =
-    HasRisen faults.old faults.new × IsFaulted library top file names
+    HasRisen faults.old faults.new × IsFaulted library top misses file names
 IsFault library top misses faults names Memory = Unit {0}
 
 -- a reading failed, or memory ran out

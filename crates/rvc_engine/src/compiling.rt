@@ -2,12 +2,13 @@
 
 ghost use Rattle.std.specs.Prelude.{◌≡◌, ◌<◌, All, IfErr, IfOk, OnOk, List, Contains, Some, length, map, slice_get};
 ghost use Rattle.std.specs.Arc.{arc_value};
+ghost use Rattle.actor_lower.specs.Leaves.{StandForActors};
 ghost use Rattle.actor_lower.specs.Faults.{IsActorFault};
 ghost use Rattle.cal_model.specs.Actor.{Actor};
 ghost use Rattle.cal_model.specs.Sound.{Each, IsSound};
 ghost use Rattle.cal_model.specs.View.{actor_of};
 ghost use Rattle.leaf_actors.specs.Leaves.{at_places};
-ghost use Rattle.rvc_engine.specs.Built.{AreJudged, HaveCodes, IsJudged};
+ghost use Rattle.rvc_engine.specs.Built.{AreJudged, IsJudged};
 ghost use Rattle.rvc_engine.specs.Compiling.{AddsCompiled, AreCompiled, IsCompiled, IsNotCompiled};
 
 use actor_lower::{ActorFault, lower};
@@ -118,7 +119,7 @@ pub(crate) fn codes_at(
 ) -> Result<Vec<Arc<Lowered>>, Memory>
     requires { All (λ p. p < length all.now) places.now }
     ensures { (actors : List Actor) → AreCompiled actors all.now → IfOk result
-        (λ codes. HaveCodes (at_places actors places.now) (map arc_value codes.items)) }
+        (λ codes. StandForActors (at_places actors places.now) (map arc_value codes.items)) }
 {
     let mut codes = Vec::new(alloc);
     let mut rest = places;

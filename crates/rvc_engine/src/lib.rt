@@ -23,9 +23,8 @@ mod lone;
 mod network;
 mod top;
 
-pub use building::build;
 pub use checked::Checked;
 pub use fault::BuildFault;
 pub use image::Image;
 pub use laws::{checked_are_one_network, networks_are_not_refused, tops_are_read_by_name};
-pub use network::check_network;
+pub use network::{build, check_network};

@@ -23,7 +23,7 @@ returns-in-Ok-true-clause-next g c =
 
 pub returns-in-Err-clause-next : goal.returns-in-Err-clause-next
 returns-in-Err-clause-next g c =
-    halts (seen (g.L.Library.file c.args.library.now) (g.L.Library.faults c.args.library.now) (g.L.Library.misses c.args.library.now) (file_names c.args.names.now) (state_of c.args.loading.now)) (seen (g.L.Library.file c.requests.library) (g.L.Library.faults c.requests.library) (g.L.Library.misses c.requests.library) (file_names c.requests.names) (state_of c.requests.loading)) (seen (g.L.Library.file c.take.new.library) (g.L.Library.faults c.take.new.library) (g.L.Library.misses c.take.new.library) (file_names c.take.new.names) (state_of c.take.new.loading)) (request_of c.in-Some.request) (waiting_of c.pop_front.new.self) c.in-Err.fault c.requests.invariant.3 (ap (map request_of) c.in-Some.ensures.items) c.in-Err.ensures.halted
+    halts (seen (g.L.Library.file c.args.library.now) (g.L.Library.faults c.args.library.now) (g.L.Library.misses c.args.library.now) (file_names c.args.names.now) (state_of c.args.loading.now)) (seen (g.L.Library.file c.requests.library) (g.L.Library.faults c.requests.library) (g.L.Library.misses c.requests.library) (file_names c.requests.names) (state_of c.requests.loading)) (seen (g.L.Library.file c.take.new.library) (g.L.Library.faults c.take.new.library) (g.L.Library.misses c.take.new.library) (file_names c.take.new.names) (state_of c.take.new.loading)) (request_of c.in-Some.request) (waiting_of c.pop_front.new.self) c.in-Err.fault c.requests.invariant.3 (ap (map request_of) c.in-Some.ensures.items) c.take.ensures.misses_stay c.in-Err.ensures.halted
 
 pub requests-preserved : goal.requests-preserved
 requests-preserved g c =

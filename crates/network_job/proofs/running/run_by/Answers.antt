@@ -8,7 +8,7 @@ use Rattle.network_job.specs.Arriving.{ArriveInEach}
 use Rattle.network_job.specs.Network.{plan_of}
 use Rattle.network_job.specs.Preparing.{Starts, TakesOver, WritesHead}
 use Rattle.network_job.proofs.Begun.{channels_fit, feeds_fit, is_caused, wrote_faults, writes_all}
-use Rattle.network_job.proofs.Kept.{opens_all, opens_then}
+use Rattle.network_job.proofs.Kept.{all_open, opens_all, opens_then}
 use Rattle.network_job.proofs.Finished.{arrives_run, leaves_run, leaves_unstarted, unstarted_channels, unstarted_feeds}
 use Rattle.network_job.proofs.running.run_by.Goals as goal
 
@@ -65,6 +65,15 @@ returns-clause-faults g c =
     c.in_default.ensures.0.faults_stay
     (wrote_faults (string_bytes c.args.job.now.trace) (names_of c.args.flat.now.outs.items) (map port_text c.args.job.now.ports.items) c.as_slice.result.now (g.D.Drains.channels c.args.drains.now) (g.D.Drains.channels c.start.new.drains) c.in_default.ensures.1)
     (c.run-end.ensures.faults c.in-Ok.ensures.prepared.begins.going)
+
+pub returns-clause-opened : goal.returns-clause-opened
+returns-clause-opened g c =
+    let written : WritesHead (string_bytes c.args.job.now.trace) (names_of c.args.flat.now.outs.items) (map port_text c.args.job.now.ports.items) c.in-Ok.prepared.head.items
+    (g.D.Drains.channels c.args.drains.now) (g.D.Drains.channels c.start.new.drains) =
+    subst (λ head. WritesHead (string_bytes c.args.job.now.trace) (names_of c.args.flat.now.outs.items) (map port_text c.args.job.now.ports.items) head (g.D.Drains.channels c.args.drains.now) (g.D.Drains.channels c.start.new.drains)) c.as_slice.ensures.value c.in_default.ensures.1 in
+    all_open c.args.flat.now.links.items (names_of c.args.flat.now.ins.items) (names_of c.args.flat.now.outs.items) (map port_text c.args.job.now.ports.items) (string_bytes c.args.job.now.trace)
+    c.in-Ok.prepared.head.items (g.F.Feeds.feeds c.args.feeds.now) (g.F.Feeds.feeds c.start.new.feeds) (g.F.Feeds.feeds c.run-end.new.feeds) (g.D.Drains.channels c.args.drains.now)
+    (g.D.Drains.channels c.start.new.drains) (g.D.Drains.channels c.run-end.new.drains) c.in_default.ensures.0 c.run-end.ensures.same_feeds written c.run-end.ensures.others.same_open
 
 pub returns-clause-other_feeds : goal.returns-clause-other_feeds
 returns-clause-other_feeds g c =

@@ -35,6 +35,7 @@ returns g c =
           (g.F.Feeds.feeds c.args.feeds.now) (g.F.Feeds.feeds c.run_network.new.feeds) (g.D.Drains.channels c.run_network.new.drains) c.run_network.result inputs c.run_network.ensures.leaves given;
       within = c.run_network.ensures.within;
       permitted = c.run_network.ensures.permitted;
+      opened = c.run_network.ensures.opened;
       refused = c.run_network.ensures.refused;
       unstarted = when_unstarted g.F.Feeds.feeds g.D.Drains.channels c.args.feeds.now c.run_network.new.feeds c.args.drains.now c.run_network.new.drains c.run_network.result c.run_network.ensures.unstarted;
       unread = when_unread g.D.Drains.channels c.args.drains.now c.run_network.new.drains c.run_network.result

@@ -1,10 +1,11 @@
 use Rattle.std.proofs.Common.{◌<◌, length, map, refl, subst, sym}
 use Rattle.std.specs.Prelude.{All}
 use Rattle.std.specs.Arc.{arc_value}
+use Rattle.actor_lower.specs.Leaves.{StandForActors}
 use Rattle.cal_model.specs.View.{actor_of}
 use Rattle.leaf_actors.specs.Leaves.{at_places, distinct_actors}
 use Rattle.network_files.specs.Views.{files_in}
-use Rattle.rvc_engine.specs.Built.{AreJudged, HaveCodes}
+use Rattle.rvc_engine.specs.Built.{AreJudged}
 use Rattle.rvc_engine.specs.Compiling.{AreCompiled}
 use Rattle.rvc_engine.proofs.Left.{image_is, within_compiled}
 use Rattle.rvc_engine.proofs.building.image_of.Goals as goal
@@ -24,10 +25,10 @@ uncertified_at-requires c =
 pub returns-clause-image : goal.returns-clause-image
 returns-clause-image c = λ class s.
     let are : AreCompiled (distinct_actors c.args.checked.actors) c.in-Ok.all.items = subst (λ bs. AreCompiled (map actor_of bs) c.in-Ok.all.items) c.deref.ensures.value c.in-Ok.ensures.compiled in
-    let codes : HaveCodes (at_places (distinct_actors c.args.checked.actors) c.deref-2.result.now) (map arc_value c.in-Ok-codes_at.codes.items) =
+    let codes : StandForActors (at_places (distinct_actors c.args.checked.actors) c.deref-2.result.now) (map arc_value c.in-Ok-codes_at.codes.items) =
     c.in-Ok-codes_at.ensures (distinct_actors c.args.checked.actors) (subst (AreCompiled (distinct_actors c.args.checked.actors)) (sym c.deref-3.ensures.value) are) in
     let judged : AreJudged (at_places (distinct_actors c.args.checked.actors) c.deref-4.result.now) c.in-Ok-uncertified_at.uncertified.items =
     c.in-Ok-uncertified_at.ensures (distinct_actors c.args.checked.actors) (subst (AreCompiled (distinct_actors c.args.checked.actors)) (sym c.deref-5.ensures.value) are) in
     image_is (files_in c.args.files.now) class c.args.checked (record { flat = c.args.checked.flat; codes = c.in-Ok-codes_at.codes; uncertified = c.in-Ok-uncertified_at.uncertified }) s refl
-    (subst (λ ps. HaveCodes (at_places (distinct_actors c.args.checked.actors) ps) (map arc_value c.in-Ok-codes_at.codes.items)) c.deref-2.ensures.value codes)
+    (subst (λ ps. StandForActors (at_places (distinct_actors c.args.checked.actors) ps) (map arc_value c.in-Ok-codes_at.codes.items)) c.deref-2.ensures.value codes)
     (subst (λ ps. AreJudged (at_places (distinct_actors c.args.checked.actors) ps) c.in-Ok-uncertified_at.uncertified.items) c.deref-4.ensures.value judged)
