@@ -10,7 +10,7 @@ use Rattle.net_model.specs.declared.wiring.Wiring.{Wiring}
 use Rattle.net_model.specs.Network.{is_outside}
 use Rattle.round_runner.specs.Running.{count_inputs}
 use Rattle.runner_rows.proofs.Opened.{few_feeds}
-use Rattle.trace_replay.specs.Replaying.{has_feed}
+use Rattle.trace_replay.specs.Feeding.{has_feed}
 use Rattle.replay_rows.specs.Open.{AreFirstOpen, AreOpenFor}
 
 is_fed : (reads : List Bool) (end : End) → has_feed reads end ≡ true → is_outside end ≡ true

@@ -4,8 +4,7 @@ use Rattle.std.specs.Prelude.{◌≡◌, ℕ, true, slice_get, Some}
 use Rattle.rvc_io.specs.Feeds.{Inputs}
 use Rattle.net_model.specs.declared.wiring.Link.{Link}
 use Rattle.net_model.specs.declared.wiring.Wiring.{Wiring}
-use Rattle.trace_replay.specs.Feeding.{feed_of}
-use Rattle.trace_replay.specs.Replaying.{has_feed}
+use Rattle.trace_replay.specs.Feeding.{feed_of, has_feed}
 
 -- the trace's feed is open, and that of each input link that has one
 pub record AreOpenFor (wiring : Wiring) (feeds : Inputs) : Type 0 where

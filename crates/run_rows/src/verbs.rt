@@ -138,7 +138,12 @@ fn leaves<R: Abort + Threads + Sync>(rt: &R, alloc: Global, row: &Row) -> Result
     let inputs = inputs(alloc, trace)?;
     let ran = run_words(rt, alloc, line, sources, inputs, 3, NEVER)?;
     let ended = format!(in alloc; "{} {:?}", ran.status.code(), ran.status)?;
-    assert!(rt; ended.as_str().starts_with(ends), "{}: {}", line, ended.as_str());
+    assert!(rt;
+        ended.as_str().starts_with(ends),
+        "{}: {}",
+        line,
+        ended.as_str()
+    );
     assert!(rt; ran.drains.held(0) == report.as_bytes(), "report of {line}");
     assert!(rt; ran.drains.held(1) == traced.as_bytes(), "trace of {line}");
     assert!(rt; ran.drains.held(2) == output, "output of {line}");
