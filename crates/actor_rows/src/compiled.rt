@@ -377,3 +377,77 @@ fn queues_go_round(rt: HostRuntime) -> Result<(), Fail> {
     );
     Ok(())
 }
+
+const STORES: &str = "
+# A list is stored in an item of a list, each number in its type, and not behind the last item.
+actor Rows() uint(size=8) In ==> uint(size=8) Out :
+  List(type: List(type: uint(size=4), size=2), size=3) m := [[0, 0], [0, 0], [0, 0]];
+  action In:[i, x] ==> Out:[m[i][0], m[i][1]] do m[i] := [x, x + 1]; end end
+> 2 20 0 15 3 1
+= fires 0 0, sends 4 5 15 0, traps in 0 by IndexRange, 2 left
+# Its neighbours stay as they were.
+actor Near() uint(size=8) In ==> uint(size=8) Out :
+  List(type: List(type: uint(size=8), size=2), size=3) m := [[1, 2], [3, 4], [5, 6]];
+  action In:[x] ==> Out:[m[0][0], m[0][1], m[1][0], m[1][1], m[2][0], m[2][1]] do m[1] := [x, x]; end end
+> 9
+= fires 0, sends 1 2 9 9 5 6, waits, 0 left
+# Another item of the same list, and items that are exchanged in one.
+actor Swap() uint(size=8) In ==> uint(size=8) Out :
+  List(type: List(type: uint(size=8), size=2), size=2) m := [[1, 2], [3, 4]];
+  action In:[i] ==> Out:[m[0][0], m[0][1], m[1][0], m[1][1]]
+  do m[i] := m[1 - i]; m[0] := [m[0][1], m[0][0]]; end end
+> 1
+= fires 0, sends 2 1 1 2, waits, 0 left
+# From a name, a generator, a choice and a list that is filled apart.
+actor Ways() uint(size=8) In ==> uint(size=8) Out :
+  List(type: List(type: uint(size=8), size=2), size=4) m;
+  action In:[x] ==> Out:[m[0][1], m[1][1], m[2][1], m[3][1]] var List(type: int(size=8), size=2) v := [x, x + 1]
+  do m[0] := v; m[1] := [x * k : for int k in 2 .. 3]; m[2] := if x > 5 then v else m[0] end;
+    m[3] := [[1, 2], [3, x]][x / 7]; end end
+> 7 1
+= fires 0 0, sends 8 21 8 7 2 3 2 2, waits, 0 left
+# At any depth, with indexes in indexes.
+actor Deep() uint(size=8) In ==> uint(size=8) Out :
+  List(type: List(type: List(type: uint(size=8), size=2), size=2), size=2) c;
+  action In:[i, j, x] ==> Out:[c[1][0][1], c[1][1][0], c[1][1][1]]
+  do c[[1, 0][i]] := [[x, x + 1], [x + 2, x + 3]]; c[1][c[1][0][j] - x] := [9, x]; end end
+> 0 1 5
+= fires 0, sends 6 9 5, waits, 0 left
+# The places come first, then the value, and then the tests.
+actor Order() uint(size=8) In ==> uint(size=8) Out :
+  List(type: List(type: uint(size=8), size=2), size=3) m;
+  action In:[i, x] ==> Out:[m[2][0]] do m[9 / i] := [6 / x, 0]; end end
+> 4 2 3 0
+= fires 0, sends 3, traps in 0 by DivideByZero, 2 left
+# The tests go from left to right, and no number is stored before them.
+actor Left() uint(size=8) In ==> uint(size=8) Out :
+  List(type: List(type: List(type: uint(size=8), size=1), size=2), size=2) c;
+  action In:[i, j] ==> Out:[c[i][j][0]] do c[i][j] := [i + j + 1]; end end
+> 1 1 1 2
+= fires 0, sends 3, traps in 0 by IndexRange, 2 left
+# In a procedure, and in a loop.
+actor Proc() uint(size=8) In ==> uint(size=8) Out :
+  List(type: List(type: uint(size=8), size=2), size=3) m;
+  procedure put(int i, int x) begin m[i] := [x, i]; end
+  action In:[x] ==> Out:[m[0][0], m[1][1], m[2][0]]
+  do foreach int i in 0 .. 2 do put(i, x + i); end end end
+> 4
+= fires 0, sends 4 1 6, waits, 0 left
+# Tokens are stored in an item.
+actor Take() uint(size=8) In ==> uint(size=8) Out :
+  List(type: List(type: uint(size=8), size=2), size=2) m;
+  action In:[v] repeat 2 ==> Out:[m[1][0], m[1][1], m[0][0]] do m[1] := v; end end
+> 7 8
+= fires 0, sends 7 8 0, waits, 0 left
+# Lists in lists are stored whole, from another one and from the same.
+actor Whole() uint(size=8) In ==> uint(size=8) Out :
+  List(type: List(type: uint(size=4), size=2), size=2) m;
+  List(type: List(type: uint(size=8), size=2), size=2) k := [[1, 2], [3, 20]];
+  action In:[x] ==> Out:[m[0][0], m[0][1], m[1][0], m[1][1]] do k[0] := [x, k[1][0]]; m := k; m := m; end end
+> 17
+= fires 0, sends 1 3 3 4, waits, 0 left";
+
+#[test]
+fn lists_are_stored_in_lists(rt: HostRuntime) -> Result<(), Fail> {
+    hold(&rt, rt.alloc(), STORES)
+}
