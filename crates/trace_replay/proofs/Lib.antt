@@ -1,3 +1,4 @@
+pub mod Ahead
 mod Rows
 pub mod Limits
 pub mod Pulling
