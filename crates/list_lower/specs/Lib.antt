@@ -6,6 +6,7 @@ pub mod CounterView
 pub mod Reserving
 pub mod GoingOn
 pub mod LeftOut
+pub mod NoneLeft
 pub mod FillWords
 pub mod ListStarting
 pub mod Telling

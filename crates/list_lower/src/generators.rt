@@ -1,16 +1,14 @@
 //! Generators of comprehensions as they are written.
 
-ghost use Rattle.std.specs.Prelude.{◌≡◌, map, option_map, pos};
+ghost use Rattle.std.specs.Prelude.{◌≡◌, map, option_map};
 ghost use Rattle.std.specs.Prelude.{None, Some};
-ghost use Rattle.rvc_base.specs.Arithmetic.{whole};
-ghost use Rattle.cal_ast.specs.View.{expr_tree, gen_tree};
+ghost use Rattle.cal_ast.specs.View.{gen_tree};
 ghost use Rattle.list_lower.specs.CounterView.{counter_view, gens_of};
-ghost use Rattle.expr_lower.specs.Generators.{bound_of, counted_by, difference_of, how_many};
-ghost use Rattle.expr_lower.specs.Generators.{number_given, opposite_of, spanned};
+ghost use Rattle.expr_lower.specs.Generators.{counted_by, how_many, made_by, makes_none, ranged_by, spanned};
 
+use crate::bounds::bound_of;
 use crate::types::single_meant;
-use cal_ast::{BinOp, Expr, ExprForm, Gen, PrefixOp};
-use rvc_base::arithmetic::{neg, sub};
+use cal_ast::Gen;
 use rvc_base::{Num, Scalar};
 
 /// The variable of a generator, its type, and the numbers that it is: all from the first to the last.
@@ -22,16 +20,14 @@ pub(crate) struct Counter<'a> {
     pub high: Num,
 }
 
-/// What a generator counts, if its type and its bounds are written out and there is one number at least.
-pub(crate) fn counted_by<'a>(g: &'a Gen) -> Option<Counter<'a>>
-    ensures { option_map counter_view result ≡ counted_by (gen_tree g.entry.now) }
+/// The numbers from the first to the last of a generator, which may be none, if its type and its bounds are written
+/// out.
+fn ranged_by<'a>(g: &'a Gen) -> Option<Counter<'a>>
+    ensures { option_map counter_view result ≡ ranged_by (gen_tree g.entry.now) }
 {
     let kind = single_meant(&g.shape)?;
     let low = bound_of(&g.from)?;
     let high = bound_of(&g.to)?;
-    if high < low {
-        return None;
-    }
     Some(Counter {
         name: g.name.text.as_str(),
         kind,
@@ -40,53 +36,41 @@ pub(crate) fn counted_by<'a>(g: &'a Gen) -> Option<Counter<'a>>
     })
 }
 
-/// The number that a bound is, if it is written by literals and `-` alone.
-fn bound_of(e: &Expr) -> Option<Num>
-    ensures { result ≡ bound_of (expr_tree e.now) }
+/// What a generator counts, if its type and its bounds are written out and there is one number at least.
+pub(crate) fn counted_by<'a>(g: &'a Gen) -> Option<Counter<'a>>
+    ensures { option_map counter_view result ≡ counted_by (gen_tree g.entry.now) }
 {
-    match &e.form {
-        ExprForm::Number(value) => literal(*value),
-        ExprForm::Paren(inner) => bound_of(inner),
-        ExprForm::Prefix { op, of } => opposite(*op, bound_of(of)),
-        ExprForm::Binary { op, left, right } => difference(*op, bound_of(left), bound_of(right)),
-        _ => None,
-    }
-}
-
-/// The number that a literal is.
-fn literal(value: u128) -> Option<Num>
-    ensures { result ≡ number_given (whole (pos value)) }
-{
-    match Num::try_from(value) {
-        Ok(number) => Some(number),
-        Err(_) => None,
-    }
-}
-
-/// The number that a minus sign makes of another one.
-fn opposite(op: PrefixOp, number: Option<Num>) -> Option<Num>
-    ensures { result ≡ opposite_of op number }
-{
-    let number = number?;
-    if op != PrefixOp::Neg {
+    let x = ranged_by(g)?;
+    if x.high < x.low {
         return None;
     }
-    neg(number).ok()
+    Some(x)
 }
 
-/// The difference of two numbers.
-fn difference(op: BinOp, left: Option<Num>, right: Option<Num>) -> Option<Num>
-    ensures { result ≡ difference_of op left right }
+/// Whether a generator counts no number, and those in front of it are written out: then no element is made.
+pub(crate) fn makes_none(gens: &[Gen]) -> bool
+    ensures { result ≡ makes_none (gens_of gens.now) }
 {
-    let left = left?;
-    let right = right?;
-    if op != BinOp::Sub {
-        return None;
+    let Some((first, rest)) = gens.split_first() else {
+        return false;
+    };
+    match ranged_by(first) {
+        Some(x) => x.high < x.low || makes_none(rest),
+        None => false,
     }
-    sub(left, right).ok()
 }
 
-/// How many elements generators make, if 32 bits hold that.
+/// How many elements generators make, if 32 bits hold that: none if one of them counts no number.
+pub(crate) fn made_by(gens: &[Gen]) -> Option<u32>
+    ensures { result ≡ made_by (gens_of gens.now) }
+{
+    if makes_none(gens) {
+        return Some(0);
+    }
+    how_many(gens)
+}
+
+/// How many elements generators make, if 32 bits hold that and each of them counts.
 pub(crate) fn how_many(gens: &[Gen]) -> Option<u32>
     ensures { result ≡ how_many (gens_of gens.now) }
 {

@@ -13,6 +13,7 @@ ghost use Rattle.expr_lower.specs.Names.{Name};
 ghost use Rattle.expr_lower.specs.Placed.{StandsAt};
 ghost use Rattle.list_lower.specs.Filled.{FillsWith};
 ghost use Rattle.list_lower.specs.Filling.{IsFill};
+ghost use Rattle.list_lower.specs.NoneLeft.{NothingLeft};
 
 /// Code of a list, wherever it stands, fills cells with what evaluating the list gives, or traps as that does, after as
 /// many turns; and a run of it has no other end.
@@ -30,4 +31,9 @@ pub fn lists_fit()
         → HasRoutines whole callable limit fs → AreBelow c names → c + scalars_of_type t ≤ n
         → m ≤ limit → StandsAt whole.instrs base code → IsFill fs names e t c base n code m
         → Fits whole callable limit base h code h (base + length code) h }
+{}
+
+/// Nothing is left out of an expression that has a kind and whose sizes and bounds are written out.
+pub fn nothing_is_left_out()
+    ensures { NothingLeft }
 {}

@@ -5,6 +5,7 @@
 #![tactic(auto)]
 
 mod apart;
+mod bounds;
 mod counting;
 mod exprs;
 mod generators;
