@@ -72,6 +72,35 @@ actor Inner() uint(size=8) In ==> uint(size=8) Out :
 > 4 5 2 3
 = fires 0 0 0 0, sends 1 0 1 0, waits, 0 left";
 
+const EMPTY: &str = "
+# An index on a list without items traps, and nothing of its element is evaluated.
+actor Index() uint(size=8) In ==> uint(size=8) Out :
+  action In:[x] ==> Out:[if x < 7 then x else [4 / (x - x) : for int k in 1 .. 0][x] end] end end
+> 3 7
+= fires 0, sends 3, traps in 0 by IndexRange, 1 left
+# The index is evaluated before it is tested.
+actor Order() uint(size=8) In ==> uint(size=8) Out :
+  action In:[x] ==> Out:[if x < 7 then x else [k : for int k in 1 .. 0][4 / (x - 7)] end] end end
+> 3 7
+= fires 0, sends 3, traps in 0 by DivideByZero, 1 left
+# A generator of no number inside another one, and a list of lists without items in front of `and`.
+actor Inner() uint(size=8) In ==> uint(size=8) Out :
+  action In:[x] ==> Out:[if x < 5 then 1 else [j + k : for int j in 1 .. 9, for int k in 1 .. 0][0] end] end
+  action In:[x] ==> Out:[2] guard x > 5 and [[true : for int k in 1 .. 0] : for int j in 1 .. 2][x][0] and x > 1 end end
+> 4 5
+= fires 0, sends 1, traps in 0 by IndexRange, 1 left
+# An item of a list without items that is a list.
+actor Rows() uint(size=8) In ==> uint(size=8) Out :
+  List(type: uint(size=8), size=2) v;
+  action In:[x] ==> Out:[v[1]] do v := if x < 7 then [x, x] else [[k, k] : for int k in 1 .. 0][0] end; end end
+> 3 7
+= fires 0, sends 3, traps in 0 by IndexRange, 1 left";
+
+#[test]
+fn lists_may_have_no_items(rt: HostRuntime) -> Result<(), Fail> {
+    hold(&rt, rt.alloc(), EMPTY)
+}
+
 #[test]
 fn functions_have_lists(rt: HostRuntime) -> Result<(), Fail> {
     hold(&rt, rt.alloc(), FUNCTIONS)

@@ -1,6 +1,6 @@
 -- Which cells names have doesn't matter to what is left out.
 use Rattle.std.proofs.Common.{◌≡◌, ℕ, ◌+◌, ◌-◌, List, [], ◌∷◌, map, Bool, true, false, refl, sym, ap, ◌∙◌, Option, None, Some}
-use Rattle.std.specs.Prelude.{if◌then◌else◌, nat_eq, not, ◌&&◌}
+use Rattle.std.specs.Prelude.{if◌then◌else◌, nat_eq, not, ◌&&◌, ◌||◌}
 use Rattle.std.specs.Str.{bytes_eq}
 use Rattle.rvc_base.specs.declared.scalar.Scalar.{Scalar}
 use Rattle.cal_ast.specs.Tree as tree
@@ -11,8 +11,8 @@ use Rattle.cal_model.specs.Value.{Shape, Single, Many}
 use Rattle.expr_lower.specs.declared.names.ItemList.{ItemList}
 use Rattle.expr_lower.specs.declared.names.Seat.{Seat}
 use Rattle.expr_lower.specs.declared.names.Seat.TheVariants.{Cell, Tokens}
-use Rattle.expr_lower.specs.Generators.{Counted, counted_by, how_many}
-use Rattle.expr_lower.specs.Growing.{first_cell, is_short, left_out_apart, left_out_args, left_out_element, left_out_fill, left_out_fills, left_out_gens, left_out_in, left_out_many, left_out_name, left_out_named, left_out_places, one, unless_none, where_one, ◌or_else◌}
+use Rattle.expr_lower.specs.Generators.{Counted, counted_by, made_by, makes_none}
+use Rattle.expr_lower.specs.Growing.{first_cell, is_short, left_out_apart, left_out_args, left_out_element, left_out_fill, left_out_fills, left_out_gens, left_out_in, left_out_made, left_out_many, left_out_name, left_out_named, left_out_places, one, where_one, ◌or_else◌}
 use Rattle.expr_lower.specs.ItemsSeen.{few, first_seen, items_at, items_listed, items_made, items_seen}
 use Rattle.expr_lower.specs.Listed.{items_in, items_of, list_named, single_of}
 use Rattle.expr_lower.specs.Names.{local, Name, named, shape_named}
@@ -22,7 +22,7 @@ use Rattle.expr_lower.specs.Types.{type_size}
 use Rattle.expr_lower.specs.Callees.{Function, function_for}
 use Rattle.expr_lower.specs.declared.sorts.Sort.{Sort}
 use Rattle.expr_lower.specs.declared.sorts.Sort.TheVariants as sort
-use Rattle.expr_lower.specs.Truths.{all_give, binary_gives, call_gives, gives_at, is_truth, name_gives, prefix_gives, under_gens, with_none, with_one}
+use Rattle.expr_lower.specs.Truths.{all_give, binary_gives, call_gives, gives_at, is_truth, name_gives, prefix_gives, under_gens, under_made, with_none, with_one}
 
 -- a seat without its cell
 abbrev pub erase_seat : Seat → Seat
@@ -149,6 +149,9 @@ under_erased : (names : List Name) (gens : Tree) (f : List Name → Bool) → ((
 under_erased names (tree.cons g gens) f h = under_same names gens f (counted_by g) (λ inner. under_erased inner gens f h)
 under_erased names gens f h = h names
 
+under_made_erased : (names : List Name) (gens : Tree) (f : List Name → Bool) → ((inner : List Name) → f (map erase inner) ≡ f inner) → under_made (map erase names) gens f ≡ under_made names gens f
+under_made_erased names gens f h = ap (λ b. makes_none gens || b) (under_erased names gens f h)
+
 inside_erased : (o : Option ℕ) (f g : ℕ → Bool) → ((k : ℕ) → f k ≡ g k) → ◌≡◌ {A = Bool} (elim o [ None ↦ false | Some k ↦ f k ]) (elim o [ None ↦ false | Some k ↦ g k ])
 inside_erased None f g h = refl
 inside_erased (Some k) f g h = h k
@@ -166,8 +169,8 @@ mutual
   gives_erased s d fs names (tree.call text args at) = with_none_same d (ap (call_gives s (function_for text (number_of args) fs)) (all_erased sort.Any 0 fs names args))
   gives_erased s d fs names (tree.list es at) = with_one_same d (λ k. all_give s k fs (map erase names) es) (λ k. all_give s k fs names es) (λ k. all_erased s k fs names es)
   gives_erased s d fs names (tree.comp item gens at) =
-      with_one_same d (λ k. under_gens (map erase names) gens (λ inner. gives_at s k fs inner item)) (λ k. under_gens names gens (λ inner. gives_at s k fs inner item))
-      (λ k. under_erased names gens (λ inner. gives_at s k fs inner item) (λ inner. gives_erased s k fs inner item))
+      with_one_same d (λ k. under_made (map erase names) gens (λ inner. gives_at s k fs inner item)) (λ k. under_made names gens (λ inner. gives_at s k fs inner item))
+      (λ k. under_made_erased names gens (λ inner. gives_at s k fs inner item) (λ inner. gives_erased s k fs inner item))
   gives_erased s d fs names (tree.index base place at) = inside_erased (few (d + 1)) (λ k. gives_at s k fs (map erase names) base) (λ k. gives_at s k fs names base) (λ k. gives_erased s k fs names base)
   gives_erased s d fs names other = refl
 
@@ -245,10 +248,13 @@ pub gens_erased : (names : List Name) (gens : Tree) (f : List Name → Option �
 gens_erased names (tree.cons g gens) f h = inside_same names gens f (counted_by g) (λ inner. gens_erased inner gens f h)
 gens_erased names gens f h = h names
 
+made_erased : (names : List Name) (gens : Tree) (f : List Name → Option ℕ) → ((inner : List Name) → f (map erase inner) ≡ f inner) → left_out_made (map erase names) gens f ≡ left_out_made names gens f
+made_erased names gens f h = ap (λ (o : Option ℕ). if makes_none gens then None else o) (gens_erased names gens f h)
+
 -- lists that are filled apart
 apart_same : (n : Option ℕ) (t : Shape) (at : ℕ) (f g : Shape → Option ℕ) (x y : Option ℕ) → ((list : Shape) → f list ≡ g list) → x ≡ y → left_out_apart n t at f x ≡ left_out_apart n t at g y
 apart_same None t at f g x y h e = refl
-apart_same (Some n) t at f g x y h e = ap (λ (a : Option ℕ). elim (unless_none (sized (Many n t))) [ None ↦ Some at | Some size ↦ a ]) (both_same (h (Many n t)) e)
+apart_same (Some n) t at f g x y h e = ap (λ (a : Option ℕ). elim (sized (Many n t)) [ None ↦ Some at | Some size ↦ a ]) (both_same (h (Many n t)) e)
 
 abbrev seen_in : ℕ → Option Part → Option ℕ
 seen_in d o = elim o [ None ↦ None | Some p ↦ items_at d p.shape ]
@@ -276,7 +282,7 @@ mutual
   items_erased_seen names (tree.paren e at) d = items_erased_seen names e d
   items_erased_seen names (tree.if_expr test first other at) d = items_erased_seen names first d
   items_erased_seen names (tree.list es at) d = listed_same d (number_of es) (λ k. first_seen (map erase names) es k) (λ k. first_seen names es k) (λ k. first_erased_seen names es k)
-  items_erased_seen names (tree.comp item gens at) d = made_same d (how_many gens) (λ k. items_seen (map erase names) item k) (λ k. items_seen names item k) (λ k. items_erased_seen names item k)
+  items_erased_seen names (tree.comp item gens at) d = made_same d (made_by gens) (λ k. items_seen (map erase names) item k) (λ k. items_seen names item k) (λ k. items_erased_seen names item k)
   items_erased_seen names (tree.index base place at) d = deeper_same (few (d + 1)) (λ k. items_seen (map erase names) base k) (λ k. items_seen names base k) (λ k. items_erased_seen names base k)
   items_erased_seen names rest d = refl
 
@@ -299,9 +305,9 @@ mutual
   fill_erased fs names t (tree.call text args at) = ap (where_one t at) (ap (left_call (function_for text (number_of args) fs) at) (args_erased fs names args))
   fill_erased fs names t (tree.list es at) = many_same t at (Some (number_of es)) (λ items. left_out_fills fs (map erase names) items es) (λ items. left_out_fills fs names items es) (λ items. fills_erased fs names items es)
   fill_erased fs names t (tree.comp item gens at) =
-      many_same t at (how_many gens) (λ items. left_out_gens (map erase names) gens (λ inner. left_out_element items (left_out_fill fs inner one item) (left_out_fill fs inner items item)))
-      (λ items. left_out_gens names gens (λ inner. left_out_element items (left_out_fill fs inner one item) (left_out_fill fs inner items item)))
-      (λ items. gens_erased names gens (λ inner. left_out_element items (left_out_fill fs inner one item) (left_out_fill fs inner items item))
+      many_same t at (made_by gens) (λ items. left_out_made (map erase names) gens (λ inner. left_out_element items (left_out_fill fs inner one item) (left_out_fill fs inner items item)))
+      (λ items. left_out_made names gens (λ inner. left_out_element items (left_out_fill fs inner one item) (left_out_fill fs inner items item)))
+      (λ items. made_erased names gens (λ inner. left_out_element items (left_out_fill fs inner one item) (left_out_fill fs inner items item))
       (λ inner. element_same items (left_out_fill fs (map erase inner) one item) (left_out_fill fs inner one item) (left_out_fill fs (map erase inner) items item) (left_out_fill fs inner items item) (fill_erased fs inner one item) (fill_erased fs inner items item)))
   fill_erased fs names (Single s) (tree.index base place at) =
       let place_same = fill_erased fs names one place in

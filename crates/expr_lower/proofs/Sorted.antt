@@ -19,14 +19,14 @@ use Rattle.expr_lower.specs.declared.sorts.Sort.{Sort}
 use Rattle.expr_lower.specs.declared.sorts.Sort.TheVariants as sort
 use Rattle.expr_lower.specs.Callees.{Function, function_for, function_named}
 use Rattle.expr_lower.specs.Following.{Follows}
-use Rattle.expr_lower.specs.Generators.{Counted, counted_by}
+use Rattle.expr_lower.specs.Generators.{Counted, counted_by, makes_none}
 use Rattle.expr_lower.specs.Held.{Holds, HoldsName}
 use Rattle.expr_lower.specs.ItemsSeen.{few}
 use Rattle.expr_lower.specs.Names.{Name, local, named}
 use Rattle.expr_lower.specs.Parted.{number_of}
-use Rattle.expr_lower.specs.Truths.{all_give, binary_gives, call_gives, gives_at, is_any, is_of_sort, is_truth_binary, name_gives, prefix_gives, shape_gives, under_gens, with_none, with_one}
+use Rattle.expr_lower.specs.Truths.{all_give, binary_gives, call_gives, gives_at, is_any, is_of_sort, is_truth_binary, name_gives, prefix_gives, shape_gives, under_gens, under_made, with_none, with_one}
 use Rattle.expr_lower.proofs.Finding.{is_found}
-use Rattle.expr_lower.proofs.Generated.{IsGenerator, elements_are, generator}
+use Rattle.expr_lower.proofs.Generated.{IsGenerator, elements_are, generator, none_made}
 use Rattle.expr_lower.proofs.MeantIs.{meant_sized}
 use Rattle.expr_lower.proofs.Runs.{follows_more, follows_then}
 use Rattle.expr_lower.proofs.Singles.{AreSingles, IsSingleValue, KindsIn, OnlySingles, and_single, kind_single, or_single, prefix_single, right_single, single_then, whole_single}
@@ -312,6 +312,14 @@ module _ (calls : Calls) (fs : List Function) where
       (λ x v m i known_more. elements_sort s d gens inside item told (local x.text x.kind 0 ∷ names) (with_local (variable x.text (Single x.kind) false v) env) m i known_more kinds)
   elements_sort s d other inside item told names env left h known_names kinds = tt
 
+  made_sort : (s : Sort) (d : ℕ) (gens : Tree) (inside : List Name → Bool) (item : Env → ℕ → Out Value) → Told s d inside item → (names : List Name) (env : Env) (left : ℕ) → under_made names gens inside ≡ true → Knows names env → KindsIn calls env.globals fs
+      → OnlyEach s d (elements gens item calls env left)
+  made_sort s d gens inside item told names env left h known_names kinds = go (makes_none gens) refl h
+    where
+      go : (b : Bool) → makes_none gens ≡ b → b || under_gens names gens inside ≡ true → OnlyEach s d (elements gens item calls env left)
+      go true e i = subst (λ (o : Out Values). OnlyEach s d o) (sym (none_made gens item calls env left e)) tt
+      go false e i = elements_sort s d gens inside item told names env left i known_names kinds
+
   mutual
     pub gives : (s : Sort) (d : ℕ) (e : Tree) (names : List Name) (env : Env) (left : ℕ) → gives_at s d fs names e ≡ true → Knows names env → KindsIn calls env.globals fs → Only s d (eval e calls env left)
     gives s d (tree.number k at) names env left h known_names kinds =
@@ -345,10 +353,10 @@ module _ (calls : Calls) (fs : List Function) where
         (follows_then (eval_all es calls env left) (λ vs m. Gives (Items vs) m) (λ vs m. Each (λ v. AllAt s p.deeper v) vs × (count vs ≡ number_of es)) (λ c. Unit {0}) (λ v m. AllAt s (suc p.deeper) v) (λ c. Unit {0})
         (give s p.deeper es names env left p.gives known_names kinds) (λ vs m q. q.0) (λ c t. tt))
     gives s d (tree.comp item gens at) names env left h known_names kinds =
-        let p : OnePut d (λ k. under_gens names gens (λ inner. gives_at s k fs inner item)) = one_put d (λ k. under_gens names gens (λ inner. gives_at s k fs inner item)) h in
+        let p : OnePut d (λ k. under_made names gens (λ inner. gives_at s k fs inner item)) = one_put d (λ k. under_made names gens (λ inner. gives_at s k fs inner item)) h in
         subst (λ j. Only s j (eval (tree.comp item gens at) calls env left)) (sym p.is)
         (follows_then (elements gens (λ inner k. eval item calls inner k) calls env left) (λ vs m. Gives (Items vs) m) (λ vs m. Each (λ v. AllAt s p.deeper v) vs) (λ c. Unit {0}) (λ v m. AllAt s (suc p.deeper) v) (λ c. Unit {0})
-        (elements_sort s p.deeper gens (λ inner. gives_at s p.deeper fs inner item) (λ inner k. eval item calls inner k) (λ inner now m g known_more more. gives s p.deeper item inner now m g known_more more) names env left p.gives known_names kinds) (λ vs m q. q) (λ c t. tt))
+        (made_sort s p.deeper gens (λ inner. gives_at s p.deeper fs inner item) (λ inner k. eval item calls inner k) (λ inner now m g known_more more. gives s p.deeper item inner now m g known_more more) names env left p.gives known_names kinds) (λ vs m q. q) (λ c t. tt))
     gives s d (tree.index base place at) names env left h known_names kinds =
         index_sort s d (λ k. gives_at s k fs names base) (eval base calls env left) (λ m. eval place calls env m) (few (d + 1)) refl h (λ k g. gives s k base names env left g known_names kinds)
     gives s d other names env left h known_names kinds = cc

@@ -1,6 +1,6 @@
 -- Generators of comprehensions as they are written.
 -- Trusted: part of what a promise means.
-use Rattle.std.specs.Prelude.{◌≡◌, ℕ, ◌*◌, ◌^◌, ℤ, pos, nat_lt, int_lt, if◌then◌else◌, List, Option, None, Some}
+use Rattle.std.specs.Prelude.{◌≡◌, ℕ, ◌*◌, ◌^◌, ℤ, pos, Bool, true, false, ◌||◌, nat_lt, int_lt, if◌then◌else◌, List, Option, None, Some}
 use Rattle.rvc_base.specs.declared.scalar.Scalar.{Scalar}
 use Rattle.rvc_base.specs.Arithmetic.{Computed, Gives, Traps, neg, sub, whole}
 use Rattle.cal_ast.specs.declared.expr.PrefixOp.{PrefixOp}
@@ -40,17 +40,32 @@ pub record Counted : Type 0 where
   pub low : ℤ
   pub high : ℤ
 
--- .. if there is one number at least
-abbrev pub counted : List ℕ → Option Scalar → Option ℤ → Option ℤ → Option Counted
-counted text (Some t) (Some low) (Some high) = if int_lt high low then None
-    else Some (record { text = text; kind = t; low = low; high = high })
-counted text t low high = None
+abbrev pub ranged : List ℕ → Option Scalar → Option ℤ → Option ℤ → Option Counted
+ranged text (Some t) (Some low) (Some high) =
+    Some (record { text = text; kind = t; low = low; high = high })
+ranged text t low high = None
 
--- what a generator counts, if its type and its bounds are written out
+-- the numbers from the first to the last of a generator, which may be none, if its type and its bounds are written out
+abbrev pub ranged_by : Tree → Option Counted
+ranged_by (tree.gen shape (tree.ident text place) from to at) =
+    ranged text (single_meant shape) (bound_of from) (bound_of to)
+ranged_by other = None
+
+-- .. if there is one number at least
+abbrev pub some_counted : Option Counted → Option Counted
+some_counted None = None
+some_counted (Some x) = if int_lt x.high x.low then None else Some x
+
+-- what a generator counts, if that is written out and there is one number at least
 abbrev pub counted_by : Tree → Option Counted
-counted_by (tree.gen shape (tree.ident text place) from to at) =
-    counted text (single_meant shape) (bound_of from) (bound_of to)
-counted_by other = None
+counted_by g = some_counted (ranged_by g)
+
+-- A generator counts no number, and those in front of it are written out. Those behind it aren't looked at, since
+-- nothing of them is evaluated.
+abbrev pub makes_none : Tree → Bool
+makes_none (tree.cons g gens) = elim (ranged_by g)
+    [ None ↦ false | Some x ↦ int_lt x.high x.low || makes_none gens ]
+makes_none other = false
 
 -- how many numbers there are from the first to the last, if 32 bits hold that
 abbrev pub spanned : ℤ → ℤ → Option ℕ
@@ -66,6 +81,10 @@ how_many tree.nil = Some 1
 how_many (tree.cons g gens) = elim (counted_by g)
     [ None ↦ None | Some x ↦ times (spanned x.low x.high) (how_many gens) ]
 how_many other = None
+
+-- .. or none, if one of them counts no number
+abbrev pub made_by : Tree → Option ℕ
+made_by gens = if makes_none gens then Some 0 else how_many gens
 
 -- each of these generators counts
 abbrev pub AllCount : Tree → Type 0

@@ -16,7 +16,7 @@ use Rattle.expr_lower.specs.declared.draft.Draft.{Draft}
 use Rattle.expr_lower.specs.declared.fault.LowerFault.{LowerFault}
 use Rattle.expr_lower.specs.declared.fault.LowerFault.TheVariants.{Memory, TooLong, TooManyCells, NotLowered}
 use Rattle.expr_lower.specs.Callees.{Function, function_for}
-use Rattle.expr_lower.specs.Generators.{counted_by, how_many}
+use Rattle.expr_lower.specs.Generators.{counted_by, made_by, makes_none}
 use Rattle.expr_lower.specs.ItemsSeen.{items_seen}
 use Rattle.expr_lower.specs.Names.{Name, local, named}
 use Rattle.expr_lower.specs.Listed.{list_named}
@@ -82,17 +82,16 @@ left_out_gens names (tree.cons g gens) inside = elim (counted_by g) [
 ]
 left_out_gens names other inside = inside names
 
--- a number that isn't 0
-abbrev pub unless_none : Option ℕ → Option ℕ
-unless_none None = None
-unless_none (Some n) = if nat_eq n 0 then None else Some n
+-- .. if it is evaluated at all
+abbrev pub left_out_made : List Name → Tree → (List Name → Option ℕ) → Option ℕ
+left_out_made names gens inside = if makes_none gens then None else left_out_gens names gens inside
 
 -- what is left out of an item of a list that is filled apart: of the list, which is seen to have so many items, each of a
 -- type, and then of the place
 abbrev pub left_out_apart : Option ℕ → Shape → ℕ → (Shape → Option ℕ) → Option ℕ → Option ℕ
 left_out_apart None t at list place = Some at
 left_out_apart (Some n) t at list place =
-    elim (unless_none (sized (Many n t))) [ None ↦ Some at | Some size ↦ list (Many n t) or_else place ]
+    elim (sized (Many n t)) [ None ↦ Some at | Some size ↦ list (Many n t) or_else place ]
 
 abbrev mutual
   -- The place of the first part of an expression for which no code is made, if it is to be of this type but for the sizes
@@ -100,7 +99,7 @@ abbrev mutual
   -- arguments, a list, a name that isn't that of a single value, an index on what isn't seen to be a list, or an `and` or
   -- `or` whose left side isn't seen to be a truth value. Of a list it is a number, an operation, a call, a name, a part or
   -- a list with another number of items, a part of a list of tokens, or a comprehension whose generators aren't written
-  -- out. Which cells names have doesn't matter here.
+  -- out. Nothing is left out of the elements of one that makes none. Which cells names have doesn't matter here.
   pub left_out_fill : List Function → List Name → Shape → Tree → Option ℕ
   left_out_fill fs names t (tree.number k at) = where_one t at None
   left_out_fill fs names t (tree.truth b at) = where_one t at None
@@ -117,8 +116,8 @@ abbrev mutual
       [ None ↦ Some at | Some f ↦ left_out_args fs names args ])
   left_out_fill fs names t (tree.list es at) =
       left_out_many t at (Some (number_of es)) (λ items. left_out_fills fs names items es)
-  left_out_fill fs names t (tree.comp item gens at) = left_out_many t at (how_many gens)
-      (λ items. left_out_gens names gens
+  left_out_fill fs names t (tree.comp item gens at) = left_out_many t at (made_by gens)
+      (λ items. left_out_made names gens
       (λ inner. left_out_element items (left_out_fill fs inner one item) (left_out_fill fs inner items item)))
   left_out_fill fs names t (tree.index base place at) = elim t [
     | Single s ↦ elim (list_named names base) [

@@ -4,7 +4,7 @@ use Rattle.std.specs.Prelude.{ℕ, ◌+◌, ◌-◌, ◌^◌, nat_eq, nat_lt, if
 use Rattle.cal_ast.specs.Tree as tree
 use Rattle.cal_ast.specs.Tree.{Tree}
 use Rattle.cal_model.specs.Value.{Shape, Single, Many}
-use Rattle.expr_lower.specs.Generators.{how_many}
+use Rattle.expr_lower.specs.Generators.{made_by}
 use Rattle.expr_lower.specs.Names.{Name}
 use Rattle.expr_lower.specs.Parted.{number_of, part_named}
 
@@ -36,7 +36,7 @@ abbrev mutual
   items_seen names (tree.list es at) d =
       items_listed d (number_of es) (λ k. first_seen names es k)
   items_seen names (tree.comp item gens at) d =
-      items_made d (how_many gens) (λ k. items_seen names item k)
+      items_made d (made_by gens) (λ k. items_seen names item k)
   items_seen names (tree.index base place at) d =
       elim (few (d + 1)) [ None ↦ None | Some k ↦ items_seen names base k ]
   items_seen names other d = None

@@ -13,7 +13,7 @@ use Rattle.cal_model.specs.Value.{Shape, Single, Many}
 use Rattle.expr_lower.specs.declared.sorts.Sort.{Sort}
 use Rattle.expr_lower.specs.declared.sorts.Sort.TheVariants as sort
 use Rattle.expr_lower.specs.Callees.{Function, function_for}
-use Rattle.expr_lower.specs.Generators.{counted_by}
+use Rattle.expr_lower.specs.Generators.{counted_by, makes_none}
 use Rattle.expr_lower.specs.ItemsSeen.{few}
 use Rattle.expr_lower.specs.Names.{Name, local, shape_named}
 use Rattle.expr_lower.specs.Parted.{number_of}
@@ -86,6 +86,10 @@ under_gens names (tree.cons g gens) inside = elim (counted_by g) [
 ]
 under_gens names other inside = inside names
 
+-- .. if it is evaluated at all
+abbrev pub under_made : List Name → Tree → (List Name → Bool) → Bool
+under_made names gens inside = makes_none gens || under_gens names gens inside
+
 -- ---- expressions
 
 abbrev mutual
@@ -105,7 +109,7 @@ abbrev mutual
       with_none d (call_gives s (function_for text (number_of args) fs) (all_give sort.Any 0 fs names args))
   gives_at s d fs names (tree.list es at) = with_one d (λ k. all_give s k fs names es)
   gives_at s d fs names (tree.comp item gens at) =
-      with_one d (λ k. under_gens names gens (λ inner. gives_at s k fs inner item))
+      with_one d (λ k. under_made names gens (λ inner. gives_at s k fs inner item))
   gives_at s d fs names (tree.index base place at) =
       elim (few (d + 1)) [ None ↦ false | Some k ↦ gives_at s k fs names base ]
   gives_at s d fs names other = false

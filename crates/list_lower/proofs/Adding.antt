@@ -1,6 +1,7 @@
 -- Code of lists that was added to a draft, part by part.
 use Rattle.std.proofs.Common.{◌≡◌, ℕ, ◌+◌, ◌*◌, ◌<◌, List, [], ◌∷◌, ◌++◌, length, map, true, refl, sym, ap, ◌∙◌, subst, Option, None, Some, arith, append_assoc, append-nil, length-append}
 use Rattle.std.specs.Prelude.{◌^◌, pos}
+use Rattle.std.proofs.lemmas.Bool.Decides.{nat_tests}
 use Rattle.std.proofs.lemmas.List.{length-map}
 use Rattle.rvc_base.specs.declared.scalar.Scalar.{Scalar}
 use Rattle.rvc_base.specs.Width.{is_num}
@@ -23,10 +24,10 @@ use Rattle.expr_lower.proofs.Adding.{put_adds, same_adds, then_adds, then_put}
 use Rattle.expr_lower.proofs.PartValues.{IsWhole, sized_is, sized_list, whole_found}
 use Rattle.expr_lower.proofs.Rowed.{small_num}
 use Rattle.list_lower.specs.declared.lists.Target.{Target}
-use Rattle.list_lower.specs.FillWords.{AddsIn}
+use Rattle.list_lower.specs.FillWords.{AddsIn, has_no_items}
 use Rattle.list_lower.specs.Filling as filling
 use Rattle.list_lower.specs.Filling.{AreElements, AreFills, IsFill, alike, at_first, either_list, each_number, filled_more, item_more, list_element, next_number, no_item, one_element, part_list, take_instr, whole_list}
-use Rattle.expr_lower.specs.Generators.{AllCount, Counted, counted_by, how_many, spanned, times}
+use Rattle.expr_lower.specs.Generators.{AllCount, Counted, counted_by, how_many, makes_none, spanned, times}
 use Rattle.list_lower.specs.GoingOn.{GoesOn}
 use Rattle.list_lower.specs.LeftOut.{first_cell}
 use Rattle.list_lower.specs.Reserving.{HasMore}
@@ -166,6 +167,18 @@ module _ (fs : List Function) (names : List Name) where
         routines = n.put.routines ∙ a.routines;
         has = subst (λ m. AreElements fs (tree.cons g gens) item t to.cell to.all to.filled to.turn names k (a.code ++ last) m) (sym n.put.cells)
             (each_number g gens item t x to.cell to.all to.filled to.turn n.out names k mid.cells a.code e a.has far);
+      }
+
+  -- a comprehension that makes no element, where a list without items is meant
+  pub nothing_adds : (item gens : Tree) (t : Shape) (at c : ℕ) (d : Draft) → makes_none gens ≡ true → has_no_items t ≡ true → Adds (IsFill fs names (tree.comp item gens at) t c) d d
+  nothing_adds item gens (Single s) at c d e h = cc
+  nothing_adds item gens (Many n items) at c d e h =
+      let same : 0 ≡ n = grind (arith, nat_tests, h) in
+      record {
+        code = [];
+        is = sym (append-nil d.instrs.items);
+        routines = refl;
+        has = subst (λ k. IsFill fs names (tree.comp item gens at) (Many k items) c (length d.instrs.items) d.cells [] d.cells) same (filling.no_elements names item gens items at c (length d.instrs.items) d.cells e);
       }
 
   pub comp_adds : (item gens : Tree) (t : Shape) (at many gens_count : ℕ) (to : Target) (old d0 d1 d2 new : Draft) → how_many gens ≡ Some many → sized (Many many t) ≡ Some to.all → HasMore gens_count old d0 to.filled → IsPut (op.Zero to.filled 1 ∷ []) d0 d1 → IsPut (at_first (to.filled + 1) gens) d1 d2 → to.turn ≡ length d2.instrs.items

@@ -16,7 +16,6 @@ use Rattle.expr_lower.specs.Callees.{Function}
 use Rattle.expr_lower.specs.Calling.{Prepared, Serves}
 use Rattle.expr_lower.specs.Coding.{IsCode, IsOtherCode, in_another_way}
 use Rattle.expr_lower.specs.Following.{CutsOff, Follows, MayUse, Pushes}
-use Rattle.expr_lower.specs.Growing.{unless_none}
 use Rattle.expr_lower.specs.Held.{AreBelow}
 use Rattle.expr_lower.specs.Lowered.{Adds, IsPut}
 use Rattle.expr_lower.specs.Names.{Name}
@@ -31,26 +30,29 @@ use Rattle.expr_lower.proofs.PartValues.{sized_is, sized_list}
 use Rattle.expr_lower.proofs.Runs.{follows_more, stands_left, stands_right}
 use Rattle.expr_lower.proofs.Singles.{IsSingleValue}
 use Rattle.list_lower.specs.Filling.{IsFill, apart_list}
-use Rattle.list_lower.specs.Reserving.{HasMore}
+use Rattle.list_lower.specs.Reserving.{HasMore, one_at_least}
 use Rattle.list_lower.proofs.ApartForms.{does_apart}
 use Rattle.list_lower.proofs.Filled.{fills_in, grows_fill}
 use Rattle.list_lower.proofs.Fitted.{fits_fill}
 use Rattle.list_lower.proofs.Forms.{Ready}
 use Rattle.list_lower.proofs.Unaimed.{fill_unaimed}
 
-module _ (fs : List Function) (names : List Name) (e place : Tree) (t : Scalar) (many at base n k m : ℕ) (a b : List Instr) (some : 0 < many) (filled : IsFill fs names e (Many many (Single t)) n base (n + many) a k) (coded : IsCode fs names place (base + length a) k b m) where
+module _ (fs : List Function) (names : List Name) (e place : Tree) (t : Scalar) (many room at base n k m : ℕ) (a b : List Instr) (enough : many ≤ room) (some : 0 < room) (filled : IsFill fs names e (Many many (Single t)) n base (n + room) a k) (coded : IsCode fs names place (base + length a) k b m) where
   abbrev code : List Instr
   code = a ++ (b ++ op.LoadAt n many ∷ [])
 
+  wider : n + room ≤ k
+  wider = grows_fill filled
+
   wide : n + many ≤ k
-  wide = grows_fill filled
+  wide = omega (arith, wider, enough)
 
   ge : k ≤ m
   ge = grows coded
 
   module _ (below : AreBelow n names) (w : World) (globals : List Name) (env : Env) (cells : List _) (left : ℕ) (stands : StandsAt w.code.instrs base code) (serves : Serves w globals fs) (p : Prepared w globals names fs n cells env) (usable : MayUse w n m cells) where
     less : n < m
-    less = omega (arith, wide, ge, some)
+    less = omega (arith, wider, ge, some)
 
     ready : (frames : List ℕ) → Ready fs globals w serves frames names env n m cells
     ready frames = record {
@@ -64,7 +66,7 @@ module _ (fs : List Function) (names : List Name) (e place : Tree) (t : Scalar) 
     item_goes : (stack : List _) (frames : List ℕ)
         → Follows (eval (tree.index e place at) w.calls env left) (λ v j. Pushes w n m (state base stack frames cells left) (base + length code) v j × IsSingleValue v) (λ d. CutsOff w n m (state base stack frames cells left) d × Unit {0})
     item_goes stack frames =
-        does_apart fs globals w serves frames names e place t many at base n k m a b wide ge (fills_in fs globals w serves frames filled (omega arith)) coded env stack cells left stands (ready frames)
+        does_apart fs globals w serves frames names e place t many at base n k m a b wide ge (fills_in fs globals w serves frames filled (omega (arith, enough))) coded env stack cells left stands (ready frames)
 
     item_pushes : (stack : List _) (frames : List ℕ) → Follows (eval (tree.index e place at) w.calls env left) (Pushes w n m (state base stack frames cells left) (base + length code)) (CutsOff w n m (state base stack frames cells left))
     item_pushes stack frames =
@@ -87,16 +89,33 @@ module _ (fs : List Function) (names : List Name) (e place : Tree) (t : Scalar) 
     fits = λ whole callable limit h has below le stands.
         let i : Instr = op.LoadAt n many in
         let rest = stands_right whole.instrs base a (b ++ i ∷ []) stands in
-        plain_then whole callable limit base h h (h + 1) a (b ++ i ∷ []) (fits_fill whole callable limit fs has h below (omega arith) (omega (arith, ge, le)) (stands_left whole.instrs base a (b ++ i ∷ []) stands) filled)
+        plain_then whole callable limit base h h (h + 1) a (b ++ i ∷ []) (fits_fill whole callable limit fs has h below (omega (arith, enough)) (omega (arith, ge, le)) (stands_left whole.instrs base a (b ++ i ∷ []) stands) filled)
         (plain_then whole callable limit (base + length a) h (h + 1) (h + 1) b (i ∷ []) (fits_in whole callable limit fs has names h (below_more n k names (omega (arith, wide)) below) le (stands_left whole.instrs (base + length a) b (i ∷ []) rest) coded)
         (fits_one whole callable limit (base + length a + length b) (h + 1) (h + 1) i (omega arith) (omega arith) refl (omega (arith, wide, ge, le)) tt tt tt));
     aims = λ out. join_unaimed out a (b ++ op.LoadAt n many ∷ []) (fill_unaimed out filled) (join_unaimed out b (op.LoadAt n many ∷ []) (unaimed out coded) refl);
   }
 
+least_some : (n : ℕ) → 0 < one_at_least n
+least_some zero = omega arith
+least_some (suc k) =
+    let differ : nat_eq (suc k) 0 ≡ false = grind (arith, nat_tests) in
+    let same : suc k ≡ one_at_least (suc k) = sym (ap (λ b. if b then 1 else suc k) differ) in
+    omega (arith, same)
+
+least_more : (n : ℕ) → n ≤ one_at_least n
+least_more zero = omega arith
+least_more (suc k) =
+    let differ : nat_eq (suc k) 0 ≡ false = grind (arith, nat_tests) in
+    let same : suc k ≡ one_at_least (suc k) = sym (ap (λ b. if b then 1 else suc k) differ) in
+    omega (arith, same)
+
 -- .. that was added to a draft
-pub item_adds : (fs : List Function) (names : List Name) (e place : Tree) (t : Scalar) (many size first at : ℕ) (old d0 d1 d2 new : Draft) → sized (Many many (Single t)) ≡ Some size → 0 < size → HasMore size old d0 first
+pub item_adds : (fs : List Function) (names : List Name) (e place : Tree) (t : Scalar) (many size first at : ℕ) (old d0 d1 d2 new : Draft) → sized (Many many (Single t)) ≡ Some size → HasMore (one_at_least size) old d0 first
     → Adds (IsFill fs names e (Many many (Single t)) first) d0 d1 → Adds (IsCode fs names place) d1 d2 → IsPut (op.LoadAt first size ∷ []) d2 new → Adds (IsCode fs names (tree.index e place at)) old new
-item_adds fs names e place t many size first at old d0 d1 d2 new is some more f g p =
+item_adds fs names e place t many size first at old d0 d1 d2 new is more f g p =
+    let room : ℕ = one_at_least size in
+    let some : 0 < room = least_some size in
+    let least : size ≤ room = least_more size in
     let wide : many * 1 ≡ size = sized_is (Many many (Single t)) size is in
     let same : many ≡ size = omega (arith, wide) in
     let base : ℕ = length old.instrs.items in
@@ -104,14 +123,14 @@ item_adds fs names e place t many size first at old d0 d1 d2 new is some more f 
     let start : length d0.instrs.items ≡ base = ap length more.instrs in
     let l1 = length_join d0.instrs.items d1.instrs.items f.code f.is in
     let place_is : length d1.instrs.items ≡ base + length f.code = omega (arith, l1, start) in
-    let up : d0.cells ≡ n + many = omega (arith, more.cells, same) in
-    let filled : IsFill fs names e (Many many (Single t)) n base (n + many) f.code d1.cells =
-    subst (λ c. IsFill fs names e (Many many (Single t)) c base (n + many) f.code d1.cells) more.is
-    (subst (λ q. IsFill fs names e (Many many (Single t)) first q (n + many) f.code d1.cells) start
+    let up : d0.cells ≡ n + room = omega (arith, more.cells) in
+    let filled : IsFill fs names e (Many many (Single t)) n base (n + room) f.code d1.cells =
+    subst (λ c. IsFill fs names e (Many many (Single t)) c base (n + room) f.code d1.cells) more.is
+    (subst (λ q. IsFill fs names e (Many many (Single t)) first q (n + room) f.code d1.cells) start
     (subst (λ c. IsFill fs names e (Many many (Single t)) first (length d0.instrs.items) c f.code d1.cells) up f.has)) in
     let coded : IsCode fs names place (base + length f.code) d1.cells g.code d2.cells = subst (λ q. IsCode fs names place q d1.cells g.code d2.cells) place_is g.has in
     let code : List Instr = f.code ++ (g.code ++ op.LoadAt n many ∷ []) in
-    let made : IsCode fs names (tree.index e place at) base n code d2.cells = in_another_way (tree.index e place at) base n d2.cells code (item_code fs names e place t many at base n d1.cells d2.cells f.code g.code (omega (arith, some, same)) filled coded) in
+    let made : IsCode fs names (tree.index e place at) base n code d2.cells = in_another_way (tree.index e place at) base n d2.cells code (item_code fs names e place t many room at base n d1.cells d2.cells f.code g.code (omega (arith, least, same)) some filled coded) in
     record {
       code = f.code ++ (g.code ++ op.LoadAt first size ∷ []);
       is = p.is ∙ ap (λ xs. xs ++ op.LoadAt first size ∷ []) (g.is ∙ ap (λ xs. xs ++ g.code) (f.is ∙ ap (λ xs. xs ++ f.code) more.instrs)) ∙ simp append_assoc;
@@ -155,13 +174,3 @@ apart_adds fs names e place t many size each first at c old d0 d1 d2 d3 new is e
           (subst (λ x. IsFill fs names (tree.index e place at) t c base n (f.code ++ op.Const (pos 0) ∷ (g.code ++ op.Index many each ∷ op.CopyFrom c n x each ∷ [])) d3.cells) all
           (subst (λ x. IsFill fs names (tree.index e place at) t c base n (f.code ++ op.Const (pos 0) ∷ (g.code ++ op.Index many x ∷ op.CopyFrom c n (many * scalars_of_type t) x ∷ [])) d3.cells) one made)));
     }
-
--- a number that isn't 0
-pub unless_some : (o : Option ℕ) (n : ℕ) → unless_none o ≡ Some n → (o ≡ Some n) × (0 < n)
-unless_some None n e = cc
-unless_some (Some zero) n e = cc
-unless_some (Some (suc k)) n e =
-    let differ : nat_eq (suc k) 0 ≡ false = grind (arith, nat_tests) in
-    let opened : unless_none (Some (suc k)) ≡ Some (suc k) = ap (λ b. if b then None else Some (suc k)) differ in
-    let same : suc k ≡ n = ap (λ o. elim o [ None ↦ 0 | Some x ↦ x ]) (sym opened ∙ e) in
-    (ap Some same, omega (arith, same))

@@ -30,11 +30,11 @@ use Rattle.expr_lower.proofs.Coded.{grows, grows_offset, grows_test}
 use Rattle.expr_lower.proofs.Keeping.{keeps_join}
 use Rattle.expr_lower.proofs.Runs.{ends_back, follows_then, reaches_join, stands_left, stands_right}
 use Rattle.list_lower.specs.Filled.{EndsFilled, Fills, FillsWith}
-use Rattle.list_lower.specs.Filling.{AreElements, AreFills, IsFill, apart_list, at_first, either_list, elements as comprehension, each_number, in_parens, item_more, items, list_element, no_item, one_cell, one_element, part_list, whole_list, filled_more}
+use Rattle.list_lower.specs.Filling.{AreElements, AreFills, IsFill, apart_list, at_first, either_list, elements as comprehension, each_number, in_parens, item_more, items, list_element, no_elements, no_item, one_cell, one_element, part_list, whole_list, filled_more}
 use Rattle.expr_lower.specs.Generators.{AllCount, how_many}
 use Rattle.list_lower.proofs.Counters.{GoesToFirst, goes_to_first, width}
 use Rattle.list_lower.proofs.Elements.{AtElements, DoesElements, does_list, does_one}
-use Rattle.list_lower.proofs.Forms.{FillsAt, FillsEach, Ready, fills_either, fills_items, fills_more, fills_name, fills_none, fills_one, ready_still}
+use Rattle.list_lower.proofs.Forms.{FillsAt, FillsEach, Ready, fills_either, fills_items, fills_more, fills_name, fills_none, fills_nothing, fills_one, ready_still}
 use Rattle.list_lower.proofs.PartForms.{fills_part}
 use Rattle.list_lower.proofs.ApartLists.{fills_apart}
 use Rattle.expr_lower.proofs.Generated.{IsMany, many_found}
@@ -59,6 +59,7 @@ mutual
   grows_fill (items names es t at c base n m code h) = grows_fills h
   grows_fill (either_list names test first other t at c base n k h m else_at end a b d x y z e f) = let p = grows_test x in let q = grows_fill y in let r = grows_fill z in omega (arith, p, q, r)
   grows_fill (comprehension names item gens t at c base n m many turn code e f g h) = let w = (grows_elements h).wide in omega (arith, w)
+  grows_fill (no_elements names item gens t at c base n e) = omega arith
 
   pub grows_fills : {fs : List Function} {names : List Name} {es : Tree} {t : Shape} {c base n m : ℕ} {code : List Instr} → AreFills fs names es t c base n code m → n ≤ m
   grows_fills (no_item names t c base n) = omega arith
@@ -142,6 +143,7 @@ module _ (fs : List Function) (globals : List Name) (w : World) (serves : Serves
         fills_either fs globals w serves frames names test first other t at c base n k h m else_at end a b d (omega (arith, le)) p q r e f x (fills_in y (omega (arith, le, p))) (fills_in z (omega (arith, le, p, q)))
     fills_in (comprehension names item gens t at c base n m many turn code e small f h) le =
         does_elements names item gens t at c base n m many turn code le small f (grows_elements h) (does_all h le small (omega arith) many e)
+    fills_in (no_elements names item gens t at c base n e) le = fills_nothing fs globals w serves frames names item gens t at c base n e
 
     pub fills_each : {names : List Name} {es : Tree} {t : Shape} {c base n m : ℕ} {code : List Instr} → AreFills fs names es t c base n code m → c + number_of es * scalars_of_type t ≤ n → FillsEach fs globals w serves frames names es t c base code m
     fills_each (no_item names t c base n) le = fills_none fs globals w serves frames names t c base n

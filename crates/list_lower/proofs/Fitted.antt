@@ -23,7 +23,7 @@ use Rattle.expr_lower.proofs.Fitted.{Plain, branch, fits_branch, fits_const, fit
 use Rattle.expr_lower.proofs.Keeping.{below_more}
 use Rattle.expr_lower.proofs.Routined.{front_below}
 use Rattle.expr_lower.proofs.Runs.{stands_left, stands_right}
-use Rattle.list_lower.specs.Filling.{apart_list, apart_tail, AreElements, AreFills, IsFill, at_first, either_list, elements as comprehension, each_number, filled_more, in_parens, item_more, items, list_element, next_number, no_item, one_cell, one_element, part_list, set_number, take_instr, whole_list}
+use Rattle.list_lower.specs.Filling.{apart_list, apart_tail, AreElements, AreFills, IsFill, at_first, either_list, elements as comprehension, each_number, filled_more, in_parens, item_more, items, list_element, next_number, no_elements, no_item, one_cell, one_element, part_list, set_number, take_instr, whole_list}
 use Rattle.expr_lower.specs.Generators.{AllCount, Counted}
 use Rattle.list_lower.proofs.Counters.{width}
 use Rattle.list_lower.proofs.Filled.{AreCounted, grows_elements, grows_fill, grows_fills}
@@ -173,6 +173,7 @@ module _ (code : Code) (callable limit : ℕ) where
           before base h h h (op.Zero n 1) (head ++ instrs) (fits_one code callable limit base h h (op.Zero n 1) (omega arith) (omega arith) refl (omega (arith, wide, le)) tt tt tt)
           (plain_then code callable limit (base + 1) h h h head instrs (fits_first (base + 1) h (n + 1) gens r.count (omega (arith, wide, le)))
           (at_place turn_at (base + 1 + length head) h instrs f rest (λ st. fits_elements h (below_more c (n + 1) names up below) (omega (arith, room)) (omega arith) le st g)))
+      fits_fill h below room le stands (no_elements names item gens t at c base n e) = fits_none code callable limit base h
 
       pub fits_fills : {names : List Name} {es : Tree} {t : Shape} {c base n m : ℕ} {instrs : List Instr} (h : ℕ) → AreBelow c names → c + number_of es * scalars_of_type t ≤ n → m ≤ limit → StandsAt code.instrs base instrs → AreFills fs names es t c base n instrs m → Whole base h instrs h
       fits_fills h below room le stands (no_item names t c base n) = fits_none code callable limit base h

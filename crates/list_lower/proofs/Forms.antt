@@ -4,10 +4,10 @@ use Rattle.std.specs.Prelude.{slice_get, slice_set}
 use Rattle.rvc_base.specs.declared.scalar.Scalar.{Scalar}
 use Rattle.cal_ast.specs.Tree as tree
 use Rattle.cal_ast.specs.Tree.{Tree}
-use Rattle.cal_model.specs.Value.{Shape, Single, Many, Value, Num, Truth, Items, Values, Cons, count, scalars_of_type}
+use Rattle.cal_model.specs.Value.{Shape, Single, Many, Value, Num, Truth, Items, Values, Nil, Cons, count, scalars_of_type}
 use Rattle.cal_model.specs.Outcome.{Out, Gives, and_then, known}
 use Rattle.cal_model.specs.Env.{Env}
-use Rattle.cal_model.specs.Expression.{eval, eval_all, chosen}
+use Rattle.cal_model.specs.Expression.{elements, eval, eval_all, chosen}
 use Rattle.code_ir.specs.declared.instr.Instr.{Instr}
 use Rattle.code_ir.specs.declared.instr.Instr.TheVariants as op
 use Rattle.code_ir.specs.Running.{State, Reaches, here, after}
@@ -18,12 +18,14 @@ use Rattle.expr_lower.specs.Calling.{HasRoom, Serves, outside}
 use Rattle.expr_lower.specs.Coding.{IsCode, IsTest}
 use Rattle.expr_lower.specs.Flat.{flat, flat_all}
 use Rattle.expr_lower.specs.Following.{Chooses, CutsOff, Follows, Pushes}
+use Rattle.expr_lower.specs.Generators.{makes_none}
 use Rattle.expr_lower.specs.Held.{AllApart, AreApart, AreBelow, Holds, HoldsName, Keeps, SeatIsBelow, StandAt}
 use Rattle.expr_lower.specs.Names.{Name, named}
 use Rattle.expr_lower.specs.Parted.{number_of}
 use Rattle.expr_lower.specs.Placed.{StandsAt, World, state}
 use Rattle.expr_lower.proofs.Coded.{does_in, tests_in}
 use Rattle.expr_lower.proofs.Doing.{Apart, Below, Held, choice_reaches, still}
+use Rattle.expr_lower.proofs.Generated.{none_made}
 use Rattle.expr_lower.proofs.GivenKinds.{kinds_in}
 use Rattle.expr_lower.proofs.Keeping.{apart_first, apart_last, below_more, keeps_join, keeps_wider}
 use Rattle.expr_lower.proofs.Runs.{follows_both, follows_more, follows_then, obeys, reaches_join, stands_left, stands_right}
@@ -180,6 +182,21 @@ module _ (fs : List Function) (globals : List Name) (w : World) (serves : Serves
         as_many = refl;
         stands = λ j z e. cc;
       }
+
+  -- a comprehension that makes no element
+  pub fills_nothing : (names : List Name) (item gens : Tree) (t : Shape) (at c base n : ℕ) → makes_none gens ≡ true → FillsAt names (tree.comp item gens at) (Many 0 t) c base [] n
+  fills_nothing names item gens t at c base n none env stack cells left stands r =
+      let s : State = state base stack frames cells left in
+      let end : base ≡ base + 0 = omega arith in
+      let given : eval (tree.comp item gens at) w.calls env left ≡ Gives (Items Nil) left = ap (λ (o : Out Values). and_then o (λ vs m. Gives (Items vs) m)) (none_made gens (λ inner k. eval item w.calls inner k) w.calls env left none) in
+      subst (λ (o : Out Value). Follows o (Fills w c n c (Many 0 t) s (base + 0)) (CutsOff w c n s)) (sym given)
+      (record {
+        cells = cells;
+        reaches = subst (λ p. Reaches w.code w.tokens s (state p stack frames cells left)) end here;
+        keeps = record { size = refl; cell = λ d free apart. refl };
+        shaped = (refl, tt);
+        stands = λ j z e. cc;
+      })
 
   pub fills_more : (names : List Name) (e es : Tree) (t : Shape) (c base n k m : ℕ) (a b : List Instr) → c + scalars_of_type t ≤ n → n ≤ k → k ≤ m
       → FillsAt names e t c base a k → FillsEach names es t (c + scalars_of_type t) (base + length a) b m → FillsEach names (tree.cons e es) t c base (a ++ b) m

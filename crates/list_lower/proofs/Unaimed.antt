@@ -13,7 +13,7 @@ use Rattle.expr_lower.specs.Coding.{aimed}
 use Rattle.expr_lower.specs.Generators.{Counted, counted_by}
 use Rattle.expr_lower.specs.Names.{Name}
 use Rattle.expr_lower.proofs.Aimed.{cons_unaimed, join_unaimed, unaimed, unaimed_offset, unaimed_test}
-use Rattle.list_lower.specs.Filling.{AreElements, AreFills, IsFill, apart_list, apart_tail, at_first, either_list, elements as comprehension, each_number, filled_more, in_parens, item_more, items, list_element, next_number, no_item, one_cell, one_element, part_list, set_number, take_instr, whole_list}
+use Rattle.list_lower.specs.Filling.{AreElements, AreFills, IsFill, apart_list, apart_tail, at_first, either_list, elements as comprehension, each_number, filled_more, in_parens, item_more, items, list_element, next_number, no_elements, no_item, one_cell, one_element, part_list, set_number, take_instr, whole_list}
 
 take_unaimed : (out c size : ℕ) (seat : Seat) → aimed out (take_instr c size seat) ≡ take_instr c size seat
 take_unaimed out c size (Cell s) = refl
@@ -51,6 +51,7 @@ mutual
       join_unaimed out a (b ++ op.Jump end ∷ d) (unaimed_test out x) (join_unaimed out b (op.Jump end ∷ d) (fill_unaimed out y) (cons_unaimed out (op.Jump end) d refl (fill_unaimed out z)))
   fill_unaimed out (comprehension names item gens t at c base n m many turn code e small f h) =
       cons_unaimed out (op.Zero n 1) (at_first (n + 1) gens ++ code) refl (join_unaimed out (at_first (n + 1) gens) code (first_unaimed out (n + 1) gens) (elements_unaimed out h))
+  fill_unaimed out (no_elements names item gens t at c base n e) = refl
 
   fills_unaimed : {fs : List Function} (out : ℕ) {names : List Name} {es : Tree} {t : Shape} {c base n m : ℕ} {code : List Instr} → AreFills fs names es t c base n code m → map (aimed out) code ≡ code
   fills_unaimed out (no_item names t c base n) = refl

@@ -1,12 +1,12 @@
 -- The words of the contracts of calls that fill cells.
 -- Trusted: part of what a promise means.
-use Rattle.std.specs.Prelude.{◌≡◌, ℕ, ◌+◌, ◌*◌, ◌≤◌, List, ◌∷◌, ◌++◌, length, Option, None, Some}
+use Rattle.std.specs.Prelude.{◌≡◌, ℕ, ◌+◌, ◌*◌, ◌≤◌, Bool, false, nat_eq, List, ◌∷◌, ◌++◌, length, Option, None, Some}
 use Rattle.cal_ast.specs.Tree as tree
 use Rattle.cal_ast.specs.Tree.{Tree}
 use Rattle.cal_ast.specs.View.{expr_tree}
 use Rattle.cal_ast.specs.declared.expr.Expr.{Expr}
 use Rattle.cal_ast.specs.declared.expr.Gen.{Gen}
-use Rattle.cal_model.specs.Value.{Shape}
+use Rattle.cal_model.specs.Value.{Shape, Single, Many}
 use Rattle.code_ir.specs.Code.{Code}
 use Rattle.code_ir.specs.declared.instr.Instr.{Instr}
 use Rattle.expr_lower.specs.declared.callees.Callee.{Callee}
@@ -28,8 +28,8 @@ use Rattle.list_lower.specs.declared.lists.Target.{Target}
 use Rattle.list_lower.specs.CounterView.{gens_of}
 use Rattle.list_lower.specs.Filled.{FillsWith}
 use Rattle.list_lower.specs.Filling.{AreElements, AreFills, IsFill}
-use Rattle.expr_lower.specs.Generators.{Counted}
-use Rattle.list_lower.specs.LeftOut.{left_out_element, left_out_fill, left_out_fills, left_out_gens}
+use Rattle.expr_lower.specs.Generators.{Counted, how_many}
+use Rattle.list_lower.specs.LeftOut.{left_out_element, left_out_fill, left_out_fills, left_out_gens, left_out_many}
 
 -- 32 bits hold how many numbers a type has, and cells from c on are there for them
 abbrev pub HasCells : Shape → ℕ → Draft → Type 0
@@ -102,6 +102,16 @@ left_out_elements scope gens t item =
 abbrev pub left_out_inside : Scope → Counted → ℕ → List Gen → Shape → Expr → Option ℕ
 left_out_inside scope x c gens t item = left_out_gens (local x.text x.kind c ∷ seen scope) (gens_of gens)
     (λ inner. left_out_item scope inner t item)
+
+-- .. and of a comprehension that makes some
+abbrev pub left_out_some : Scope → Shape → List Gen → Expr → ℕ → Option ℕ
+left_out_some scope t gens item at =
+    left_out_many t at (how_many (gens_of gens)) (λ items. left_out_elements scope gens items item)
+
+-- a list without items is meant
+abbrev pub has_no_items : Shape → Bool
+has_no_items (Single t) = false
+has_no_items (Many n items) = nat_eq n 0
 
 abbrev pub comp_of : Expr → List Gen → ℕ → Tree
 comp_of item gens at = tree.comp (expr_tree item) (gens_of gens) at

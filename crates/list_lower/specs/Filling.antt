@@ -16,7 +16,7 @@ use Rattle.expr_lower.specs.Coding.{IsCode, IsOffset, IsTest}
 use Rattle.expr_lower.specs.Names.{Name, named, local}
 use Rattle.expr_lower.specs.Parted.{Part, number_of, part_named}
 pub use Rattle.expr_lower.specs.Parted.{alike}
-use Rattle.expr_lower.specs.Generators.{Counted, counted_by, how_many}
+use Rattle.expr_lower.specs.Generators.{Counted, counted_by, how_many, makes_none}
 
 -- the instruction that copies the numbers of a seat
 abbrev pub take_instr : ℕ → ℕ → Seat → Instr
@@ -99,6 +99,11 @@ mutual
         → AreElements fs gens item t c (many * scalars_of_type t) n turn names (n + 1) code m
         → IsFill fs names (tree.comp item gens at) (Many many t) c base n
         (op.Zero n 1 ∷ (at_first (n + 1) gens ++ code)) m
+
+    -- no elements: nothing is evaluated, and no turn is taken
+    no_elements : (names : List Name) (item gens : Tree) (t : Shape) (at c base n : ℕ)
+        → makes_none gens ≡ true
+        → IsFill fs names (tree.comp item gens at) (Many 0 t) c base n [] n
 
   -- code of items, one after the other
   pub data AreFills (fs : List Function) :

@@ -7,7 +7,7 @@ use Rattle.cal_model.specs.Value.{Shape}
 use Rattle.expr_lower.specs.Callees.{Function}
 use Rattle.expr_lower.specs.Growing.{◌or_else◌, first_cell, left_out_apart, left_out_in, left_out_places, where_one}
 use Rattle.expr_lower.specs.ItemsSeen.{items_seen}
-pub use Rattle.expr_lower.specs.Growing.{first_cell, left_out_element, left_out_fill, left_out_fills, left_out_gens, left_out_many, left_out_whole}
+pub use Rattle.expr_lower.specs.Growing.{first_cell, left_out_element, left_out_fill, left_out_fills, left_out_gens, left_out_made, left_out_many, left_out_whole}
 use Rattle.expr_lower.specs.Names.{Name}
 use Rattle.expr_lower.specs.Parted.{alike, part_named}
 

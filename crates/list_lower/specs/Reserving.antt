@@ -1,7 +1,11 @@
 -- What taking cells makes of a draft.
 -- Not trusted: no promise is read with it.
-use Rattle.std.specs.Prelude.{◌≡◌, ◌<◌, ◌^◌, ℕ, ◌+◌}
+use Rattle.std.specs.Prelude.{◌≡◌, ◌<◌, ◌^◌, ℕ, ◌+◌, nat_eq, if◌then◌else◌}
 use Rattle.expr_lower.specs.declared.draft.Draft.{Draft}
+
+-- a number, or 1 in place of 0
+abbrev pub one_at_least : ℕ → ℕ
+one_at_least n = if nat_eq n 0 then 1 else n
 
 -- so many cells were added, and nothing else changed
 pub record HasMore (count : ℕ) (old new : Draft) (c : ℕ) : Type 0 where

@@ -6,17 +6,16 @@ ghost use Rattle.cal_ast.specs.View.{expr_tree};
 ghost use Rattle.cal_model.specs.Value.{Many};
 ghost use Rattle.cal_model.specs.View.{shape_view};
 ghost use Rattle.expr_lower.specs.declared.fault.LowerFault.TheVariants.{Memory};
-ghost use Rattle.expr_lower.specs.Growing.{one, unless_none};
+ghost use Rattle.expr_lower.specs.Growing.{one};
 ghost use Rattle.expr_lower.specs.ItemsSeen.{few, first_seen, items_at, items_seen};
-ghost use Rattle.expr_lower.specs.Parted.{sized};
 ghost use Rattle.expr_lower.specs.PartView.{places_of};
 ghost use Rattle.expr_lower.specs.Seen.{seen};
 ghost use Rattle.list_lower.specs.FillWords.{comp_of, list_of};
 
-use crate::generators::how_many;
+use crate::generators::made_by;
 use cal_ast::{Expr, ExprForm, Gen};
 use cal_model::Shape;
-use expr_lower::{LowerFault, Scope, scalars, whole_called};
+use expr_lower::{LowerFault, Scope, whole_called};
 use rvc_base::Scalar;
 use std::alloc::{AllocError, Global};
 
@@ -56,14 +55,6 @@ fn copy_shape(alloc: Global, t: &Shape) -> Result<Shape, AllocError>
             Ok(Shape::List(*size, Box::new(alloc, items)?))
         }
     }
-}
-
-/// How many numbers a type has, if there are some and 32 bits hold this number and that of each part of it.
-pub(crate) fn some_scalars(t: &Shape) -> Option<u32>
-    ensures { result ≡ unless_none (sized (shape_view t.now)) }
-{
-    let size = scalars(t)?;
-    if size == 0 { None } else { Some(size) }
 }
 
 /// A type of single values. Which one it is doesn't matter where cells are filled.
@@ -162,7 +153,7 @@ fn items_made(scope: &Scope, item: &Expr, gens: &[Gen], depth: u32) -> Option<u3
     ensures { result ≡ items_seen (seen scope.now) (comp_of item.now gens.now 0) depth }
 {
     if depth == 0 {
-        how_many(gens)
+        made_by(gens)
     } else {
         items_seen(scope, item, depth - 1)
     }

@@ -14,16 +14,16 @@ ghost use Rattle.expr_lower.specs.SeenWords.{Offsets, Opens, first_left_out, lef
 ghost use Rattle.expr_lower.specs.Words.{AddsLowered, AddsLoweredWith, IsFaultOf, IsFaultWith, IsWhole, IsWholeWith};
 ghost use Rattle.expr_lower.specs.Words.{and_of, binary_of, call_of, if_of, index_of, or_of};
 
-use crate::apart::{items_seen, list_type, one_type, some_scalars};
+use crate::apart::{items_seen, list_type, one_type};
 use crate::lists::fill;
-use crate::taking::take_row;
+use crate::taking::{one_at_least, take_row};
 use crate::truths::is_truth;
 use cal_ast::{BinOp, Expr, ExprForm, PrefixOp};
 use code_ir::Instr;
 use expr_lower::{
     Callee, Draft, LowerFault, Named, Scope, binary_instr, deep_item_named, function_for,
     item_instr, link, list_named, negative, next_place, number, prefix_instr, put, put_call,
-    put_const, rows_named, truth, variable, whole_offset,
+    put_const, rows_named, scalars, truth, variable, whole_offset,
 };
 
 /// Appends code that evaluates an expression and pushes its value.
@@ -102,7 +102,8 @@ fn deep_item(
     put(draft, item_instr(list))
 }
 
-/// Appends an item of a list that is filled apart: the list, the place, and the instruction that reads the item.
+/// Appends an item of a list that is filled apart: the list, the place, and the instruction that reads the item. A list
+/// without items takes a cell too, since code that uses none may not ask for any.
 #[cycle(lower)]
 fn apart_item(
     scope: &Scope,
@@ -122,10 +123,10 @@ fn apart_item(
         return Err(LowerFault::NotLowered { at });
     };
     let list = list_type(*draft.instrs.allocator(), count, one_type())?;
-    let Some(size) = some_scalars(&list) else {
+    let Some(size) = scalars(&list) else {
         return Err(LowerFault::NotLowered { at });
     };
-    let first = take_row(size, draft)?;
+    let first = take_row(one_at_least(size), draft)?;
     fill(scope, base, &list, first, draft)?;
     lower(scope, place, draft)?;
     put(draft, Instr::LoadAt(first, size))

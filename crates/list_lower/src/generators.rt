@@ -6,7 +6,7 @@ ghost use Rattle.rvc_base.specs.Arithmetic.{whole};
 ghost use Rattle.cal_ast.specs.View.{expr_tree, gen_tree};
 ghost use Rattle.list_lower.specs.CounterView.{counter_view, gens_of};
 ghost use Rattle.expr_lower.specs.Generators.{bound_of, counted_by, difference_of, how_many};
-ghost use Rattle.expr_lower.specs.Generators.{number_given, opposite_of, spanned};
+ghost use Rattle.expr_lower.specs.Generators.{made_by, makes_none, number_given, opposite_of, ranged_by, spanned};
 
 use crate::types::single_meant;
 use cal_ast::{BinOp, Expr, ExprForm, Gen, PrefixOp};
@@ -22,22 +22,54 @@ pub(crate) struct Counter<'a> {
     pub high: Num,
 }
 
-/// What a generator counts, if its type and its bounds are written out and there is one number at least.
-pub(crate) fn counted_by<'a>(g: &'a Gen) -> Option<Counter<'a>>
-    ensures { option_map counter_view result ≡ counted_by (gen_tree g.entry.now) }
+/// The numbers from the first to the last of a generator, which may be none, if its type and its bounds are written
+/// out.
+fn ranged_by<'a>(g: &'a Gen) -> Option<Counter<'a>>
+    ensures { option_map counter_view result ≡ ranged_by (gen_tree g.entry.now) }
 {
     let kind = single_meant(&g.shape)?;
     let low = bound_of(&g.from)?;
     let high = bound_of(&g.to)?;
-    if high < low {
-        return None;
-    }
     Some(Counter {
         name: g.name.text.as_str(),
         kind,
         low,
         high,
     })
+}
+
+/// What a generator counts, if its type and its bounds are written out and there is one number at least.
+pub(crate) fn counted_by<'a>(g: &'a Gen) -> Option<Counter<'a>>
+    ensures { option_map counter_view result ≡ counted_by (gen_tree g.entry.now) }
+{
+    let x = ranged_by(g)?;
+    if x.high < x.low {
+        return None;
+    }
+    Some(x)
+}
+
+/// Whether a generator counts no number, and those in front of it are written out: then no element is made.
+pub(crate) fn makes_none(gens: &[Gen]) -> bool
+    ensures { result ≡ makes_none (gens_of gens.now) }
+{
+    let Some((first, rest)) = gens.split_first() else {
+        return false;
+    };
+    match ranged_by(first) {
+        Some(x) => x.high < x.low || makes_none(rest),
+        None => false,
+    }
+}
+
+/// How many elements generators make, if 32 bits hold that: none if one of them counts no number.
+pub(crate) fn made_by(gens: &[Gen]) -> Option<u32>
+    ensures { result ≡ made_by (gens_of gens.now) }
+{
+    if makes_none(gens) {
+        return Some(0);
+    }
+    how_many(gens)
 }
 
 /// The number that a bound is, if it is written by literals and `-` alone.
@@ -86,7 +118,7 @@ fn difference(op: BinOp, left: Option<Num>, right: Option<Num>) -> Option<Num>
     sub(left, right).ok()
 }
 
-/// How many elements generators make, if 32 bits hold that.
+/// How many elements generators make, if 32 bits hold that and each of them counts.
 pub(crate) fn how_many(gens: &[Gen]) -> Option<u32>
     ensures { result ≡ how_many (gens_of gens.now) }
 {

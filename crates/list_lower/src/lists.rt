@@ -1,6 +1,6 @@
 //! Lists as code: one small function a form.
 
-ghost use Rattle.std.specs.Prelude.{◌≡◌, ◌∷◌, ◌+◌, ◌*◌, ◌≤◌, ℕ, Some, None, length, IfErr, OnOk};
+ghost use Rattle.std.specs.Prelude.{◌≡◌, ◌∷◌, ◌+◌, ◌*◌, ◌≤◌, ℕ, Some, None, false, length, IfErr, OnOk};
 ghost use Rattle.cal_ast.specs.Tree as tree;
 ghost use Rattle.cal_ast.specs.View.{expr_tree};
 ghost use Rattle.cal_model.specs.Value.{Single, Many};
@@ -17,20 +17,20 @@ ghost use Rattle.expr_lower.specs.SeenWords.{IsAll, IsWhy};
 ghost use Rattle.expr_lower.specs.Words.{if_of, index_of};
 ghost use Rattle.list_lower.specs.CounterView.{counter_view, gens_of};
 ghost use Rattle.list_lower.specs.Filling.{take_instr};
-ghost use Rattle.expr_lower.specs.Generators.{AllCount, how_many};
+ghost use Rattle.expr_lower.specs.Generators.{AllCount, how_many, makes_none};
 ghost use Rattle.list_lower.specs.FillWords.{AddsElements, AddsFilled, AddsInside, AreAllLaid, AreWhyNotLaid};
 ghost use Rattle.list_lower.specs.FillWords.{BeginsAt, HasCells, IsAllLaid, IsSized, IsWhyNotLaid};
 ghost use Rattle.list_lower.specs.FillWords.{IsFaultOfList, IsWholeList};
 ghost use Rattle.list_lower.specs.FillWords.{Lays, LaysAll, comp_of, list_of};
-ghost use Rattle.list_lower.specs.FillWords.{left_out_elements, left_out_inside, left_out_item};
+ghost use Rattle.list_lower.specs.FillWords.{left_out_elements, left_out_inside, left_out_item, left_out_some};
 ghost use Rattle.expr_lower.specs.Growing.{first_cell, left_out_named, left_out_whole};
 ghost use Rattle.list_lower.specs.LeftOut.{left_out_item_apart, left_out_part, left_out_single};
 
-use crate::apart::{items_seen, list_like, some_scalars};
+use crate::apart::{items_seen, list_like};
 use crate::counting::{put_first, put_more, put_next};
 use crate::exprs::{lower, lower_test, offset};
-use crate::generators::{Counter, counted_by, how_many};
-use crate::sizes::alike;
+use crate::generators::{Counter, counted_by, how_many, makes_none};
+use crate::sizes::{alike, has_no_items};
 use crate::taking::{fitting, take_counters, take_row};
 use cal_ast::{Expr, ExprForm, Gen};
 use cal_model::Shape;
@@ -265,7 +265,7 @@ fn apart_list(
         return Err(LowerFault::NotLowered { at });
     };
     let list = list_like(*draft.instrs.allocator(), count, shape)?;
-    let Some(size) = some_scalars(&list) else {
+    let Some(size) = scalars(&list) else {
         return Err(LowerFault::NotLowered { at });
     };
     let Some(each) = scalars(shape) else {
@@ -416,7 +416,7 @@ pub fn fill_all(
     fill_all(scope, rest, shape, each, cell + each, draft)
 }
 
-/// Appends a comprehension, where a list of as many items is meant.
+/// Appends a comprehension, where a list of as many items is meant. One that makes no element needs no code.
 #[cycle(lower)]
 fn comp(
     scope: &Scope,
@@ -434,6 +434,35 @@ fn comp(
         (IsAllLaid scope.now (shape_view shape.now) (comp_of item.now gens.now at)) }
     ensures fault { IfErr result
         (IsWhyNotLaid scope.now (shape_view shape.now) (comp_of item.now gens.now at) draft.new) }
+{
+    if !makes_none(gens) {
+        return some_made(scope, item, gens, shape, cell, at, draft);
+    }
+    if !has_no_items(shape) {
+        return Err(LowerFault::NotLowered { at });
+    }
+    Ok(())
+}
+
+/// Appends a comprehension that makes some elements, where a list of as many items is meant.
+#[cycle(lower)]
+fn some_made(
+    scope: &Scope,
+    item: &Expr,
+    gens: &[Gen],
+    shape: &Shape,
+    cell: u32,
+    at: u32,
+    draft: &mut Draft,
+) -> Result<(), LowerFault>
+    requires some { makes_none (gens_of gens.now) ≡ false }
+    requires cells { HasCells (shape_view shape.now) cell draft.old }
+    ensures ok { OnOk result
+        (Lays scope.now (comp_of item.now gens.now at) (shape_view shape.now) cell draft.old draft.new) }
+    ensures whole { OnOk result
+        (left_out_some scope.now (shape_view shape.now) gens.now item.now at ≡ None) }
+    ensures fault { IfErr result
+        (IsFault (left_out_some scope.now (shape_view shape.now) gens.now item.now at) draft.new) }
 {
     match shape {
         Shape::Scalar(_) => Err(LowerFault::NotLowered { at }),
@@ -664,8 +693,7 @@ fn list_element(
 ///
 /// `NotLowered` if the expression has a part for which no code is made, with the offset of the first one (`fault`):
 /// beside those of single values an index that is to give a list of a named list of tokens, a call that is to give one, a
-/// name, an item or a list with another number of items, or a comprehension whose generators aren't written out or make
-/// none. `TooLong` if the draft has 2 to the power of 32 instructions, `TooManyCells` if it has as
+/// name, an item or a list with another number of items, or a comprehension whose generators aren't written out. `TooLong` if the draft has 2 to the power of 32 instructions, `TooManyCells` if it has as
 /// many cells. `Memory` if memory runs out.
 pub fn lower_list(
     names: &[Named],

@@ -3,6 +3,7 @@
 ghost use Rattle.std.specs.Prelude.{◌≡◌};
 ghost use Rattle.cal_model.specs.View.{shape_view};
 ghost use Rattle.list_lower.specs.Filling.{alike};
+ghost use Rattle.list_lower.specs.FillWords.{has_no_items};
 
 use cal_model::Shape;
 
@@ -19,5 +20,15 @@ pub fn alike(one: &Shape, other: &Shape) -> bool
             Shape::Scalar(_) => false,
             Shape::List(many, others) => *count == *many && alike(items, others),
         },
+    }
+}
+
+/// Whether a type is that of lists without items.
+pub(crate) fn has_no_items(t: &Shape) -> bool
+    ensures { result ≡ has_no_items (shape_view t.now) }
+{
+    match t {
+        Shape::Scalar(_) => false,
+        Shape::List(count, _) => *count == 0,
     }
 }

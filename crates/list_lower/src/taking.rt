@@ -2,7 +2,7 @@
 
 ghost use Rattle.std.specs.Prelude.{◌≡◌, ◌+◌, ◌*◌, ◌<◌, ◌^◌, ◌≤◌, IfErr, IfOk, IfSome};
 ghost use Rattle.expr_lower.specs.declared.fault.LowerFault.TheVariants.{TooManyCells};
-ghost use Rattle.list_lower.specs.Reserving.{HasMore};
+ghost use Rattle.list_lower.specs.Reserving.{HasMore, one_at_least};
 
 use expr_lower::{Draft, LowerFault};
 
@@ -24,6 +24,13 @@ pub(crate) fn take_row(count: u32, draft: &mut Draft) -> Result<u32, LowerFault>
     };
     draft.cells = after;
     Ok(first)
+}
+
+/// A number, or 1 in place of 0.
+pub(crate) fn one_at_least(count: u32) -> u32
+    ensures { result ≡ one_at_least count }
+{
+    if count == 0 { 1 } else { count }
 }
 
 /// Takes a cell for what is filled, and two for each of so many generators. If there aren't so many left, all are

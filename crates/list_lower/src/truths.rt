@@ -16,7 +16,7 @@ ghost use Rattle.list_lower.specs.CounterView.{counter_view, gens_of};
 ghost use Rattle.list_lower.specs.FillWords.{comp_of, list_of};
 ghost use Rattle.list_lower.specs.Telling.{both_single, behind_counter, of_elements};
 
-use crate::generators::{Counter, counted_by};
+use crate::generators::{Counter, counted_by, makes_none};
 use cal_ast::{BinOp, Expr, ExprForm, Gen, PrefixOp};
 use cal_model::Shape;
 use expr_lower::{Frame, Scope, Sort, function_for, shape_called};
@@ -189,7 +189,7 @@ fn comp_gives(scope: &Scope, item: &Expr, gens: &[Gen], depth: u32, sort: Sort) 
     if depth == 0 {
         false
     } else {
-        under_gens(scope, item, gens, depth - 1, sort)
+        makes_none(gens) || under_gens(scope, item, gens, depth - 1, sort)
     }
 }
 

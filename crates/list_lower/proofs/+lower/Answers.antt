@@ -27,17 +27,18 @@ use Rattle.expr_lower.specs.Growing.{IsFault, left_out_in}
 use Rattle.expr_lower.specs.Parted.{number_of, sized}
 use Rattle.list_lower.specs.declared.lists.Target.{Target}
 use Rattle.list_lower.specs.CounterView.{counter_view, gens_of}
-use Rattle.list_lower.specs.FillWords.{BeginsAt, left_out_elements}
+use Rattle.list_lower.specs.FillWords.{BeginsAt, left_out_elements, left_out_some}
+use Rattle.list_lower.specs.Reserving.{HasMore}
 use Rattle.list_lower.specs.Filling.{AreFills, IsFill, in_parens, one_cell}
 use Rattle.expr_lower.specs.Generators.{how_many}
 use Rattle.list_lower.specs.LeftOut.{left_out_element, left_out_fill, left_out_fills, left_out_gens, left_out_many}
-use Rattle.list_lower.proofs.Adding.{all_count, choice_adds, comp_adds, each_adds, items_add, list_element_adds, more_add, none_add, one_many, one_adds, part_adds}
-use Rattle.list_lower.proofs.Erased.{each_left, index_left, many_left, many_not}
+use Rattle.list_lower.proofs.Adding.{all_count, choice_adds, comp_adds, each_adds, items_add, list_element_adds, more_add, none_add, nothing_adds, one_many, one_adds, part_adds}
+use Rattle.list_lower.proofs.Erased.{each_left, index_left, many_left, many_not, none_left, not_none_left, some_left}
 use Rattle.list_lower.proofs.Weights.{weight}
 use Rattle.expr_lower.proofs.Coded.{grows_test}
 use Rattle.list_lower.proofs.Filled.{grows_fill}
 use Rattle.rvc_base.specs.declared.scalar.Scalar.TheVariants as scalar
-use Rattle.list_lower.proofs.ApartItems.{apart_adds, item_adds, unless_some}
+use Rattle.list_lower.proofs.ApartItems.{apart_adds, item_adds}
 use Rattle.list_lower.proofs.+lower.Goals as goal
 
 pub exprs::both-returns-clause-ok : goal.exprs::both-returns-clause-ok
@@ -288,8 +289,14 @@ lists::list-returns-in-Some-clause-fault t c =
 
 -- ---- comprehensions
 
-pub lists::comp-returns-in-Some-scalars-clause-fault : goal.lists::comp-returns-in-Some-scalars-clause-fault
-lists::comp-returns-in-Some-scalars-clause-fault t c =
+-- one that makes no element
+pub lists::comp-returns-clause-ok : goal.lists::comp-returns-clause-ok
+lists::comp-returns-clause-ok t c =
+    nothing_adds (called c.args.scope.now) (seen c.args.scope.now) (expr_tree c.args.item.now) (gens_of c.args.gens.now) (shape_view c.args.shape.now) c.args.at c.args.cell c.args.draft.now
+    (sym c.makes_none.ensures ∙ c.if-not-makes_none.false) (sym c.has_no_items.ensures ∙ c.if-not-has_no_items.false)
+
+pub lists::some_made-returns-in-Some-scalars-clause-fault : goal.lists::some_made-returns-in-Some-scalars-clause-fault
+lists::some_made-returns-in-Some-scalars-clause-fault t c =
     let gens : Tree = gens_of c.args.gens.now in
     let f : Shape → Option ℕ = λ items. left_out_elements c.args.scope.now c.args.gens.now items c.args.item.now in
     let shaped : shape_view c.args.shape.now ≡ Many c.in-List.count (shape_view c.deref.result.now) = search (rules, shapes.the_lemmas) in
@@ -419,10 +426,10 @@ pub exprs::apart_item-returns-clause-ok : goal.exprs::apart_item-returns-clause-
 exprs::apart_item-returns-clause-ok t c =
     let n : ℕ = c.in-Some.count in
     let is : shape_view c.in_ok-list.list ≡ Many n (Single scalar.Bool) = c.in_ok-list.ensures.made ∙ ap (λ u. Many n u) c.one_type.ensures in
-    let size = unless_some (sized (shape_view c.in_ok-list.list)) c.in-Some-some_scalars.size (sym c.in-Some-some_scalars.ensures) in
+    let size : sized (shape_view c.in_ok-list.list) ≡ Some c.in-Some-scalars.size = sym c.in-Some-scalars.ensures in
     on_ok_weaker c.put.result
-    (λ p. item_adds (called c.args.scope.now) (seen c.args.scope.now) (expr_tree c.args.base.now) (expr_tree c.args.place.now) scalar.Bool n c.in-Some-some_scalars.size c.in_ok-first.first c.args.at c.args.draft.now c.take_row.new.draft c.fill.new.draft c.lower.new.draft c.put.new.draft
-    (subst (λ u. sized u ≡ Some c.in-Some-some_scalars.size) is size.0) size.1 c.in_ok-first.ensures.taken
+    (λ p. item_adds (called c.args.scope.now) (seen c.args.scope.now) (expr_tree c.args.base.now) (expr_tree c.args.place.now) scalar.Bool n c.in-Some-scalars.size c.in_ok-first.first c.args.at c.args.draft.now c.take_row.new.draft c.fill.new.draft c.lower.new.draft c.put.new.draft
+    (subst (λ u. sized u ≡ Some c.in-Some-scalars.size) is size) (subst (λ n. HasMore n c.args.draft.now c.take_row.new.draft c.in_ok-first.first) c.one_at_least.ensures c.in_ok-first.ensures.taken)
     (subst (λ u. Adds (IsFill (called c.args.scope.now) (seen c.args.scope.now) (expr_tree c.args.base.now) u c.in_ok-first.first) c.take_row.new.draft c.fill.new.draft) is c.in_ok-fill.ensures.ok) c.in_ok-lower.ensures.ok p)
     c.put.ensures.added
 
@@ -431,9 +438,9 @@ lists::apart_list-returns-clause-ok t c =
     let n : ℕ = c.in-Some.count in
     let u : Shape = shape_view c.args.shape.now in
     let is : shape_view c.in_ok-list.list ≡ Many n u = c.in_ok-list.ensures.made in
-    let size = unless_some (sized (shape_view c.in_ok-list.list)) c.in-Some-some_scalars.size (sym c.in-Some-some_scalars.ensures) in
+    let size : sized (shape_view c.in_ok-list.list) ≡ Some c.in-Some-scalars.size = sym c.in-Some-scalars.ensures in
     on_ok_weaker c.put_all.result
-    (λ p. apart_adds (called c.args.scope.now) (seen c.args.scope.now) (expr_tree c.args.base.now) (expr_tree c.args.place.now) u n c.in-Some-some_scalars.size c.in-Some-scalars.each c.in_ok-first.first c.args.at c.args.cell c.args.draft.now c.take_row.new.draft c.fill.new.draft c.put_const.new.draft c.lower.new.draft c.put_all.new.draft
-    (subst (λ y. sized y ≡ Some c.in-Some-some_scalars.size) is size.0) (sym c.in-Some-scalars.ensures) c.in_ok-first.ensures.taken
+    (λ p. apart_adds (called c.args.scope.now) (seen c.args.scope.now) (expr_tree c.args.base.now) (expr_tree c.args.place.now) u n c.in-Some-scalars.size c.in-Some-scalars-2.each c.in_ok-first.first c.args.at c.args.cell c.args.draft.now c.take_row.new.draft c.fill.new.draft c.put_const.new.draft c.lower.new.draft c.put_all.new.draft
+    (subst (λ y. sized y ≡ Some c.in-Some-scalars.size) is size) (sym c.in-Some-scalars-2.ensures) c.in_ok-first.ensures.taken
     (subst (λ y. Adds (IsFill (called c.args.scope.now) (seen c.args.scope.now) (expr_tree c.args.base.now) y c.in_ok-first.first) c.take_row.new.draft c.fill.new.draft) is c.in_ok-fill.ensures.ok) c.in_ok-put_const.ensures.added c.in_ok-lower.ensures.ok p)
     c.put_all.ensures.added
