@@ -99,7 +99,6 @@ mutual
         → AreElements fs gens item t c (many * scalars_of_type t) n turn names (n + 1) code m
         → IsFill fs names (tree.comp item gens at) (Many many t) c base n
         (op.Zero n 1 ∷ (at_first (n + 1) gens ++ code)) m
-
     -- no elements: nothing is evaluated, and no turn is taken
     no_elements : (names : List Name) (item gens : Tree) (t : Shape) (at c base n : ℕ)
         → makes_none gens ≡ true
