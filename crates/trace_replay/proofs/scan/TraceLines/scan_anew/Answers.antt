@@ -7,7 +7,7 @@ use Rattle.trace_replay.specs.declared.bytes.TheConstants.{TRACE_FEED}
 use Rattle.trace_replay.proofs.Limits.{max_is}
 use Rattle.trace_replay.proofs.Pulling.{pulls_then}
 use Rattle.trace_replay.proofs.Scanned.{past_scans, past_within, scanned_bad, scanned_cut, scanned_line, scanning_more}
-use Rattle.trace_replay.proofs.scan.TraceLines.scan.Goals as goal
+use Rattle.trace_replay.proofs.scan.TraceLines.scan_anew.Goals as goal
 
 pub returns-in_default-next-clause-scans : goal.returns-in_default-next-clause-scans
 returns-in_default-next-clause-scans g c =

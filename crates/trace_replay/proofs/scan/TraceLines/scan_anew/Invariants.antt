@@ -5,7 +5,7 @@ use Rattle.trace_text.specs.Text.{line_feed}
 use Rattle.trace_replay.specs.Judging.{max_trace_bytes}
 use Rattle.trace_replay.specs.declared.bytes.TheConstants.{TRACE_FEED}
 use Rattle.trace_replay.proofs.Scanned.{IsScanning}
-use Rattle.trace_replay.proofs.scan.TraceLines.scan.Given as goal
+use Rattle.trace_replay.proofs.scan.TraceLines.scan_anew.Given as goal
 
 abbrev pub invariant-bytes : goal.invariant-bytes
 invariant-bytes g l =
