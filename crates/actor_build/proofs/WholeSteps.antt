@@ -26,9 +26,10 @@ use Rattle.member_check.specs.Parts.{action_views, members_tree}
 use Rattle.stmt_check.specs.Judging.{Refuses}
 use Rattle.stmt_check.proofs.Checked.{refuses_later, refuses_on}
 use Rattle.action_build.specs.Building.{BuildsActions}
-use Rattle.actor_build.specs.Building.{AreFine, ArePartsOf, BreaksMembers, FindsActions, HasActions, IsCycle, IsFineOrder, acts_broken, around_bare, members_broken, order_broken, whole_view}
+use Rattle.actor_build.specs.Building.{AreFine, ArePartsOf, BreaksMembers, FindsActions, HasActions, IsCycle, IsFineOrder, IsMembersFault, acts_broken, around_bare, members_broken, order_broken, whole_view}
 use Rattle.actor_build.specs.declared.ordering.ActorOrder.{ActorOrder}
 use Rattle.actor_build.specs.declared.whole.BareActor.{BareActor}
+use Rattle.actor_build.proofs.PastLacks.{order_fault}
 
 map_pairs : (xs : List (ℕ × ℕ)) → map (λ p. (p.0, p.1)) xs ≡ xs
 map_pairs [] = refl
@@ -99,10 +100,11 @@ actions_break f members around actor at h = inl (refuses_on f (acts_broken membe
 
 pub order_breaks : (f : KindFault) (acts : List BoundAction) (members : Tree) (around : Around) (actor : Actor) (at : ℕ) → AreFine acts members around at
     → ((x : Actor) → HasActions x (action_views acts) members → Refuses f (order_broken members x at) ⊎ IsCycle f members x)
-    → HasActions actor (actions_of (actions_in members) around) members → BreaksMembers f members around actor at
+    → HasActions actor (actions_of (actions_in members) around) members → IsMembersFault f members around actor at
 order_breaks f acts members around actor at actions h has =
-    ⊎_elim (λ l. inl (refuses_later f (acts_broken members around at) (order_broken members actor at) l)) (λ r. inr r)
-    (h actor (record { actions = has.actions ∙ sym actions.is; states = has.states }))
+    let found = h actor (record { actions = has.actions ∙ sym actions.is; states = has.states }) in
+    order_fault f members around actor at
+    (⊎_elim (λ l. inl (refuses_later f (acts_broken members around at) (order_broken members actor at) l)) (λ r. inr r) found) found
 
 -- ---- the actor that a source is
 
