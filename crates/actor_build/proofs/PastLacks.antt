@@ -1,7 +1,9 @@
 -- Rules that members break besides that something isn't constant.
 use Rattle.std.proofs.Common.{◌≡◌, ◌≤◌, ◌⊎◌, inl, inr, ⊎_elim, ℕ, suc, Bool, true, false, Ok, Err, Result, List, [], ◌∷◌, ◌++◌, length, map, refl, sym, ap, subst, ◌∙◌, arith}
 use Rattle.std.specs.Prelude.{Contains, Option, None, Some, if◌then◌else◌, not, nat_le, ◌==◌, ◌&&◌}
-use Rattle.std.proofs.lemmas.List.{length-map}
+use Rattle.std.proofs.lemmas.Bool.Decides.{nat_tests}
+use Rattle.std.proofs.lemmas.List.{append_assoc, length-map, map-append}
+use Rattle.rvc_base.specs.declared.refusal.Rule.{Rule}
 use Rattle.rvc_base.specs.Rules.{ambiguous_transition, not_constant, priority_cycle, too_many_actions, unknown_tag, wrong_initialize}
 use Rattle.cal_ast.specs.Tree as tree
 use Rattle.cal_ast.specs.Tree.{Tree}
@@ -10,9 +12,12 @@ use Rattle.cal_check.proofs.Lists.{at-head, each-append, head-or-rest, in-none, 
 use Rattle.cal_model.specs.Actor.{Action, Actor, Move}
 use Rattle.cal_model.specs.Sound.{Each, max_actions, max_states}
 use Rattle.cal_model.specs.Tags.{moves_of}
+use Rattle.cal_model.specs.View.{action_view}
+use Rattle.cal_model.specs.declared.bound.BoundAction.{BoundAction}
+use Rattle.member_check.specs.Parts.{action_views}
 use Rattle.const_eval.specs.declared.fault.KindFault.{KindFault}
 use Rattle.const_eval.specs.declared.fault.KindFault.TheVariants as fault
-use Rattle.cal_check.specs.Actions.{Around, tag_parts}
+use Rattle.cal_check.specs.Actions.{Around, action_of, tag_parts}
 use Rattle.cal_check.specs.Actors.{actions_broken, actions_in, actions_of, initialized_twice, is_initialize, place_of_action}
 use Rattle.cal_check.specs.Schedules.{chains_broken, moves_broken, pairs_in, priorities_broken, schedule_broken, schedule_in, some_departs, stands_somewhere, tags_broken, transition_of}
 use Rattle.cal_check.specs.Violations.{Violation, said, unless, violation, without_constants}
@@ -130,6 +135,24 @@ pub refuses_from_said : (f : KindFault) (vs : List Violation) → Refuses f (sai
 refuses_from_said (fault.Broken rule at) vs h = from_said vs (record { rule = rule; at = at }) h
 refuses_from_said fault.Memory vs h = tt
 
+-- ---- how many actions there are
+
+behind_none : (vs ws : List Violation) → vs ++ ws ≡ [] → ws ≡ []
+behind_none [] ws h = h
+behind_none (v ∷ vs) ws h = absurd (cc)
+
+unless_none : (b : Bool) (rule : Rule) (at : ℕ) → unless b rule at ≡ [] → b ≡ true
+unless_none true rule at h = refl
+unless_none false rule at h = absurd (cc)
+
+not_more : (a b : ℕ) → nat_le a b ≡ true → a ≤ b
+not_more a b h = grind (arith, nat_tests)
+
+pub few_counted : (members : Tree) (at : ℕ) → counts members at ≡ [] → length (actions_in members) ≤ max_actions
+few_counted members at h =
+    not_more (length (actions_in members)) max_actions (unless_none (nat_le (length (actions_in members)) max_actions) too_many_actions at
+    (behind_none (initialized_twice false (actions_in members)) (unless (nat_le (length (actions_in members)) max_actions) too_many_actions at) h))
+
 -- ---- members
 
 -- counts break a rule
@@ -159,7 +182,7 @@ order_found (Err f) members around actor at e h (inr o) = inr o
 
 -- ---- heads of actions
 
-as_many : (acts : List Tree) (around : Around) → length (actions_of acts around) ≡ length acts
+pub as_many : (acts : List Tree) (around : Around) → length (actions_of acts around) ≡ length acts
 as_many [] around = refl
 as_many (a ∷ acts) around = ap suc (as_many acts around)
 
@@ -188,6 +211,34 @@ heads_break f found members around actor at h has (inr c) = inr (cycle_same f c)
     cycle_same : (f : KindFault) → IsCycle f members (with_heads actor found) → IsCycle f members actor
     cycle_same (fault.Broken rule at) c = (c.0, c.1, (c.2.0, subst (λ ps. IsAbove ps c.2.0 c.2.0) same c.2.1))
     cycle_same fault.Memory c = tt
+
+-- heads of one action more
+pub head_added : (found : List BoundAction) (head : BoundAction) (a : Tree) (acts : List Tree) (around : Around)
+    → heads_of (action_views (head ∷ [])) ≡ heads_of (action_of a around ∷ [])
+    → heads_of (action_views (found ++ (head ∷ []))) ++ heads_of (actions_of acts around) ≡ heads_of (action_views found) ++ heads_of (actions_of (a ∷ acts) around)
+head_added found head a acts around h =
+    ap (λ xs. heads_of xs ++ heads_of (actions_of acts around)) (map-append action_view found (head ∷ []))
+    ∙ ap (λ ys. ys ++ heads_of (actions_of acts around)) (map-append (λ x. (x.tag, x.initialize)) (action_views found) (action_views (head ∷ [])))
+    ∙ append_assoc (heads_of (action_views found)) (heads_of (action_views (head ∷ []))) (heads_of (actions_of acts around))
+    ∙ ap (λ ys. heads_of (action_views found) ++ (ys ++ heads_of (actions_of acts around))) h
+
+-- heads of actions are as many as these
+some_around : Around
+some_around = record { ins = []; outs = []; procs = []; names = record { globals = []; locals = []; funs = [] } }
+
+pub few_heads : (found : List BoundAction) (acts : List Tree) → ((around : Around) → heads_of (action_views found) ≡ heads_of (actions_of acts around)) → length acts ≤ max_actions
+    → length found ≤ max_actions
+few_heads found acts h few =
+    subst (λ n. n ≤ max_actions) (sym (sym (length-map found action_view) ∙ heads_few (action_views found) acts some_around (h some_around))) few
+
+-- what is found of actions with these heads
+pub found_by_heads : (r : Result (Unit {0}) KindFault) (found : List Action) (members : Tree) (around : Around) (actor : Actor) (at : ℕ)
+    → heads_of found ≡ heads_of (actions_of (actions_in members) around) → HasActions actor (actions_of (actions_in members) around) members
+    → ((x : Actor) → HasActions x found members → FindsOrderOf r members x at) → FindsOrderOf r members actor at
+found_by_heads (Ok u) found members around actor at h has k =
+    heads_fine found members around actor at h has (k (with_heads actor found) (record { actions = refl; states = has.states }))
+found_by_heads (Err f) found members around actor at h has k =
+    heads_break f found members around actor at h has (k (with_heads actor found) (record { actions = refl; states = has.states }))
 
 -- ---- what is said of a fault
 

@@ -1,6 +1,6 @@
 //! Rules that the members of an actor break besides that something isn't constant.
 
-ghost use Rattle.std.specs.Prelude.{◌≡◌, ◌≤◌, ◌∷◌, ◌++◌, [], IfOk, OnOk, length};
+ghost use Rattle.std.specs.Prelude.{◌≡◌, ◌≤◌, ◌∷◌, ◌++◌, [], IfOk, List, OnOk, length};
 ghost use Rattle.cal_ast.specs.Tree as tree;
 ghost use Rattle.cal_ast.specs.Tree.{Tree};
 ghost use Rattle.cal_ast.specs.View.{action_tree, member_tree};
@@ -13,8 +13,7 @@ ghost use Rattle.member_check.specs.Parts.{action_views, members_tree};
 ghost use Rattle.action_check.specs.Parts.{HasFewPorts, around_view};
 ghost use Rattle.actor_build.specs.Building.{BreaksMembers, FindsOrderOf, FindsOthers, HasActions, IsMembersFault, around_bare, heads_of};
 
-use crate::ordering::order;
-use crate::whole::{BareActor, as_kind_fault, check_members};
+use crate::whole::{BareActor, check_members, fine_order};
 use action_build::tag_parts;
 use action_check::{ActorParts, check_actions};
 use cal_ast::{Action, Actor, Member};
@@ -50,13 +49,25 @@ fn add_head(found: &mut Vec<BoundAction>, alloc: Global, member: &Member) -> Res
         ++ heads_of (actions_of (actions_in (tree.cons (member_tree member.now) more)) around)) }
 {
     match member {
-        Member::Action(a) => {
-            let head = head_of(alloc, a)?;
-            found.push(head)?;
-            Ok(())
-        }
-        _ => Ok(()),
+        Member::Action(a) => push_head(found, alloc, a),
+        Member::Var(_) => Ok(()),
+        Member::Function(_) => Ok(()),
+        Member::Procedure(_) => Ok(()),
+        Member::Schedule(_) => Ok(()),
+        Member::Priority(_) => Ok(()),
     }
+}
+
+/// Adds what is seen of an action.
+fn push_head(found: &mut Vec<BoundAction>, alloc: Global, a: &Action) -> Result<(), Memory>
+    ensures { OnOk result ((acts : List Tree) (around : Around)
+        → heads_of (action_views found.new.items) ++ heads_of (actions_of acts around)
+        ≡ heads_of (action_views found.old.items)
+        ++ heads_of (actions_of (action_tree a.now ∷ acts) around)) }
+{
+    let head = head_of(alloc, a)?;
+    found.push(head)?;
+    Ok(())
 }
 
 /// What schedules and priorities see of the actions among members.
@@ -73,18 +84,30 @@ fn heads_among(alloc: Global, members: &[Member]) -> Result<Vec<BoundAction>, Me
     Ok(found)
 }
 
-/// That what orders the actions among members breaks no rule; there are few of them. `at` is the offset of the actor.
-fn check_order(alloc: Global, members: &[Member], at: u32) -> Result<(), KindFault>
+/// That what orders the actions among members breaks no rule, if there are few of them. `at` is the offset of the actor.
+fn check_order(names: &Names, members: &[Member], at: u32) -> Result<(), KindFault>
     requires { length (actions_in (members_tree members.now)) ≤ max_actions }
     ensures { (actor : Meaning) (around : Around)
         → HasActions actor (actions_of (actions_in (members_tree members.now)) around) (members_tree members.now)
         → FindsOrderOf result (members_tree members.now) actor at }
 {
-    let heads = heads_among(alloc, members)?;
-    match order(alloc, members, &heads, at) {
-        Ok(_) => Ok(()),
-        Err(f) => Err(as_kind_fault(f)),
-    }
+    let heads = heads_among(names.alloc, members)?;
+    check_heads(names, members, &heads, at)
+}
+
+/// The same, over what is seen of the actions.
+fn check_heads(
+    names: &Names,
+    members: &[Member],
+    heads: &[BoundAction],
+    at: u32,
+) -> Result<(), KindFault>
+    requires { length heads.now ≤ max_actions }
+    ensures { (actor : Meaning) → HasActions actor (action_views heads.now) (members_tree members.now)
+        → FindsOrderOf result (members_tree members.now) actor at }
+{
+    let _order = fine_order(names, members, heads, at)?;
+    Ok(())
 }
 
 /// That the members of an actor of these parts break no rule but that something isn't constant.
@@ -124,7 +147,7 @@ fn others_among(
 {
     check_members(members, at)?;
     check_actions(names, parts, members, true)?;
-    check_order(names.alloc, members, at)
+    check_order(names, members, at)
 }
 
 /// What is said of a fault of the members of an actor of these parts: where it is that something isn't constant, another

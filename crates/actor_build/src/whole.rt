@@ -146,7 +146,7 @@ fn check_counts(members: &[Member], at: u32) -> Result<(), MemberFault>
 }
 
 /// What orders these actions, as it is declared among members; `at` is the offset of the actor.
-fn fine_order(
+pub(crate) fn fine_order(
     names: &Names,
     members: &[Member],
     actions: &[BoundAction],
@@ -180,7 +180,7 @@ fn whole(bare: BareActor, actions: Vec<BoundAction>, order: ActorOrder) -> Bound
 }
 
 /// The same fault, as one of kinds.
-pub(crate) fn as_kind_fault(f: MemberFault) -> KindFault
+fn as_kind_fault(f: MemberFault) -> KindFault
     ensures { result ≡ as_kind_fault f }
 {
     match f {
