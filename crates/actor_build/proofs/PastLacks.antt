@@ -1,10 +1,10 @@
 -- Rules that members break besides that something isn't constant.
-use Rattle.std.proofs.Common.{◌≡◌, ◌≤◌, ◌⊎◌, inl, inr, ⊎_elim, ℕ, suc, Bool, true, false, Ok, Err, Result, List, [], ◌∷◌, ◌++◌, length, map, refl, sym, ap, subst, ◌∙◌, arith}
-use Rattle.std.specs.Prelude.{Contains, Option, None, Some, if◌then◌else◌, not, nat_le, ◌==◌, ◌&&◌}
+use Rattle.std.proofs.Common.{◌≡◌, ◌≤◌, ◌⊎◌, inl, inr, ⊎_elim, ℕ, suc, Bool, true, false, Ok, Err, Result, List, [], ◌∷◌, ◌++◌, length, refl, sym, ap, subst, ◌∙◌, arith}
+use Rattle.std.specs.Prelude.{Contains, Option, Some, if◌then◌else◌, not, nat_le, ◌==◌}
 use Rattle.std.proofs.lemmas.Bool.Decides.{nat_tests}
 use Rattle.std.proofs.lemmas.List.{append_assoc, length-map, map-append}
 use Rattle.rvc_base.specs.declared.refusal.Rule.{Rule}
-use Rattle.rvc_base.specs.Rules.{ambiguous_transition, not_constant, priority_cycle, too_many_actions, unknown_tag, wrong_initialize}
+use Rattle.rvc_base.specs.Rules.{ambiguous_transition, not_constant, too_many_actions, unknown_tag, wrong_initialize}
 use Rattle.cal_ast.specs.Tree as tree
 use Rattle.cal_ast.specs.Tree.{Tree}
 use Rattle.rvc_base.specs.Chain.{IsAbove}
@@ -21,9 +21,9 @@ use Rattle.cal_check.specs.Actions.{Around, action_of, tag_parts}
 use Rattle.cal_check.specs.Actors.{actions_broken, actions_in, actions_of, initialized_twice, is_initialize, place_of_action}
 use Rattle.cal_check.specs.Schedules.{chains_broken, moves_broken, pairs_in, priorities_broken, schedule_broken, schedule_in, some_departs, stands_somewhere, tags_broken, transition_of}
 use Rattle.cal_check.specs.Violations.{Violation, said, unless, violation, without_constants}
-use Rattle.stmt_check.specs.Judging.{Checks, Refuses, is_passed}
+use Rattle.stmt_check.specs.Judging.{Refuses, is_passed}
 use Rattle.stmt_check.proofs.Said.{said_append, said_next, said_on}
-use Rattle.stmt_check.proofs.Checked.{refuses_later, refuses_on}
+use Rattle.stmt_check.proofs.Checked.{refuses_later}
 use Rattle.action_check.proofs.Said.{others_said}
 use Rattle.actor_build.specs.Building.{BreaksMembers, FindsOrderOf, FindsOthers, HasActions, IsCycle, IsMembersFault, acts_broken, heads_of, members_broken, order_broken}
 use Rattle.actor_build.proofs.SameHeads.{order_same, pairs_same}
@@ -70,10 +70,13 @@ ambiguous_other false at = (refl, tt)
 
 moves_other : (ms : Tree) (before : List Move) (actor : Actor) → Each IsOther (moves_broken ms before actor)
 moves_other (tree.cons (tree.move from tags to at) ms) before actor =
-    let moves = moves_of actor (transition_of (tree.move from tags to at)) in
-    each-append IsOther (tags_broken tags actor.actions) _ (tags_other tags actor.actions)
-    (each-append IsOther (unless (not (some_departs moves before)) ambiguous_transition at) _ (ambiguous_other (not (some_departs moves before)) at)
-    (moves_other ms (before ++ moves) actor))
+    let moves = moves_of actor (transition_of (tree.move from tags to at)) in go moves (moves_other ms (before ++ moves) actor)
+  where
+    go : (moves : List Move) → Each IsOther (moves_broken ms (before ++ moves) actor)
+        → Each IsOther (tags_broken tags actor.actions ++ (unless (not (some_departs moves before)) ambiguous_transition at ++ moves_broken ms (before ++ moves) actor))
+    go moves later =
+        each-append IsOther (tags_broken tags actor.actions) _ (tags_other tags actor.actions)
+        (each-append IsOther (unless (not (some_departs moves before)) ambiguous_transition at) _ (ambiguous_other (not (some_departs moves before)) at) later)
 moves_other other before actor = tt
 
 schedule_other : (o : Option Tree) (actor : Actor) → Each IsOther (schedule_broken o actor)

@@ -1,24 +1,28 @@
 -- What schedules and priorities break depends on the tags of actions, and on which are an `initialize`, alone.
-use Rattle.std.proofs.Common.{◌≡◌, ℕ, suc, Bool, List, [], ◌∷◌, ◌++◌, length, map, refl, sym, ap, ◌∙◌}
-use Rattle.std.specs.Prelude.{◌&&◌, ◌||◌, not, nat_le, if◌then◌else◌, Option, Some, None}
+use Rattle.std.proofs.Common.{◌≡◌, ℕ, suc, Bool, List, [], ◌∷◌, ◌++◌, length, refl, ap, ◌∙◌}
+use Rattle.std.specs.Prelude.{◌&&◌, ◌||◌, not, nat_le, if◌then◌else◌, Option, Some}
 use Rattle.rvc_base.specs.Rules.{ambiguous_transition, too_many_actions, unknown_tag}
 use Rattle.cal_ast.specs.Tree as tree
 use Rattle.cal_ast.specs.Tree.{Tree}
 use Rattle.cal_model.specs.Actor.{Action, Actor, Move}
 use Rattle.cal_model.specs.Sound.{max_states}
 use Rattle.cal_model.specs.Tags.{Transition, each_above, is_prefix_tag, may_be_meant, moves_by, moves_by_tags, moves_of, number_of_name, pairs_of, stands_for, stands_from}
-use Rattle.cal_check.specs.Violations.{Violation, unless}
+use Rattle.cal_check.specs.Violations.{unless}
 use Rattle.cal_check.specs.Actions.{tag_parts}
 use Rattle.cal_check.specs.Schedules.{chains_broken, chains_pairs, moves_broken, pairs_in, priorities_broken, schedule_broken, schedule_in, some_departs, stands_somewhere, tags_broken, tags_listed, transition_of}
 use Rattle.actor_build.specs.Building.{heads_of, order_broken}
 
 -- ---- lists of actions with the same heads
 
+same_head : (x y : Action) (xs ys : List Action) → heads_of (x ∷ xs) ≡ heads_of (y ∷ ys)
+    → ◌≡◌ {A = List (List ℕ) × Bool} (x.tag, x.initialize) (y.tag, y.initialize)
+same_head x y xs ys h = cc
+
 same_tag : (x y : Action) (xs ys : List Action) → heads_of (x ∷ xs) ≡ heads_of (y ∷ ys) → x.tag ≡ y.tag
-same_tag x y xs ys h = cc
+same_tag x y xs ys h = ap (λ p. p.0) (same_head x y xs ys h)
 
 same_start : (x y : Action) (xs ys : List Action) → heads_of (x ∷ xs) ≡ heads_of (y ∷ ys) → x.initialize ≡ y.initialize
-same_start x y xs ys h = cc
+same_start x y xs ys h = ap (λ p. p.1) (same_head x y xs ys h)
 
 same_rest : (x y : Action) (xs ys : List Action) → heads_of (x ∷ xs) ≡ heads_of (y ∷ ys) → heads_of xs ≡ heads_of ys
 same_rest x y xs ys h = cc

@@ -1,5 +1,5 @@
 -- The whole actor of its parts.
-use Rattle.std.proofs.Common.{◌≡◌, ◌≤◌, ℕ, suc, Bool, true, false, ◌⊎◌, inl, inr, ⊎_elim, List, [], ◌∷◌, ◌++◌, length, map, refl, sym, ap, subst, string_bytes, ◌∙◌, Ok, Err, Result, arith}
+use Rattle.std.proofs.Common.{◌≡◌, ◌≤◌, ℕ, false, ◌⊎◌, inl, inr, ⊎_elim, List, [], ◌∷◌, ◌++◌, length, map, refl, sym, ap, subst, string_bytes, ◌∙◌, Ok, Err, Result}
 use Rattle.std.proofs.lemmas.List.{length-map}
 use Rattle.std.specs.Prelude.{Vec, nat_le}
 use Rattle.std.specs.declared.alloc.Global.{Global}
@@ -14,7 +14,7 @@ use Rattle.cal_model.specs.Sound.{max_actions}
 use Rattle.cal_model.specs.View.{action_view, fun_view, move_view, proc_view, var_view}
 use Rattle.cal_model.specs.declared.bound.BoundAction.{BoundAction}
 use Rattle.const_eval.specs.declared.fault.KindFault.{KindFault}
-use Rattle.cal_check.specs.Violations.{Violation, all_fine, unless}
+use Rattle.cal_check.specs.Violations.{all_fine, unless}
 use Rattle.cal_check.specs.Variables.{Given, Spot}
 use Rattle.cal_check.specs.Actions.{Around, or_none}
 use Rattle.cal_check.specs.Schedules.{moves_in, pairs_in, schedule_in, states_of}
