@@ -1,10 +1,10 @@
 -- Rules of actions that are said where what isn't constant is passed over.
-use Rattle.std.proofs.Common.{◌≡◌, ◌≤◌, ◌⊎◌, inl, inr, ℕ, suc, Bool, true, false, Ok, Err, Some, None, Option, List, [], ◌∷◌, ◌++◌, length, map, Vec, Global, Result, refl, sym, ap, subst, ◌∙◌, append-nil, arith}
+use Rattle.std.proofs.Common.{◌≡◌, ℕ, suc, Bool, true, false, Ok, Err, Some, None, Option, List, [], ◌∷◌, ◌++◌, length, map, Vec, Global, Result, refl, sym, ap, subst, ◌∙◌}
 use Rattle.std.specs.Prelude.{Contains, if◌then◌else◌, ◌&&◌, ◌==◌, nat_lt}
 use Rattle.rvc_base.specs.Rules.{not_constant, port_named_twice, wrong_initialize}
 use Rattle.rvc_base.specs.declared.refusal.Rule.{Rule}
 use Rattle.cal_ast.specs.Tree.{Tree}
-use Rattle.cal_check.proofs.Lists.{head-or-rest, in-none}
+use Rattle.cal_check.proofs.Lists.{in-none}
 use Rattle.cal_model.specs.Actor.{Pattern as GivenPattern, Port}
 use Rattle.cal_model.specs.Kinding.{Judged, Fine, Broken, Names, and_so}
 use Rattle.cal_model.specs.Sound.{Each}
@@ -12,12 +12,12 @@ use Rattle.cal_model.specs.View.{pattern_view}
 use Rattle.cal_model.specs.declared.bound.BoundPattern.{BoundPattern}
 use Rattle.const_eval.specs.declared.fault.KindFault.{KindFault}
 use Rattle.const_eval.specs.declared.fault.KindFault.TheVariants as fault
-use Rattle.cal_check.specs.Violations.{Keyed, Violation, all_broken, all_fine, and_all, broken, if_fine, is_met, said, twice, unless, violation, without_constants}
-use Rattle.cal_check.specs.Actions.{behind_patterns, guard_allowed, is_without, outputs_broken, outputs_on, patterns_broken, patterns_fine, patterns_if, patterns_on}
+use Rattle.cal_check.specs.Violations.{Keyed, Violation, all_broken, all_fine, and_all, if_fine, is_met, said, twice, unless, violation, without_constants}
+use Rattle.cal_check.specs.Actions.{behind_patterns, guard_allowed, is_without, outputs_broken, outputs_on, patterns_if, patterns_on}
 use Rattle.cal_check.specs.Ports.{Asked, each_asked, keyed_numbers, named_port, number_from, numbers_twice, port_of, ports_asked, ports_from}
 use Rattle.member_check.specs.Asking.{asked_broken}
 use Rattle.stmt_check.specs.Judging.{Checks, Refuses, is_passed}
-use Rattle.stmt_check.proofs.Said.{passed_on, said_behind, said_next, said_none, said_on}
+use Rattle.stmt_check.proofs.Said.{passed_on, said_next, said_none, said_on}
 use Rattle.action_check.specs.Parts.{FindsPatternsSaid, JudgesAllSaid}
 use Rattle.action_check.proofs.Walks.{behind_ports, patterns_are, ports_fine}
 

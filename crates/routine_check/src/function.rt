@@ -75,12 +75,7 @@ pub fn check_function(names: &Names, f: &Function, passes: bool) -> Result<(), K
 }
 
 /// What is inside a function of a head.
-fn inside(
-    names: &Names,
-    head: &FunHead,
-    f: &Function,
-    passes: bool,
-) -> Result<(), KindFault>
+fn inside(names: &Names, head: &FunHead, f: &Function, passes: bool) -> Result<(), KindFault>
     requires { AreSeen head.now.formals names.now }
     ensures { Checks result (said passes
         (fun_inside (function_tree f.now) (names_view names.now) (head_view head.now))) }

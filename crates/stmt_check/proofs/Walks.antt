@@ -75,8 +75,14 @@ pub vars_passed : (passes : Bool) (rest others all : List VarDecl) (v : VarDecl)
 vars_passed passes rest others all v here names outer is (none, (p, (at, h))) before = (
   sym before.0 ∙ ap (λ vs. said passes (starts_broken (listed (map var_tree vs)) here)) is
       ∙ stops passes (var_broken (var_tree v) here) (behind (type_of_var (var_tree v) here) (var_tree v) here) (λ inner. starts_broken (listed (map var_tree others)) inner) at none h,
-  (p, (at, sym before.1 ∙ ap (λ vs. names_behind (listed (map var_tree vs)) here) is
-      ∙ ap (λ o. and_so o (λ inner. names_behind (listed (map var_tree others)) inner)) h)),
+  (
+    p,
+    (
+      at,
+      sym before.1 ∙ ap (λ vs. names_behind (listed (map var_tree vs)) here) is
+          ∙ ap (λ o. and_so o (λ inner. names_behind (listed (map var_tree others)) inner)) h,
+    ),
+  ),
 )
 
 -- the next breaks a rule

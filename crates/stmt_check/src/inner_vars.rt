@@ -105,12 +105,7 @@ fn typed(names: &Names, shape: &TypeExpr, passes: bool) -> Result<Option<Shape>,
 }
 
 /// A start that may be missing.
-fn start(
-    names: &Names,
-    k: &Kind,
-    start: &Option<Expr>,
-    passes: bool,
-) -> Result<(), KindFault>
+fn start(names: &Names, k: &Kind, start: &Option<Expr>, passes: bool) -> Result<(), KindFault>
     ensures { Checks result (said passes
         (start_stored (kind_view k.now) (optional_expr start.now) (names_view names.now))) }
 {

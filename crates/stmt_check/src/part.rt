@@ -78,12 +78,7 @@ pub fn passed(fault: KindFault, passes: bool) -> Result<(), KindFault>
 /// # Errors
 ///
 /// As those of [`stored`].
-pub fn check_stored(
-    names: &Names,
-    k: &Kind,
-    e: &Expr,
-    passes: bool,
-) -> Result<(), KindFault>
+pub fn check_stored(names: &Names, k: &Kind, e: &Expr, passes: bool) -> Result<(), KindFault>
     ensures { Checks result (said passes
         (broken (stored_kind (kind_view k.now) (expr_tree e.now) (names_view names.now)))) }
 {

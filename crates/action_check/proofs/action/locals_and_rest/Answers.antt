@@ -5,7 +5,7 @@ use Rattle.cal_model.specs.Kinding.{Names}
 use Rattle.const_eval.specs.Counting.{names_view}
 use Rattle.cal_check.specs.Actions.{outputs_broken}
 use Rattle.cal_check.specs.Statements.{names_behind, starts_broken, statement_broken}
-use Rattle.cal_check.specs.Violations.{Violation, broken, if_fine, said}
+use Rattle.cal_check.specs.Violations.{Violation, broken, said}
 use Rattle.member_check.specs.Asking.{outputs_tree}
 use Rattle.stmt_check.specs.Judging.{Checks, Refuses}
 use Rattle.stmt_check.proofs.Said.{refuses_if_fine_said}

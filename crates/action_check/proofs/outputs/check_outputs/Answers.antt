@@ -1,4 +1,4 @@
-use Rattle.std.proofs.Common.{Err, sym, subst}
+use Rattle.std.proofs.Common.{sym, subst}
 use Rattle.const_eval.specs.Counting.{names_view}
 use Rattle.cal_check.specs.Actions.{outputs_broken, outputs_on}
 use Rattle.cal_check.specs.Ports.{each_asked}
