@@ -8,35 +8,24 @@ ghost use Rattle.cal_model.specs.View.{proc_view, var_view};
 ghost use Rattle.const_eval.specs.Counting.{names_view};
 ghost use Rattle.seen_names.specs.Known.{fun_decls};
 ghost use Rattle.variable_check.specs.Causes.{IsCause};
-ghost use Rattle.actor_check.specs.Parts.{AreBareParts, AreKept, ArePartsIn, BuildsActor, FindsInside, placed};
+ghost use Rattle.actor_check.specs.Parts.{AreBareParts, AreKept, ArePartsIn, BuildsActor, FindsInside};
 ghost use Rattle.actor_check.specs.Phases.{routines_found};
 ghost use Rattle.actor_check.specs.Sources.{source_in};
 
+use crate::fault::placed;
 use crate::keeping::keep_used;
+use crate::others::sift_inside;
 use crate::routines::{Routines, check_routines};
 use crate::scalars::check_scalars;
-use crate::sifting::{lacks, sift_inside};
+use crate::sifting::lacks;
 use actor_build::{BareActor, actor};
 use cal_imports::Scope;
 use cal_model::{Bound, BoundVar};
-use const_eval::{KindFault, Names};
-use rvc_base::{Front, Memory, Place, Refusal};
+use const_eval::Names;
+use rvc_base::{Front, Memory};
 use seen_names::DeclaredFun;
 use std::alloc::Global;
 use variable_check::Header;
-
-/// A fault in a file.
-pub(crate) fn placed(file: u32, fault: KindFault) -> Front
-    ensures { result ≡ placed file fault }
-{
-    match fault {
-        KindFault::Broken { rule, at } => Front::Refused(Refusal {
-            rule,
-            place: Place { file, offset: at },
-        }),
-        KindFault::Memory => Front::Memory,
-    }
-}
 
 /// The actor of these parts, and of the actions, the schedule and the priorities that are declared in it.
 fn built(names: &Names, bare: BareActor, scope: &Scope) -> Result<Bound, Front>
