@@ -92,16 +92,32 @@ each_there (x ∷ fs) f h c = go (head-or-rest f x fs c) (λ i. each_there fs f 
 pub all_lack : (s : Source) (around : Around) (actor : Actor) → Each IsLack (routines_found s around.procs around.names)
     → Each IsLack (found_in s.file (members_broken (members_of s.actor) around actor (place_of s.actor))) → scalars_found s actor.vars ≡ []
     → Each IsLack (inside_found s around actor)
-all_lack s around actor r m x =
-    each-of IsLack (inside_found s around actor) (λ f h.
-    ⊎_elim (λ i. each_there _ f r i) (λ o. ⊎_elim (λ i. each_there _ f m i) (λ i. absurd (in-none f (subst (λ fs. Contains fs f) x i))) o) (in_inside s around actor f h))
+all_lack s around actor r m x = each-of IsLack (inside_found s around actor) (λ f h. go f (in_inside s around actor f h))
+  where
+    routines : List Found
+    routines = routines_found s around.procs around.names
+
+    members : List Found
+    members = found_in s.file (members_broken (members_of s.actor) around actor (place_of s.actor))
+
+    go : (f : Found) → Contains routines f ⊎ (Contains members f ⊎ Contains (scalars_found s actor.vars) f) → IsLack f
+    go f (inl i) = each_there routines f r i
+    go f (inr (inl i)) = each_there members f m i
+    go f (inr (inr i)) = absurd (in-none f (subst (λ fs. Contains fs f) x i))
 
 scalars_say : (f : Front) (s : Source) (vars : List Held) → IsCause f (scalars_found s vars) → SaysRule f
 scalars_say (front.Refused r) s vars h = go (nat_le (scalars_of vars) max_variable_scalars) h
   where
-    go : (b : Bool) → Contains (found_in s.file (unless b too_many_variables (place_of s.actor))) (record { violation = record { rule = r.rule; at = r.place.offset }; file = r.place.file }) → (r.rule.0 == not_constant.0) ≡ false
-    go true c = absurd (in-none _ c)
-    go false c = ⊎_elim (λ e. ap (λ f. f.violation.rule.0 == not_constant.0) (sym e)) (λ i. absurd (in-none _ i)) (head-or-rest _ _ [] c)
+    refused : Found
+    refused = record { violation = record { rule = r.rule; at = r.place.offset }; file = r.place.file }
+
+    many : Found
+    many = record { violation = record { rule = too_many_variables; at = place_of s.actor }; file = s.file }
+
+    go : (b : Bool) → Contains (found_in s.file (unless b too_many_variables (place_of s.actor))) refused → (r.rule.0 == not_constant.0) ≡ false
+    go true c = absurd (in-none refused c)
+    go false c =
+        ⊎_elim (λ e. ap (λ f. f.violation.rule.0 == not_constant.0) (sym e)) (λ i. absurd (in-none refused i)) (head-or-rest refused many [] c)
 scalars_say front.Memory s vars h = tt
 
 -- ---- all parts
