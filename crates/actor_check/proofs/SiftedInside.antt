@@ -124,23 +124,23 @@ scalars_say front.Memory s vars h = tt
 
 module _ (bare : BareActor) (held : Vec BoundVar Global) (header : Header) (routines : Routines) (scope : Resolved) (names : Names) (gs : List Given) (owner : Spot)
     (parts : AreBareParts bare held header routines scope names gs owner) where
-  s : Source
+  abbrev s : Source
   s = source_in scope
 
-  around : Around
+  abbrev around : Around
   around = around_of s gs owner
 
-  actor : Actor
+  abbrev actor : Actor
   actor = actor_given s gs owner
 
   procs : around.procs ≡ map proc_view bare.procs.items
   procs = ap (λ a. a.procs) (around_is header routines names s gs owner parts.parts) ∙ ap (map proc_view) (sym parts.kept.procs)
 
   vars : map var_view bare.vars.items ≡ kept_vars (all_valued s gs owner).held s
-  vars = parts.kept.vars ∙ sym (ap (λ xs. kept_vars xs s) parts.held)
+  vars = parts.kept.vars ∙ sym (ap (λ xs. kept_vars xs s) parts.values)
 
   own : ArePartsOf bare (actor_tree scope.actor) names s gs owner
-  own = parts_are bare held header routines scope names gs owner parts.kept parts.parts parts.held
+  own = parts_are bare held header routines scope names gs owner parts.kept parts.parts parts.values
 
   routines_same : routines_found s (map proc_view bare.procs.items) names ≡ routines_found s around.procs around.names
   routines_same = ap (λ ps. routines_found s ps names) (sym procs) ∙ ap (λ n. routines_found s around.procs n) (sym parts.parts.inside)
@@ -185,11 +185,11 @@ kept_breaks f bare held header routines scope names gs owner parts routines_fine
     let s = source_in scope in
     let around = around_of s gs owner in
     let actor = actor_given s gs owner in
-    let found = breaks gs owner (parts_are bare held header routines scope names gs owner parts.kept parts.parts parts.held) in
+    let found = breaks gs owner (parts_are bare held header routines scope names gs owner parts.kept parts.parts parts.values) in
     let procs : around.procs ≡ map proc_view routines.procs.items = ap (λ a. a.procs) (around_is header routines names s gs owner parts.parts) in
     let none : routines_found s around.procs around.names ≡ [] =
     ap (λ ps. routines_found s ps around.names) procs ∙ ap (λ n. routines_found s (map proc_view routines.procs.items) n) parts.parts.inside ∙ routines_fine in
-    let vars : map var_view bare.vars.items ≡ kept_vars (all_valued s gs owner).held s = parts.kept.vars ∙ sym (ap (λ xs. kept_vars xs s) parts.held) in
+    let vars : map var_view bare.vars.items ≡ kept_vars (all_valued s gs owner).held s = parts.kept.vars ∙ sym (ap (λ xs. kept_vars xs s) parts.values) in
     let scalars : scalars_found s actor.vars ≡ [] = subst (λ xs. scalars_found s xs ≡ []) vars scalars_fine in (
       ⊎_elim (λ l. inl (members_cause f s around actor l)) (λ r. inr r) found.0,
       ⊎_elim (λ says. inl says) (λ m. inr (all_lack s around actor (subst (Each IsLack) (sym none) tt) m scalars)) found.1,
@@ -200,7 +200,7 @@ pub kept_finds : (r : Result Bound Front) (bare : BareActor) (held : Vec BoundVa
     → scalars_found (source_in scope) (map var_view bare.vars.items) ≡ []
     → BuildsActor r bare scope names → FindsInside r (source_in scope) gs owner
 kept_finds (Ok found) bare held header routines scope names gs owner parts r s b =
-    kept_inside found bare held header routines scope names gs owner parts.kept parts.parts parts.held r s b
+    kept_inside found bare held header routines scope names gs owner parts.kept parts.parts parts.values r s b
 kept_finds (Err f) bare held header routines scope names gs owner parts r s b = kept_breaks f bare held header routines scope names gs owner parts r s b
 
 -- scalars are too many

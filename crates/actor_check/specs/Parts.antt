@@ -122,4 +122,4 @@ SiftsAll r s gs owner =
 pub record AreBareParts (bare : BareActor) (held : Vec BoundVar Global) (header : Header) (routines : Routines) (scope : Resolved) (names : Names) (gs : List Given) (owner : Spot) : Type 0 where
   pub kept : AreKept bare held header routines (source_in scope)
   pub parts : ArePartsIn header routines names (source_in scope) gs owner
-  pub held : (all_valued (source_in scope) gs owner).held ≡ map var_view held.items
+  pub values : (all_valued (source_in scope) gs owner).held ≡ map var_view held.items

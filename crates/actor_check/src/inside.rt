@@ -1,6 +1,6 @@
 //! What is inside an actor, and the actor of its parts.
 
-ghost use Rattle.std.specs.Prelude.{◌≡◌, ◌≤◌, [], IfOk, List, length, map};
+ghost use Rattle.std.specs.Prelude.{◌≡◌, ◌≤◌, [], IfOk, List, Vec, length, map};
 ghost use Rattle.cal_check.specs.Actors.{actor_given, all_funs, all_valued, around_of, inside_found};
 ghost use Rattle.cal_check.specs.Variables.{Given, Spot};
 ghost use Rattle.cal_model.specs.Sound.{max_ports};

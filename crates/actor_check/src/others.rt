@@ -1,6 +1,6 @@
 //! Rules that are broken inside an actor besides that something isn't constant.
 
-ghost use Rattle.std.specs.Prelude.{◌≡◌, ◌≤◌, length, map};
+ghost use Rattle.std.specs.Prelude.{◌≡◌, ◌≤◌, List, Vec, length, map};
 ghost use Rattle.cal_ast.specs.View.{function_tree};
 ghost use Rattle.cal_check.specs.Actors.{all_funs, funs_broken};
 ghost use Rattle.cal_check.specs.Routines.{fun_broken};

@@ -13,7 +13,7 @@ returns-in-Ok c = λ gs owner parts held.
     let s = source_in c.args.scope.now in
     let names = names_view c.args.names.now in
     let all : AreBareParts c.in-Ok.bare c.args.held c.args.header c.args.routines c.args.scope.now names gs owner =
-    record { kept = c.in-Ok.ensures; parts = parts; held = held } in
+    record { kept = c.in-Ok.ensures; parts = parts; values = held } in
     let fine : routines_found s (map proc_view c.args.routines.procs.items) names ≡ [] =
     subst (λ ps. routines_found s (map proc_view ps) names ≡ []) (c.deref.ensures.value ∙ c.in-Ok.ensures.procs) c.in-Ok-2.ensures in
     c.kept_actor.ensures c.args.held c.args.header c.args.routines gs owner all fine
@@ -25,7 +25,7 @@ returns-in-Err c = λ gs owner parts held.
     let names = names_view c.args.names.now in
     let f = c.in-Err.fault in
     let all : AreBareParts bare c.args.held c.args.header c.args.routines scope names gs owner =
-    record { kept = c.in-Ok.ensures; parts = parts; held = held } in
+    record { kept = c.in-Ok.ensures; parts = parts; values = held } in
     let broken : IsCause f (routines_found (source_in scope) (map proc_view bare.procs.items) names) =
     subst (λ ps. IsCause f (routines_found (source_in scope) (map proc_view ps) names)) c.deref.ensures.value c.in-Err.ensures in
     c.inside_fault.ensures c.args.held c.args.header c.args.routines gs owner all
