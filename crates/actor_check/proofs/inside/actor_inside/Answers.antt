@@ -8,14 +8,14 @@ use Rattle.actor_check.specs.Sources.{source_in}
 use Rattle.actor_check.proofs.SiftedInside.{routines_inside}
 use Rattle.actor_check.proofs.inside.actor_inside.Goals as goal
 
-pub returns-in-Ok : goal.returns-in-Ok
-returns-in-Ok c = λ gs owner parts held.
+pub returns-in-Ok-check_routines : goal.returns-in-Ok-check_routines
+returns-in-Ok-check_routines c = λ gs owner parts held.
     let s = source_in c.args.scope.now in
     let names = names_view c.args.names.now in
     let all : AreBareParts c.in-Ok.bare c.args.held c.args.header c.args.routines c.args.scope.now names gs owner =
     record { kept = c.in-Ok.ensures; parts = parts; values = held } in
     let fine : routines_found s (map proc_view c.args.routines.procs.items) names ≡ [] =
-    subst (λ ps. routines_found s (map proc_view ps) names ≡ []) (c.deref.ensures.value ∙ c.in-Ok.ensures.procs) c.in-Ok-2.ensures in
+    subst (λ ps. routines_found s (map proc_view ps) names ≡ []) (c.deref.ensures.value ∙ c.in-Ok.ensures.procs) c.in-Ok-check_routines.ensures in
     c.kept_actor.ensures c.args.held c.args.header c.args.routines gs owner all fine
 
 pub returns-in-Err : goal.returns-in-Err
