@@ -1,14 +1,13 @@
 -- What is inside an actor, where what isn't constant is passed over.
-use Rattle.std.proofs.Common.{◌≡◌, ◌⊎◌, inl, inr, ⊎_elim, Bool, true, false, ℕ, List, [], ◌∷◌, ◌++◌, map, refl, sym, ap, subst, ◌∙◌, Ok, Err, Result}
-use Rattle.std.specs.Prelude.{Contains, Vec, if◌then◌else◌, nat_le, ◌==◌}
+use Rattle.std.proofs.Common.{◌≡◌, ◌⊎◌, inl, inr, ⊎_elim, Bool, true, false, ℕ, List, [], ◌∷◌, map, sym, ap, subst, ◌∙◌, Ok, Err, Result}
+use Rattle.std.specs.Prelude.{Contains, Vec, nat_le, ◌==◌}
 use Rattle.std.specs.declared.alloc.Global.{Global}
-use Rattle.std.proofs.lemmas.List.Elements.{Contains-append_cases}
 use Rattle.rvc_base.specs.Rules.{not_constant, too_many_variables}
 use Rattle.rvc_base.specs.declared.refusal.Front.{Front}
 use Rattle.rvc_base.specs.declared.refusal.Front.TheVariants as front
 use Rattle.cal_ast.specs.View.{actor_tree}
 use Rattle.cal_imports.specs.declared.scope.Scope.{Scope as Resolved}
-use Rattle.cal_model.specs.Actor.{Actor, Held, Proc}
+use Rattle.cal_model.specs.Actor.{Actor, Held}
 use Rattle.cal_model.specs.Kinding.{Names}
 use Rattle.cal_model.specs.Sound.{Each, max_variable_scalars}
 use Rattle.cal_model.specs.View.{proc_view, var_view}
@@ -18,10 +17,10 @@ use Rattle.const_eval.specs.declared.fault.KindFault.{KindFault}
 use Rattle.const_eval.specs.declared.fault.KindFault.TheVariants as fault
 use Rattle.cal_check.proofs.Lists.{each-of, head-or-rest, in-none}
 use Rattle.cal_check.specs.Actions.{Around}
-use Rattle.cal_check.specs.Actors.{Source, actions_in, actions_of, actor_given, all_funs, all_valued, around_of, bare_actor, funs_broken, inside_found, kept_vars, members_of, place_of, scalars_of}
+use Rattle.cal_check.specs.Actors.{Source, actions_in, actions_of, actor_given, all_valued, around_of, bare_actor, inside_found, kept_vars, members_of, place_of, scalars_of}
 use Rattle.cal_check.specs.Schedules.{moves_in, pairs_in, schedule_in}
 use Rattle.cal_check.specs.Variables.{Found, Given, Spot, found_in}
-use Rattle.cal_check.specs.Violations.{Violation, said, unless, without_constants}
+use Rattle.cal_check.specs.Violations.{Violation, said, unless}
 use Rattle.member_check.specs.Parts.{members_tree}
 use Rattle.stmt_check.specs.Judging.{Refuses}
 use Rattle.actor_build.proofs.PastLacks.{refuses_from_said, said_is_other}
@@ -31,7 +30,7 @@ use Rattle.variable_check.specs.Causes.{IsCause, SaysRule}
 use Rattle.variable_check.specs.declared.header.Header.{Header}
 use Rattle.actor_check.specs.Parts.{AreBareParts, BreaksParts, BuildsActor, FindsInside, IsCycleOf, SiftsAll, SiftsMembers, placed}
 use Rattle.actor_check.specs.Phases.{routines_found, scalars_found}
-use Rattle.actor_check.specs.Sifting.{IsInsideFault, IsLack, Sifts, SiftsInside, lacks}
+use Rattle.actor_check.specs.Sifting.{IsInsideFault, IsLack, Sifts, lacks}
 use Rattle.actor_check.specs.Sources.{source_in}
 use Rattle.actor_check.specs.declared.routines.Routines.{Routines}
 use Rattle.actor_check.proofs.InsideParts.{in_inside, members_cause, routines_cause, scalars_cause}

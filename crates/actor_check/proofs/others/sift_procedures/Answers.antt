@@ -2,7 +2,7 @@ use Rattle.std.proofs.Common.{◌≡◌, true, [], List, map, Err, sym, subst}
 use Rattle.cal_ast.specs.declared.member.Member.{Member}
 use Rattle.cal_check.specs.Actors.{procs_broken, procs_in}
 use Rattle.cal_check.specs.Variables.{found_in}
-use Rattle.cal_check.specs.Violations.{Violation, said}
+use Rattle.cal_check.specs.Violations.{said}
 use Rattle.cal_model.specs.View.{proc_view}
 use Rattle.const_eval.specs.Counting.{names_view}
 use Rattle.member_check.specs.Parts.{members_tree}
