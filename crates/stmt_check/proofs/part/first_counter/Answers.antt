@@ -7,7 +7,7 @@ use Rattle.const_eval.specs.Judging.{Judges}
 use Rattle.cal_check.specs.Violations.{broken}
 use Rattle.stmt_check.specs.Judging.{Checks}
 use Rattle.stmt_check.proofs.Checked.{checks_judged}
-use Rattle.stmt_check.proofs.part.counter.Goals as goal
+use Rattle.stmt_check.proofs.part.first_counter.Goals as goal
 
 pub returns : goal.returns
 returns c =
