@@ -1,9 +1,8 @@
 -- An actor that is put together of its parts.
-use Rattle.std.proofs.Common.{◌≡◌, ◌⊎◌, inl, inr, ⊎_elim, ℕ, true, false, List, [], map, refl, sym, ap, subst, ◌∙◌, Ok, Err, Result}
+use Rattle.std.proofs.Common.{◌≡◌, ◌⊎◌, inl, inr, ⊎_elim, ℕ, true, false, List, [], map, refl, sym, ap, subst, ◌∙◌}
 use Rattle.std.specs.Prelude.{Vec}
 use Rattle.std.specs.declared.alloc.Global.{Global}
 use Rattle.rvc_base.specs.Chain.{IsAbove}
-use Rattle.rvc_base.specs.declared.refusal.Front.{Front}
 use Rattle.cal_ast.specs.Tree.{Tree}
 use Rattle.cal_ast.specs.View.{actor_tree}
 use Rattle.cal_imports.specs.declared.scope.Scope.{Scope as Resolved}
@@ -15,7 +14,7 @@ use Rattle.cal_model.specs.declared.bound.BoundVar.{BoundVar}
 use Rattle.const_eval.specs.declared.fault.KindFault.{KindFault}
 use Rattle.const_eval.specs.declared.fault.KindFault.TheVariants as fault
 use Rattle.cal_check.specs.Actions.{Around, or_none}
-use Rattle.cal_check.specs.Actors.{IsAboveItself, Source, actions_in, actions_of, actor_given, all_valued, around_of, bare_actor, inside_found, kept_funs, kept_vars, members_of, place_of, procs_in, procs_of}
+use Rattle.cal_check.specs.Actors.{IsAboveItself, Source, actions_in, actions_of, actor_given, all_valued, around_of, bare_actor, kept_funs, kept_vars, members_of, place_of, procs_in, procs_of}
 use Rattle.cal_check.specs.Schedules.{moves_in, pairs_in, schedule_in}
 use Rattle.cal_check.specs.Variables.{Given, Spot, found_in}
 use Rattle.cal_check.specs.Violations.{Violation, all_fine, said}

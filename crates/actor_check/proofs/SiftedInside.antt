@@ -1,14 +1,13 @@
 -- What is inside an actor, where what isn't constant is passed over.
-use Rattle.std.proofs.Common.{◌≡◌, ◌⊎◌, inl, inr, ⊎_elim, Bool, true, false, ℕ, List, [], ◌∷◌, ◌++◌, map, refl, sym, ap, subst, ◌∙◌, Ok, Err, Result}
-use Rattle.std.specs.Prelude.{Contains, Vec, if◌then◌else◌, nat_le, ◌==◌}
+use Rattle.std.proofs.Common.{◌≡◌, ◌⊎◌, inl, inr, ⊎_elim, Bool, true, false, ℕ, List, [], ◌∷◌, map, sym, ap, subst, ◌∙◌, Ok, Err, Result}
+use Rattle.std.specs.Prelude.{Contains, Vec, nat_le, ◌==◌}
 use Rattle.std.specs.declared.alloc.Global.{Global}
-use Rattle.std.proofs.lemmas.List.Elements.{Contains-append_cases}
 use Rattle.rvc_base.specs.Rules.{not_constant, too_many_variables}
 use Rattle.rvc_base.specs.declared.refusal.Front.{Front}
 use Rattle.rvc_base.specs.declared.refusal.Front.TheVariants as front
 use Rattle.cal_ast.specs.View.{actor_tree}
 use Rattle.cal_imports.specs.declared.scope.Scope.{Scope as Resolved}
-use Rattle.cal_model.specs.Actor.{Actor, Held, Proc}
+use Rattle.cal_model.specs.Actor.{Actor, Held}
 use Rattle.cal_model.specs.Kinding.{Names}
 use Rattle.cal_model.specs.Sound.{Each, max_variable_scalars}
 use Rattle.cal_model.specs.View.{proc_view, var_view}
@@ -18,10 +17,10 @@ use Rattle.const_eval.specs.declared.fault.KindFault.{KindFault}
 use Rattle.const_eval.specs.declared.fault.KindFault.TheVariants as fault
 use Rattle.cal_check.proofs.Lists.{each-of, head-or-rest, in-none}
 use Rattle.cal_check.specs.Actions.{Around}
-use Rattle.cal_check.specs.Actors.{Source, actions_in, actions_of, actor_given, all_funs, all_valued, around_of, bare_actor, funs_broken, inside_found, kept_vars, members_of, place_of, scalars_of}
+use Rattle.cal_check.specs.Actors.{Source, actions_in, actions_of, actor_given, all_valued, around_of, bare_actor, inside_found, kept_vars, members_of, place_of, scalars_of}
 use Rattle.cal_check.specs.Schedules.{moves_in, pairs_in, schedule_in}
 use Rattle.cal_check.specs.Variables.{Found, Given, Spot, found_in}
-use Rattle.cal_check.specs.Violations.{Violation, said, unless, without_constants}
+use Rattle.cal_check.specs.Violations.{Violation, said, unless}
 use Rattle.member_check.specs.Parts.{members_tree}
 use Rattle.stmt_check.specs.Judging.{Refuses}
 use Rattle.actor_build.proofs.PastLacks.{refuses_from_said, said_is_other}
@@ -31,7 +30,7 @@ use Rattle.variable_check.specs.Causes.{IsCause, SaysRule}
 use Rattle.variable_check.specs.declared.header.Header.{Header}
 use Rattle.actor_check.specs.Parts.{AreBareParts, BreaksParts, BuildsActor, FindsInside, IsCycleOf, SiftsAll, SiftsMembers, placed}
 use Rattle.actor_check.specs.Phases.{routines_found, scalars_found}
-use Rattle.actor_check.specs.Sifting.{IsInsideFault, IsLack, Sifts, SiftsInside, lacks}
+use Rattle.actor_check.specs.Sifting.{IsInsideFault, IsLack, Sifts, lacks}
 use Rattle.actor_check.specs.Sources.{source_in}
 use Rattle.actor_check.specs.declared.routines.Routines.{Routines}
 use Rattle.actor_check.proofs.InsideParts.{in_inside, members_cause, routines_cause, scalars_cause}
@@ -92,39 +91,55 @@ each_there (x ∷ fs) f h c = go (head-or-rest f x fs c) (λ i. each_there fs f 
 pub all_lack : (s : Source) (around : Around) (actor : Actor) → Each IsLack (routines_found s around.procs around.names)
     → Each IsLack (found_in s.file (members_broken (members_of s.actor) around actor (place_of s.actor))) → scalars_found s actor.vars ≡ []
     → Each IsLack (inside_found s around actor)
-all_lack s around actor r m x =
-    each-of IsLack (inside_found s around actor) (λ f h.
-    ⊎_elim (λ i. each_there _ f r i) (λ o. ⊎_elim (λ i. each_there _ f m i) (λ i. absurd (in-none f (subst (λ fs. Contains fs f) x i))) o) (in_inside s around actor f h))
+all_lack s around actor r m x = each-of IsLack (inside_found s around actor) (λ f h. go f (in_inside s around actor f h))
+  where
+    routines : List Found
+    routines = routines_found s around.procs around.names
+
+    members : List Found
+    members = found_in s.file (members_broken (members_of s.actor) around actor (place_of s.actor))
+
+    go : (f : Found) → Contains routines f ⊎ (Contains members f ⊎ Contains (scalars_found s actor.vars) f) → IsLack f
+    go f (inl i) = each_there routines f r i
+    go f (inr (inl i)) = each_there members f m i
+    go f (inr (inr i)) = absurd (in-none f (subst (λ fs. Contains fs f) x i))
 
 scalars_say : (f : Front) (s : Source) (vars : List Held) → IsCause f (scalars_found s vars) → SaysRule f
 scalars_say (front.Refused r) s vars h = go (nat_le (scalars_of vars) max_variable_scalars) h
   where
-    go : (b : Bool) → Contains (found_in s.file (unless b too_many_variables (place_of s.actor))) (record { violation = record { rule = r.rule; at = r.place.offset }; file = r.place.file }) → (r.rule.0 == not_constant.0) ≡ false
-    go true c = absurd (in-none _ c)
-    go false c = ⊎_elim (λ e. ap (λ f. f.violation.rule.0 == not_constant.0) (sym e)) (λ i. absurd (in-none _ i)) (head-or-rest _ _ [] c)
+    refused : Found
+    refused = record { violation = record { rule = r.rule; at = r.place.offset }; file = r.place.file }
+
+    many : Found
+    many = record { violation = record { rule = too_many_variables; at = place_of s.actor }; file = s.file }
+
+    go : (b : Bool) → Contains (found_in s.file (unless b too_many_variables (place_of s.actor))) refused → (r.rule.0 == not_constant.0) ≡ false
+    go true c = absurd (in-none refused c)
+    go false c =
+        ⊎_elim (λ e. ap (λ f. f.violation.rule.0 == not_constant.0) (sym e)) (λ i. absurd (in-none refused i)) (head-or-rest refused many [] c)
 scalars_say front.Memory s vars h = tt
 
 -- ---- all parts
 
 module _ (bare : BareActor) (held : Vec BoundVar Global) (header : Header) (routines : Routines) (scope : Resolved) (names : Names) (gs : List Given) (owner : Spot)
     (parts : AreBareParts bare held header routines scope names gs owner) where
-  s : Source
+  abbrev s : Source
   s = source_in scope
 
-  around : Around
+  abbrev around : Around
   around = around_of s gs owner
 
-  actor : Actor
+  abbrev actor : Actor
   actor = actor_given s gs owner
 
   procs : around.procs ≡ map proc_view bare.procs.items
   procs = ap (λ a. a.procs) (around_is header routines names s gs owner parts.parts) ∙ ap (map proc_view) (sym parts.kept.procs)
 
   vars : map var_view bare.vars.items ≡ kept_vars (all_valued s gs owner).held s
-  vars = parts.kept.vars ∙ sym (ap (λ xs. kept_vars xs s) parts.held)
+  vars = parts.kept.vars ∙ sym (ap (λ xs. kept_vars xs s) parts.values)
 
   own : ArePartsOf bare (actor_tree scope.actor) names s gs owner
-  own = parts_are bare held header routines scope names gs owner parts.kept parts.parts parts.held
+  own = parts_are bare held header routines scope names gs owner parts.kept parts.parts parts.values
 
   routines_same : routines_found s (map proc_view bare.procs.items) names ≡ routines_found s around.procs around.names
   routines_same = ap (λ ps. routines_found s ps names) (sym procs) ∙ ap (λ n. routines_found s around.procs n) (sym parts.parts.inside)
@@ -169,11 +184,11 @@ kept_breaks f bare held header routines scope names gs owner parts routines_fine
     let s = source_in scope in
     let around = around_of s gs owner in
     let actor = actor_given s gs owner in
-    let found = breaks gs owner (parts_are bare held header routines scope names gs owner parts.kept parts.parts parts.held) in
+    let found = breaks gs owner (parts_are bare held header routines scope names gs owner parts.kept parts.parts parts.values) in
     let procs : around.procs ≡ map proc_view routines.procs.items = ap (λ a. a.procs) (around_is header routines names s gs owner parts.parts) in
     let none : routines_found s around.procs around.names ≡ [] =
     ap (λ ps. routines_found s ps around.names) procs ∙ ap (λ n. routines_found s (map proc_view routines.procs.items) n) parts.parts.inside ∙ routines_fine in
-    let vars : map var_view bare.vars.items ≡ kept_vars (all_valued s gs owner).held s = parts.kept.vars ∙ sym (ap (λ xs. kept_vars xs s) parts.held) in
+    let vars : map var_view bare.vars.items ≡ kept_vars (all_valued s gs owner).held s = parts.kept.vars ∙ sym (ap (λ xs. kept_vars xs s) parts.values) in
     let scalars : scalars_found s actor.vars ≡ [] = subst (λ xs. scalars_found s xs ≡ []) vars scalars_fine in (
       ⊎_elim (λ l. inl (members_cause f s around actor l)) (λ r. inr r) found.0,
       ⊎_elim (λ says. inl says) (λ m. inr (all_lack s around actor (subst (Each IsLack) (sym none) tt) m scalars)) found.1,
@@ -184,7 +199,7 @@ pub kept_finds : (r : Result Bound Front) (bare : BareActor) (held : Vec BoundVa
     → scalars_found (source_in scope) (map var_view bare.vars.items) ≡ []
     → BuildsActor r bare scope names → FindsInside r (source_in scope) gs owner
 kept_finds (Ok found) bare held header routines scope names gs owner parts r s b =
-    kept_inside found bare held header routines scope names gs owner parts.kept parts.parts parts.held r s b
+    kept_inside found bare held header routines scope names gs owner parts.kept parts.parts parts.values r s b
 kept_finds (Err f) bare held header routines scope names gs owner parts r s b = kept_breaks f bare held header routines scope names gs owner parts r s b
 
 -- scalars are too many

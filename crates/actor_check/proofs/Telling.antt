@@ -1,15 +1,13 @@
 -- What the check of an actor says, of what its parts break.
-use Rattle.std.proofs.Common.{◌≡◌, ◌⊎◌, inl, inr, Err, Bool, true, false, List, [], ◌∷◌, ◌++◌, map, refl, sym, ap, subst, ◌∙◌, append-nil, arith}
+use Rattle.std.proofs.Common.{◌≡◌, ◌⊎◌, inl, inr, Err, Bool, true, false, List, [], ◌∷◌, ◌++◌, map, refl, sym, ap, subst, ◌∙◌, append-nil}
 use Rattle.std.specs.Prelude.{Contains, Option, None, Some, if◌then◌else◌, not, ◌&&◌, ◌||◌, ◌==◌}
 use Rattle.std.specs.declared.result.Result.{Result}
-use Rattle.std.proofs.lemmas.Bool.Decides.{nat_tests}
 use Rattle.std.proofs.lemmas.List.Elements.{Contains-append_left, Contains-append_right}
 use Rattle.rvc_base.specs.Rules.{not_constant}
 use Rattle.rvc_base.specs.declared.refusal.Front.{Front}
 use Rattle.rvc_base.specs.declared.refusal.Front.TheVariants as front
 use Rattle.rvc_base.specs.declared.refusal.Place.{Place}
 use Rattle.rvc_base.specs.declared.refusal.Refusal.{Refusal}
-use Rattle.rvc_base.specs.declared.refusal.Rule.{Rule}
 use Rattle.cal_ast.specs.Places.{begins}
 use Rattle.cal_model.specs.Actor.{Held}
 use Rattle.cal_model.specs.Kinding.{Judged, Fine, Broken, Names}
@@ -19,7 +17,7 @@ use Rattle.cal_model.specs.declared.bound.Bound.{Bound}
 use Rattle.cal_check.proofs.Lists.{at-head, each-append, in-none}
 use Rattle.cal_check.specs.Constants.{early_type}
 use Rattle.cal_check.specs.Routines.{FunDecl}
-use Rattle.cal_check.specs.Actors.{Conforms, IsViolated, Source, actor_given, all_found, all_said, all_valued, around_of, behind_variables, declared_vars, first_valueless, has_heads, header_found, heads_found, inside_found, is_empty, is_held, members_found, said_or_all, violations}
+use Rattle.cal_check.specs.Actors.{Conforms, IsViolated, Source, actor_given, all_said, all_valued, around_of, behind_variables, declared_vars, first_valueless, has_heads, header_found, heads_found, inside_found, is_empty, is_held, members_found, said_or_all, violations}
 use Rattle.cal_check.specs.Variables.{Found, Given, Spot, VarDecl, Valued, none_yet, seen, valued, with_type, with_var}
 use Rattle.variable_check.specs.Causes.{IsCause, SaysRule, inconstant}
 use Rattle.variable_check.specs.Valuing.{AreAt, first_in, left_over, valueless}
@@ -29,7 +27,7 @@ use Rattle.actor_check.specs.Members.{AreMembers, FindsMembers, Settles, not_con
 use Rattle.actor_check.specs.Parts.{FindsInside, header_names}
 use Rattle.actor_check.specs.Phases.{header_over}
 use Rattle.actor_check.specs.Sifting.{IsFault, IsLack}
-use Rattle.actor_check.proofs.Behind.{behind_none, given_breaks, header_breaks, heads_are_fine, heads_break, inside_break, members_break, members_none}
+use Rattle.actor_check.proofs.Behind.{behind_none, given_breaks, header_breaks, heads_break, inside_break, members_break, members_none}
 use Rattle.actor_check.proofs.Chain.{behind_break, first_said, variables_break}
 
 -- ---- more variables break no less

@@ -1,42 +1,29 @@
 //! What is inside an actor, and the actor of its parts.
 
-ghost use Rattle.std.specs.Prelude.{◌≡◌, ◌≤◌, [], IfOk, List, length, map};
-ghost use Rattle.cal_check.specs.Actors.{actor_given, all_funs, all_valued, around_of, inside_found};
+ghost use Rattle.std.specs.Prelude.{◌≡◌, ◌≤◌, IfOk, List, length, map};
+ghost use Rattle.cal_check.specs.Actors.{all_funs, all_valued};
 ghost use Rattle.cal_check.specs.Variables.{Given, Spot};
 ghost use Rattle.cal_model.specs.Sound.{max_ports};
-ghost use Rattle.cal_model.specs.View.{proc_view, var_view};
+ghost use Rattle.cal_model.specs.View.{var_view};
 ghost use Rattle.const_eval.specs.Counting.{names_view};
 ghost use Rattle.seen_names.specs.Known.{fun_decls};
-ghost use Rattle.variable_check.specs.Causes.{IsCause};
-ghost use Rattle.actor_check.specs.Parts.{AreBareParts, AreKept, ArePartsIn, BuildsActor, FindsInside, placed};
-ghost use Rattle.actor_check.specs.Phases.{routines_found};
+ghost use Rattle.actor_check.specs.Parts.{AreKept, ArePartsIn, BuildsActor, FindsInside, FindsKept, TellsFault};
 ghost use Rattle.actor_check.specs.Sources.{source_in};
 
+use crate::fault::placed;
 use crate::keeping::keep_used;
+use crate::others::sift_inside;
 use crate::routines::{Routines, check_routines};
 use crate::scalars::check_scalars;
-use crate::sifting::{lacks, sift_inside};
+use crate::sifting::lacks;
 use actor_build::{BareActor, actor};
 use cal_imports::Scope;
 use cal_model::{Bound, BoundVar};
-use const_eval::{KindFault, Names};
-use rvc_base::{Front, Memory, Place, Refusal};
+use const_eval::Names;
+use rvc_base::{Front, Memory};
 use seen_names::DeclaredFun;
 use std::alloc::Global;
 use variable_check::Header;
-
-/// A fault in a file.
-pub(crate) fn placed(file: u32, fault: KindFault) -> Front
-    ensures { result ≡ placed file fault }
-{
-    match fault {
-        KindFault::Broken { rule, at } => Front::Refused(Refusal {
-            rule,
-            place: Place { file, offset: at },
-        }),
-        KindFault::Memory => Front::Memory,
-    }
-}
 
 /// The actor of these parts, and of the actions, the schedule and the priorities that are declared in it.
 fn built(names: &Names, bare: BareActor, scope: &Scope) -> Result<Bound, Front>
@@ -78,10 +65,7 @@ fn bare_of(
 fn kept_actor(names: &Names, scope: &Scope, bare: BareActor) -> Result<Bound, Front>
     requires few_ins { length bare.ins.items ≤ max_ports }
     requires few_outs { length bare.outs.items ≤ max_ports }
-    ensures { (held : Vec BoundVar Global) (header : Header) (routines : Routines) (gs : List Given) (owner : Spot)
-        → AreBareParts bare held header routines scope.now (names_view names.now) gs owner
-        → routines_found (source_in scope.now) (map proc_view routines.procs.items) (names_view names.now) ≡ []
-        → FindsInside result (source_in scope.now) gs owner }
+    ensures { FindsKept result bare scope.now (names_view names.now) }
 {
     check_scalars(&bare.vars, scope)?;
     built(names, bare, scope)
@@ -99,11 +83,7 @@ fn inside_fault(
     requires few_ins { length bare.now.ins.items ≤ max_ports }
     requires few_outs { length bare.now.outs.items ≤ max_ports }
     requires funs { fun_decls funs.now ≡ all_funs (source_in scope.now) }
-    ensures { (held : Vec BoundVar Global) (header : Header) (routines : Routines) (gs : List Given) (owner : Spot)
-        → AreBareParts bare.now held header routines scope.now (names_view names.now) gs owner
-        → IsCause fault (inside_found (source_in scope.now) (around_of (source_in scope.now) gs owner)
-        (actor_given (source_in scope.now) gs owner))
-        → FindsInside (Err result) (source_in scope.now) gs owner }
+    ensures { TellsFault fault result bare.now scope.now (names_view names.now) }
 {
     if !lacks(fault) {
         return fault;

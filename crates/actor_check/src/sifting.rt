@@ -1,16 +1,13 @@
 //! Rules that are said though something else isn't constant.
 
-ghost use Rattle.std.specs.Prelude.{◌≡◌, ◌≤◌, ◌∷◌, [], List, Vec, length, map};
-ghost use Rattle.std.specs.declared.alloc.Global.{Global};
+ghost use Rattle.std.specs.Prelude.{◌≡◌, ◌≤◌, ◌∷◌, [], List, length};
 ghost use Rattle.cal_ast.specs.Tree as tree;
 ghost use Rattle.cal_ast.specs.Tree.{Tree};
 ghost use Rattle.cal_ast.specs.View.{function_tree, member_tree, port_tree, procedure_tree};
-ghost use Rattle.cal_check.specs.Actors.{all_funs, formals_broken, funs_broken, heads_broken, procs_in};
+ghost use Rattle.cal_check.specs.Actors.{all_funs, formals_broken, heads_broken, procs_in};
 ghost use Rattle.cal_check.specs.Ports.{each_port, port_judged};
-ghost use Rattle.cal_check.specs.Routines.{fun_broken, head_judged};
-ghost use Rattle.cal_check.specs.Variables.{Given, Spot, found_in};
-ghost use Rattle.cal_model.specs.Sound.{max_ports};
-ghost use Rattle.cal_model.specs.View.{proc_view};
+ghost use Rattle.cal_check.specs.Routines.{head_judged};
+ghost use Rattle.cal_check.specs.Variables.{found_in};
 ghost use Rattle.cal_check.specs.Violations.{Violation, all_broken, broken};
 ghost use Rattle.const_eval.specs.Counting.{names_view};
 ghost use Rattle.member_check.specs.Parts.{members_tree};
@@ -18,25 +15,18 @@ ghost use Rattle.seen_names.specs.Known.{fun_decls};
 ghost use Rattle.stmt_check.specs.Judging.{Checks, Refuses};
 ghost use Rattle.variable_check.specs.Causes.{IsCause};
 ghost use Rattle.variable_check.specs.Views.{ports_tree};
-ghost use Rattle.actor_check.specs.Parts.{AreBareParts, SiftsAll, SiftsMembers};
-ghost use Rattle.actor_check.specs.Phases.{header_over, heads_over, procs_found, routines_found};
+ghost use Rattle.actor_check.specs.Phases.{header_over, heads_over};
 ghost use Rattle.actor_check.specs.Sifting.{IsFault, Sifts, SiftsOn, bare_over, lacks};
 ghost use Rattle.actor_check.specs.Sources.{source_in};
 
-use crate::inside::placed;
-use crate::routines::Routines;
-use crate::scalars::check_scalars;
-use actor_build::{BareActor, other_members};
 use cal_ast::{Member, PortDecl, Procedure};
 use cal_imports::Scope;
-use cal_model::{BoundProc, BoundVar};
 use const_eval::{KindFault, Names};
 use member_check::{MemberFault, check_ports};
 use routine_build::{fun_of, proc_of};
-use routine_check::{check_function, check_procedures};
 use rvc_base::{Front, Place, Refusal, Rule};
 use seen_names::DeclaredFun;
-use variable_check::{Header, port};
+use variable_check::port;
 
 /// Passes over what isn't constant.
 #[tactic(auto, using(crate::proofs::Sifted::passes, crate::proofs::Causes::found_of))]
@@ -197,82 +187,6 @@ pub(crate) fn sift_header(names: &Names, scope: &Scope) -> Result<(), Front>
     sift_ports(names, scope.file, &scope.actor.ins)?;
     sift_ports(names, scope.file, &scope.actor.outs)?;
     sift_bare(names, scope)
-}
-
-/// What is inside a function of a file, unless something isn't constant there.
-fn sift_body(names: &Names, f: DeclaredFun) -> Result<(), Front>
-    ensures { Sifts result (found_in f.entry.file
-        (fun_broken (function_tree f.entry.decl.now) (names_view names.now))) }
-{
-    match check_function(names, f.decl, true) {
-        Ok(()) => Ok(()),
-        Err(fault) => Err(placed(f.file, fault)),
-    }
-}
-
-/// What is inside functions.
-fn sift_bodies(names: &Names, funs: &[DeclaredFun]) -> Result<(), Front>
-    ensures { Sifts result (funs_broken (fun_decls funs.now) (names_view names.now)) }
-{
-    for f in funs {
-        sift_body(names, *f)?;
-    }
-    Ok(())
-}
-
-/// What is inside procedures.
-fn sift_procedures(names: &Names, procs: &[BoundProc], scope: &Scope) -> Result<(), Front>
-    ensures { Sifts result (procs_found (source_in scope.now) (map proc_view procs.now) (names_view names.now)) }
-{
-    match check_procedures(names, procs, &scope.actor.members, true) {
-        Ok(()) => Ok(()),
-        Err(fault) => Err(placed(scope.file, fault)),
-    }
-}
-
-/// What is inside functions and procedures.
-fn sift_inside_routines(
-    names: &Names,
-    funs: &[DeclaredFun],
-    procs: &[BoundProc],
-    scope: &Scope,
-) -> Result<(), Front>
-    requires { fun_decls funs.now ≡ all_funs (source_in scope.now) }
-    ensures { Sifts result (routines_found (source_in scope.now) (map proc_view procs.now) (names_view names.now)) }
-{
-    sift_bodies(names, funs)?;
-    sift_procedures(names, procs, scope)
-}
-
-/// Actions, the schedule and the priorities of an actor of these parts.
-fn sift_own(names: &Names, bare: &BareActor, scope: &Scope) -> Result<(), Front>
-    requires few_ins { length bare.now.ins.items ≤ max_ports }
-    requires few_outs { length bare.now.outs.items ≤ max_ports }
-    ensures { SiftsMembers result bare.now scope.now (names_view names.now) }
-{
-    match other_members(names, bare, &scope.actor) {
-        Ok(()) => Ok(()),
-        Err(fault) => Err(placed(scope.file, fault)),
-    }
-}
-
-/// What is inside an actor of these parts.
-pub(crate) fn sift_inside(
-    names: &Names,
-    funs: &[DeclaredFun],
-    scope: &Scope,
-    bare: &BareActor,
-) -> Result<(), Front>
-    requires few_ins { length bare.now.ins.items ≤ max_ports }
-    requires few_outs { length bare.now.outs.items ≤ max_ports }
-    requires funs { fun_decls funs.now ≡ all_funs (source_in scope.now) }
-    ensures { (held : Vec BoundVar Global) (header : Header) (routines : Routines) (gs : List Given) (owner : Spot)
-        → AreBareParts bare.now held header routines scope.now (names_view names.now) gs owner
-        → SiftsAll result (source_in scope.now) gs owner }
-{
-    sift_inside_routines(names, funs, &bare.procs, scope)?;
-    check_scalars(&bare.vars, scope)?;
-    sift_own(names, bare, scope)
 }
 
 // ---- faults
