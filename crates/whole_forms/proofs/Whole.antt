@@ -3,6 +3,7 @@ use Rattle.std.proofs.Common.{◌≡◌, ℕ, zero, suc, ◌+◌, ◌*◌, ◌<�
 use Rattle.std.specs.Prelude.{◌&&◌, if◌then◌else◌, nat_eq}
 use Rattle.std.proofs.lemmas.Bool.Decides.{nat_tests}
 use Rattle.rvc_base.specs.declared.scalar.Scalar.{Scalar}
+use Rattle.rvc_base.specs.declared.scalar.Scalar.TheVariants as scalar
 use Rattle.rvc_base.specs.Rules.{wrong_kind}
 use Rattle.cal_ast.specs.Places.{begins}
 use Rattle.cal_ast.specs.Tree as tree
@@ -64,7 +65,7 @@ many_left (Many m items) at n k o f like e g =
     ap (λ x. left_out_many (Many m items) at x f) e ∙ ap (λ b. if b then f items else Some at) test ∙ g items like.1
 
 element_left : (items : Shape) (k : Kind) (value list : Option ℕ) → IsLike items k → (IsLike one k → value ≡ None) → list ≡ None → left_out_element items value list ≡ None
-element_left (Single s) k value list like f g = f (one_like _ k (like_one s k like))
+element_left (Single s) k value list like f g = f (one_like scalar.Bool k (like_one s k like))
 element_left (Many n items) k value list like f g = g
 
 apart_left : (o : Option ℕ) (n size at : ℕ) (t : Shape) (list : Shape → Option ℕ) (place : Option ℕ) → o ≡ Some n → sized (Many n t) ≡ Some size → list (Many n t) ≡ None → place ≡ None → left_out_apart o t at list place ≡ None
@@ -126,7 +127,7 @@ module _ (funs : List Fun) (fs : List Function) (Q : List ℕ → Type 0) where
         let b = branch_parts x.0 y.0 z.0 k at z.2 in
         let both = right_low (indexes test) (max (indexes first) (indexes other)) low in
         neither (left_out_fill fs names one test) (left_out_fill fs names t first or_else left_out_fill fs names t other)
-        (filled test known names x.0 one seen same calls.0 x.1 plain.0 (left_low (indexes test) (max (indexes first) (indexes other)) low) (one_like _ x.0 (subst IsOne (sym b.0) tt)))
+        (filled test known names x.0 one seen same calls.0 x.1 plain.0 (left_low (indexes test) (max (indexes first) (indexes other)) low) (one_like scalar.Bool x.0 (subst IsOne (sym b.0) tt)))
         (neither (left_out_fill fs names t first) (left_out_fill fs names t other)
         (filled first known names k t seen same calls.1 (y.1 ∙ ap Fine b.1) plain.1 (left_low (indexes first) (indexes other) both) like)
         (filled other known names k t seen same calls.2 (z.1 ∙ ap Fine b.2) plain.2 (right_low (indexes first) (indexes other) both) like))
@@ -151,9 +152,9 @@ module _ (funs : List Fun) (fs : List Function) (Q : List ℕ → Type 0) where
         let i : IsItem x.0 y.0 k = item_parts x.0 y.0 k at y.2 in
         let more = deeper 0 (indexes base) (indexes place) (from_none (suc (max (indexes base) (indexes place))) low) in
         let base_low : indexes base < 2 ^ 32 = lower 1 (indexes base) more.1 in
-        let of_one : IsLike one k = one_like _ k (like_one s k like) in
+        let of_one : IsLike one k = one_like scalar.Bool k (like_one s k like) in
         let whole : IsLike (Many i.count one) x.0 = subst (IsLike (Many i.count one)) (sym i.list) (refl, of_one) in
-        let no_place : left_out_fill fs names one place ≡ None = filled place known names y.0 one seen same calls.1 y.1 plain.1 more.2 (one_like _ y.0 (subst IsOne (sym i.place) tt)) in
+        let no_place : left_out_fill fs names one place ≡ None = filled place known names y.0 one seen same calls.1 y.1 plain.1 more.2 (one_like scalar.Bool y.0 (subst IsOne (sym i.place) tt)) in
         let no_places : left_out_places fs names base ≡ None = places base known names x.0 seen same calls.0 x.1 plain.0 base_low in
         single_index (list_named names base) (deep_named names (tree.index base place at)) (left_out_fill fs names one place) (left_out_places fs names base or_else left_out_fill fs names one place)
         (left_out_apart (items_seen names base 0) one at (λ list. left_out_fill fs names list base) (left_out_fill fs names one place))
@@ -169,7 +170,7 @@ module _ (funs : List Fun) (fs : List Function) (Q : List ℕ → Type 0) where
         let more = deeper 0 (indexes base) (indexes place) (from_none (suc (max (indexes base) (indexes place))) low) in
         let base_low : indexes base < 2 ^ 32 = lower 1 (indexes base) more.1 in
         let whole : IsLike (Many i.count (Many n items)) x.0 = subst (IsLike (Many i.count (Many n items))) (sym i.list) (refl, like) in
-        let no_place : left_out_fill fs names one place ≡ None = filled place known names y.0 one seen same calls.1 y.1 plain.1 more.2 (one_like _ y.0 (subst IsOne (sym i.place) tt)) in
+        let no_place : left_out_fill fs names one place ≡ None = filled place known names y.0 one seen same calls.1 y.1 plain.1 more.2 (one_like scalar.Bool y.0 (subst IsOne (sym i.place) tt)) in
         let no_places : left_out_places fs names base ≡ None = places base known names x.0 seen same calls.0 x.1 plain.0 base_low in
         list_index (part_named names (tree.index base place at)) (Many n items) at (left_out_places fs names base or_else left_out_fill fs names one place)
         (left_out_apart (items_seen names base 0) (Many n items) at (λ list. left_out_fill fs names list base) (left_out_fill fs names one place))
@@ -182,7 +183,7 @@ module _ (funs : List Fun) (fs : List Function) (Q : List ℕ → Type 0) where
     filled (tree.prefix op e at) known names k t seen same calls h plain low like =
         let x = split (kind e known) _ k h in
         let ones = prefix_one op x.0 k at x.2 in
-        where_none t k at (left_out_fill fs names one e) ones.1 like (filled e known names x.0 one seen same calls x.1 plain low (one_like _ x.0 ones.0))
+        where_none t k at (left_out_fill fs names one e) ones.1 like (filled e known names x.0 one seen same calls x.1 plain low (one_like scalar.Bool x.0 ones.0))
     filled (tree.binary op l r at) known names k t seen same calls h plain low like =
         let x = split (kind l known) _ k h in
         let y = split (kind r known) _ k x.2 in
@@ -194,8 +195,8 @@ module _ (funs : List Fun) (fs : List Function) (Q : List ℕ → Type 0) where
         where_none t k at (if is_short op && not (is_truth fs names l) then Some at else left_out_fill fs names one l or_else left_out_fill fs names one r) ones.2 like
         (ap (λ b. if b then Some at else left_out_fill fs names one l or_else left_out_fill fs names one r) test
         ∙ neither (left_out_fill fs names one l) (left_out_fill fs names one r)
-        (filled l known names x.0 one seen same calls.0 x.1 plain.0 (left_low (indexes l) (indexes r) low) (one_like _ x.0 ones.0))
-        (filled r known names y.0 one seen same calls.1 y.1 plain.1 (right_low (indexes l) (indexes r) low) (one_like _ y.0 ones.1)))
+        (filled l known names x.0 one seen same calls.0 x.1 plain.0 (left_low (indexes l) (indexes r) low) (one_like scalar.Bool x.0 ones.0))
+        (filled r known names y.0 one seen same calls.1 y.1 plain.1 (right_low (indexes l) (indexes r) low) (one_like scalar.Bool y.0 ones.1)))
     filled other known names k t seen same calls h plain low like = absurd (not-fine wrong_kind 0 k h)
 
     -- .. of some that are of one kind
@@ -220,7 +221,7 @@ module _ (funs : List Fun) (fs : List Function) (Q : List ℕ → Type 0) where
         let more = deeper 0 (indexes base) (indexes place) (from_none (suc (max (indexes base) (indexes place))) low) in
         neither (left_out_places fs names base) (left_out_fill fs names one place)
         (places base known names x.0 seen same calls.0 x.1 plain.0 (lower 1 (indexes base) more.1))
-        (filled place known names y.0 one seen same calls.1 y.1 plain.1 more.2 (one_like _ y.0 (subst IsOne (sym i.place) tt)))
+        (filled place known names y.0 one seen same calls.1 y.1 plain.1 more.2 (one_like scalar.Bool y.0 (subst IsOne (sym i.place) tt)))
     places other known names k seen same calls h plain low = refl
 
     -- .. of arguments
@@ -235,6 +236,6 @@ module _ (funs : List Fun) (fs : List Function) (Q : List ℕ → Type 0) where
         let x = split (kind e known) _ true h in
         let y = split (one_kind (kind_of_type f.shape) x.0 (begins e)) _ true x.2 in
         neither (left_out_fill fs names one e) (left_out_args fs names es)
-        (filled e known names x.0 one seen same calls.0 x.1 plain.0 (left_low (indexes e) (indexes es) low) (one_like _ x.0 (formal_one f x.0 y.0 (begins e) each.0 y.1)))
+        (filled e known names x.0 one seen same calls.0 x.1 plain.0 (left_low (indexes e) (indexes es) low) (one_like scalar.Bool x.0 (formal_one f x.0 y.0 (begins e) each.0 y.1)))
         (args_filled es known names formals seen same calls.1 y.2 each.1 plain.1 (right_low (indexes e) (indexes es) low))
     args_filled other known names formals seen same calls h each plain low = absurd (not-fine wrong_kind 0 true h)
