@@ -128,7 +128,7 @@ from_none a h = omega (arith, h)
 pub lower : (d a : ℕ) → d + a < 2 ^ 32 → a < 2 ^ 32
 lower d a h = omega (arith, h)
 
-pub left_low : (a b : ℕ) → max a b < 2 ^ 32 → 0 + a < 2 ^ 32
+pub left_low : (a b : ℕ) → max a b < 2 ^ 32 → a < 2 ^ 32
 left_low a b h = omega (arith, h)
 
 pub right_low : (a b : ℕ) → max a b < 2 ^ 32 → b < 2 ^ 32
@@ -271,6 +271,6 @@ module _ (funs : List Fun) (fs : List Function) (Q : List ℕ → Type 0) where
         let x = split (kind e known) _ true h in
         let y = split (one_kind (kind_of_type f.shape) x.0 (begins e)) _ true x.2 in
         and_true (gives_at sort.Any 0 fs names e) (all_give sort.Any 0 fs names es)
-        (sorted e known names x.0 sort.Any 0 seen same calls.0 x.1 plain.0 (left_low (indexes e) (indexes es) low) (one_any x.0 (formal_one f x.0 y.0 (begins e) each.0 y.1)))
+        (sorted e known names x.0 sort.Any 0 seen same calls.0 x.1 plain.0 (from_none (indexes e) (left_low (indexes e) (indexes es) low)) (one_any x.0 (formal_one f x.0 y.0 (begins e) each.0 y.1)))
         (args_sorted es known names formals seen same calls.1 y.2 each.1 plain.1 (right_low (indexes e) (indexes es) low))
     args_sorted other known names formals seen same calls h each plain low = absurd (not-fine wrong_kind 0 true h)

@@ -190,7 +190,7 @@ module _ (funs : List Fun) (fs : List Function) (Q : List ℕ → Type 0) where
         let ones = binary_one op x.0 y.0 k at y.2 in
         let test : is_short op && not (is_truth fs names l) ≡ false =
             not_both (is_short op) (is_truth fs names l)
-            (λ short. sorted funs fs Q l known names x.0 sort.Truths 0 seen same calls.0 x.1 plain.0 (left_low (indexes l) (indexes r) low)
+            (λ short. sorted funs fs Q l known names x.0 sort.Truths 0 seen same calls.0 x.1 plain.0 (from_none (indexes l) (left_low (indexes l) (indexes r) low))
             (subst (λ j. SortAt j sort.Truths 0) (sym (short_left op x.0 y.0 k at short y.2)) tt)) in
         where_none t k at (if is_short op && not (is_truth fs names l) then Some at else left_out_fill fs names one l or_else left_out_fill fs names one r) ones.2 like
         (ap (λ b. if b then Some at else left_out_fill fs names one l or_else left_out_fill fs names one r) test

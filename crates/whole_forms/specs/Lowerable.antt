@@ -81,7 +81,7 @@ indexes other = 0
 -- an expression of which code can be made
 pub record IsLowerable (known : Names) (fs : List Function) (names : List Name) (e : Tree) :
     Type 0 where
-  pub names : AreSeen known names
+  pub seen : AreSeen known names
   pub calls : CallsRoutines known.funs fs e
   pub plain : IsPlain e
   pub few : indexes e < 2 ^ 32

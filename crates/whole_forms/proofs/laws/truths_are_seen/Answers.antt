@@ -7,4 +7,4 @@ use Rattle.whole_forms.proofs.laws.truths_are_seen.Goals as goal
 
 pub returns : goal.returns
 returns c = λ known fs names e may of.
-    sorted known.funs fs (λ text. Unit {0}) e known names BoolKind sort.Truths 0 may.names refl may.calls of may.plain (from_none (indexes e) may.few) tt
+    sorted known.funs fs (λ text. Unit {0}) e known names BoolKind sort.Truths 0 may.seen refl may.calls of may.plain (from_none (indexes e) may.few) tt
