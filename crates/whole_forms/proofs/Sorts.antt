@@ -19,13 +19,12 @@ use Rattle.expr_lower.specs.declared.sorts.Sort.{Sort}
 use Rattle.expr_lower.specs.declared.sorts.Sort.TheVariants as sort
 use Rattle.expr_lower.specs.Callees.{Function, function_for, function_named}
 use Rattle.expr_lower.specs.Generators.{makes_none}
-use Rattle.expr_lower.specs.ItemsSeen.{few}
 use Rattle.expr_lower.specs.Names.{Name, named}
 use Rattle.expr_lower.specs.Parted.{number_of}
 use Rattle.expr_lower.specs.Truths.{all_give, binary_gives, call_gives, gives_at, is_any, is_of_sort, is_truth_binary, is_truth_prefix, name_gives, prefix_gives, shape_gives, under_gens, with_none, with_one}
 use Rattle.expr_lower.proofs.Finding.{found_for}
-use Rattle.whole_forms.specs.Lowerable.{AreSeen, HasRoutine, IsRoutineOf, IsSeen, indexes}
-use Rattle.whole_forms.proofs.ItemsAre.{deeper, few_more, first_of_two, not_zero, one_less, second_of_two, shallower}
+use Rattle.whole_forms.specs.Lowerable.{AreSeen, HasRoutine, IsRoutineOf, IsSeen}
+use Rattle.whole_forms.proofs.ItemsAre.{not_zero, one_less}
 use Rattle.whole_forms.proofs.Like.{IsOne, one_scalar}
 use Rattle.whole_forms.proofs.Made.{IsInside, inside_gens}
 use Rattle.whole_forms.proofs.Ones.{IsItem, IsListed, and_true, binary_one, binary_truth, branch_parts, called, item_parts, known_kind, listed_kinds, or_true, prefix_one, prefix_truth}
@@ -116,24 +115,9 @@ formal_one f k j at formal h =
     let same = one-kind (kind_of_type f.shape) k j at h in
     subst IsOne (ap kind_of_type (sym formal.single) ∙ same.0) (one_scalar formal.scalar)
 
--- ---- indexes
+-- ---- generators
 
--- nothing more is said of parts on which no index is put
-pub at_first : (d a : ℕ) → d + a < 2 ^ 32 → 0 + a < 2 ^ 32
-at_first d a h = omega (arith, h)
-
-pub from_none : (a : ℕ) → a < 2 ^ 32 → 0 + a < 2 ^ 32
-from_none a h = omega (arith, h)
-
-pub lower : (d a : ℕ) → d + a < 2 ^ 32 → a < 2 ^ 32
-lower d a h = omega (arith, h)
-
-pub left_low : (a b : ℕ) → max a b < 2 ^ 32 → a < 2 ^ 32
-left_low a b h = omega (arith, h)
-
-pub right_low : (a b : ℕ) → max a b < 2 ^ 32 → b < 2 ^ 32
-right_low a b h = omega (arith, h)
-
+-- what generators' variables are seen by is seen to give such values, if it is evaluated at all
 under_sorted : (gens : Tree) (known : Names) (names : List Name) (n : ℕ) (inside : List Name → Bool) → AreSeen known names → IsPlain gens → elements_in gens known ≡ Fine n
     → ((inner : List Name) → AreSeen (with_counters gens known) inner → inside inner ≡ true) → makes_none gens || under_gens names gens inside ≡ true
 under_sorted gens known names n inside seen plain h f = go (makes_none gens) refl
@@ -172,105 +156,102 @@ module _ (funs : List Fun) (fs : List Function) (Q : List ℕ → Type 0) where
 
   mutual
     -- an expression of a kind is seen to give values of the sort of that kind
-    pub sorted : (e : Tree) (known : Names) (names : List Name) (k : Kind) (s : Sort) (d : ℕ) → AreSeen known names → known.funs ≡ funs → EachCall (HasRoutine funs fs) Q e → kind e known ≡ Fine k → IsPlain e → d + indexes e < 2 ^ 32 → SortAt k s d
+    pub sorted : (e : Tree) (known : Names) (names : List Name) (k : Kind) (s : Sort) (d : ℕ) → AreSeen known names → known.funs ≡ funs → EachCall (HasRoutine funs fs) Q e → kind e known ≡ Fine k → IsPlain e → SortAt k s d
         → gives_at s d fs names e ≡ true
-    sorted (tree.number a at) known names k s d seen same calls h plain low is =
+    sorted (tree.number a at) known names k s d seen same calls h plain is =
         let num : SortAt NumKind s d = subst (λ j. SortAt j s d) (sym (fine-is NumKind k h)) is in
         with_none_true NumKind s d (is_any s) tt num (number_any s d num)
-    sorted (tree.truth b at) known names k s d seen same calls h plain low is =
+    sorted (tree.truth b at) known names k s d seen same calls h plain is =
         with_none_true BoolKind s d true tt (subst (λ j. SortAt j s d) (sym (fine-is BoolKind k h)) is) refl
-    sorted (tree.variable text at) known names k s d seen same calls h plain low is =
+    sorted (tree.variable text at) known names k s d seen same calls h plain is =
         let x = known_kind (meant_by text known) k at h in
         let y : IsSeen names text x.0 = seen text x.0 x.1 in
         ap (λ (o : Option Name). name_gives s d (elim o [ None ↦ None | Some z ↦ Some z.shape ])) y.is
         ∙ shape_sort y.name.shape s d (subst (λ j. SortAt j s d) (sym (y.kind ∙ x.2)) is)
-    sorted (tree.call text args at) known names k s d seen same calls h plain low is =
+    sorted (tree.call text args at) known names k s d seen same calls h plain is =
         let c : IsCalled text known args k = is_called text args at known k calls.0 same h in
         let of_kind : SortAt (kind_of_scalar c.fun.result) s d = subst (λ j. SortAt j s d) (sym c.is) is in
         let result : is_of_sort s c.has.routine.result ≡ true = ap (is_of_sort s) c.has.result ∙ scalar_sort c.fun.result s d of_kind in
         with_none_true (kind_of_scalar c.fun.result) s d (call_gives s (function_for text (number_of args) fs) (all_give sort.Any 0 fs names args)) (one_scalar c.fun.result) of_kind
         (ap (λ o. call_gives s o (all_give sort.Any 0 fs names args)) c.found
-        ∙ and_true (is_of_sort s c.has.routine.result) (all_give sort.Any 0 fs names args) result (args_sorted args known names c.fun.formals seen same calls.1 c.fit c.has.formals plain (lower d (indexes args) low)))
-    sorted (tree.paren e at) known names k s d seen same calls h plain low is = sorted e known names k s d seen same calls h plain low is
-    sorted (tree.if_expr test first other at) known names k s d seen same calls h plain low is =
+        ∙ and_true (is_of_sort s c.has.routine.result) (all_give sort.Any 0 fs names args) result (args_sorted args known names c.fun.formals seen same calls.1 c.fit c.has.formals plain))
+    sorted (tree.paren e at) known names k s d seen same calls h plain is = sorted e known names k s d seen same calls h plain is
+    sorted (tree.if_expr test first other at) known names k s d seen same calls h plain is =
         let x = split (kind test known) _ k h in
         let y = split (kind first known) _ k x.2 in
         let z = split (kind other known) _ k y.2 in
         let b = branch_parts x.0 y.0 z.0 k at z.2 in
-        let both = second_of_two d (indexes test) (max (indexes first) (indexes other)) low in
         and_true (gives_at s d fs names first) (gives_at s d fs names other)
-        (sorted first known names k s d seen same calls.1 (y.1 ∙ ap Fine b.1) plain.1 (first_of_two d (indexes first) (indexes other) both) is)
-        (sorted other known names k s d seen same calls.2 (z.1 ∙ ap Fine b.2) plain.2 (second_of_two d (indexes first) (indexes other) both) is)
-    sorted (tree.list es at) known names k s zero seen same calls h plain low is =
+        (sorted first known names k s d seen same calls.1 (y.1 ∙ ap Fine b.1) plain.1 is)
+        (sorted other known names k s d seen same calls.2 (z.1 ∙ ap Fine b.2) plain.2 is)
+    sorted (tree.list es at) known names k s zero seen same calls h plain is =
         let ks = split (kinds es known) _ k h in
         let l : IsListed ks.0 k = listed_kinds ks.0 k at ks.2 in
         let none : ⊥ = subst (λ j. SortAt j s 0) (sym l.is) is in
         absurd none
-    sorted (tree.list es at) known names k s (suc d) seen same calls h plain low is =
+    sorted (tree.list es at) known names k s (suc d) seen same calls h plain is =
         let ks = split (kinds es known) _ k h in
         let l : IsListed ks.0 k = listed_kinds ks.0 k at ks.2 in
         with_one_true d (λ j. all_give s j fs names es)
-        (all_sorted es known names ks.0 l.item s d seen same calls ks.1 l.all plain (shallower d (indexes es) low) (subst (λ j. SortAt j s (suc d)) (sym l.is) is))
-    sorted (tree.comp item gens at) known names k s zero seen same calls h plain low is =
+        (all_sorted es known names ks.0 l.item s d seen same calls ks.1 l.all plain (subst (λ j. SortAt j s (suc d)) (sym l.is) is))
+    sorted (tree.comp item gens at) known names k s zero seen same calls h plain is =
         let i = split (kind item (with_counters gens known)) _ k h in
         let m = split (elements_in gens known) _ k i.2 in
         let none : ⊥ = subst (λ j. SortAt j s 0) (sym (list-of-kind m.0 i.0 k at m.2)) is in
         absurd none
-    sorted (tree.comp item gens at) known names k s (suc d) seen same calls h plain low is =
+    sorted (tree.comp item gens at) known names k s (suc d) seen same calls h plain is =
         let i = split (kind item (with_counters gens known)) _ k h in
         let m = split (elements_in gens known) _ k i.2 in
         let of_item : SortAt i.0 s d = subst (λ j. SortAt j s (suc d)) (sym (list-of-kind m.0 i.0 k at m.2)) is in
         with_one_true d (λ j. makes_none gens || under_gens names gens (λ inner. gives_at s j fs inner item))
         (under_sorted gens known names m.0 (λ inner. gives_at s d fs inner item) seen plain.1 m.1
-        (λ inner inside. sorted item (with_counters gens known) inner i.0 s d inside (funs_counters gens known ∙ same) calls.0 i.1 plain.0 (shallower d (indexes item) low) of_item))
-    sorted (tree.index base place at) known names k s d seen same calls h plain low is =
+        (λ inner inside. sorted item (with_counters gens known) inner i.0 s d inside (funs_counters gens known ∙ same) calls.0 i.1 plain.0 of_item))
+    sorted (tree.index base place at) known names k s d seen same calls h plain is =
         let x = split (kind base known) _ k h in
         let y = split (kind place known) _ k x.2 in
         let i : IsItem x.0 y.0 k = item_parts x.0 y.0 k at y.2 in
-        let more = deeper d (indexes base) (indexes place) low in
-        ap (λ (o : Option ℕ). elim o [ None ↦ false | Some j ↦ gives_at s j fs names base ]) (few_more d more.0)
-        ∙ sorted base known names x.0 s (suc d) seen same calls.0 x.1 plain.0 more.1 (subst (λ j. SortAt j s (suc d)) (sym i.list) is)
-    sorted (tree.prefix op e at) known names k s d seen same calls h plain low is =
+        sorted base known names x.0 s (suc d) seen same calls.0 x.1 plain.0 (subst (λ j. SortAt j s (suc d)) (sym i.list) is)
+    sorted (tree.prefix op e at) known names k s d seen same calls h plain is =
         let x = split (kind e known) _ k h in
         let ones = prefix_one op x.0 k at x.2 in
         with_none_true k s d (prefix_gives s op (gives_at sort.Any 0 fs names e)) ones.1 is
         (prefix_sort s op x.0 k d at (gives_at sort.Any 0 fs names e) x.2 ones.1 is
-        (sorted e known names x.0 sort.Any 0 seen same calls x.1 plain (at_first d (indexes e) low) (one_any x.0 ones.0)))
-    sorted (tree.binary op l r at) known names k s d seen same calls h plain low is =
+        (sorted e known names x.0 sort.Any 0 seen same calls x.1 plain (one_any x.0 ones.0)))
+    sorted (tree.binary op l r at) known names k s d seen same calls h plain is =
         let x = split (kind l known) _ k h in
         let y = split (kind r known) _ k x.2 in
         let ones = binary_one op x.0 y.0 k at y.2 in
         with_none_true k s d (binary_gives s op (gives_at sort.Any 0 fs names l) (gives_at sort.Any 0 fs names r)) ones.2 is
         (binary_sort s op x.0 y.0 k d at (gives_at sort.Any 0 fs names l) (gives_at sort.Any 0 fs names r) y.2 ones.2 is
-        (sorted l known names x.0 sort.Any 0 seen same calls.0 x.1 plain.0 (at_first d (indexes l) (first_of_two d (indexes l) (indexes r) low)) (one_any x.0 ones.0))
-        (sorted r known names y.0 sort.Any 0 seen same calls.1 y.1 plain.1 (at_first d (indexes r) (second_of_two d (indexes l) (indexes r) low)) (one_any y.0 ones.1)))
-    sorted other known names k s d seen same calls h plain low is = absurd (not-fine wrong_kind 0 k h)
+        (sorted l known names x.0 sort.Any 0 seen same calls.0 x.1 plain.0 (one_any x.0 ones.0))
+        (sorted r known names y.0 sort.Any 0 seen same calls.1 y.1 plain.1 (one_any y.0 ones.1)))
+    sorted other known names k s d seen same calls h plain is = absurd (not-fine wrong_kind 0 k h)
 
     -- .. so each of some that are of one kind
     all_sorted : (es : Tree) (known : Names) (names : List Name) (ks : List Kind) (item : Kind) (s : Sort) (d : ℕ) → AreSeen known names → known.funs ≡ funs → EachCall (HasRoutine funs fs) Q es → kinds es known ≡ Fine ks → AreAll item ks → IsPlain es
-        → d + indexes es < 2 ^ 32 → SortAt item s d → all_give s d fs names es ≡ true
-    all_sorted tree.nil known names ks item s d seen same calls h all plain low is = refl
-    all_sorted (tree.cons e es) known names ks item s d seen same calls h all plain low is =
+        → SortAt item s d → all_give s d fs names es ≡ true
+    all_sorted tree.nil known names ks item s d seen same calls h all plain is = refl
+    all_sorted (tree.cons e es) known names ks item s d seen same calls h all plain is =
         let k = split (kind e known) _ ks h in
         let more = split (kinds es known) _ ks k.2 in
         let each : AreAll item (k.0 ∷ more.0) = subst (AreAll item) (sym (fine-is (k.0 ∷ more.0) ks more.2)) all in
         and_true (gives_at s d fs names e) (all_give s d fs names es)
-        (sorted e known names k.0 s d seen same calls.0 k.1 plain.0 (first_of_two d (indexes e) (indexes es) low) (subst (λ j. SortAt j s d) (sym each.0) is))
-        (all_sorted es known names more.0 item s d seen same calls.1 more.1 each.1 plain.1 (second_of_two d (indexes e) (indexes es) low) is)
-    all_sorted other known names ks item s d seen same calls h all plain low is = absurd (not-fine wrong_kind 0 ks h)
+        (sorted e known names k.0 s d seen same calls.0 k.1 plain.0 (subst (λ j. SortAt j s d) (sym each.0) is))
+        (all_sorted es known names more.0 item s d seen same calls.1 more.1 each.1 plain.1 is)
+    all_sorted other known names ks item s d seen same calls h all plain is = absurd (not-fine wrong_kind 0 ks h)
 
     -- .. and each of arguments
     args_sorted : (es : Tree) (known : Names) (names : List Name) (formals : List Local) → AreSeen known names → known.funs ≡ funs → EachCall (HasRoutine funs fs) Q es → arguments_fit es formals known ≡ Fine true → Each IsFormal formals → IsPlain es
-        → indexes es < 2 ^ 32 → all_give sort.Any 0 fs names es ≡ true
-    args_sorted tree.nil known names formals seen same calls h each plain low = refl
-    args_sorted (tree.cons e es) known names [] seen same calls h each plain low =
+        → all_give sort.Any 0 fs names es ≡ true
+    args_sorted tree.nil known names formals seen same calls h each plain = refl
+    args_sorted (tree.cons e es) known names [] seen same calls h each plain =
         let x = split (kind e known) _ true h in
         let y = split (arguments_fit es [] known) _ true x.2 in
         let none : false ≡ true = fine-is false true y.2 in absurd (cc)
-    args_sorted (tree.cons e es) known names (f ∷ formals) seen same calls h each plain low =
+    args_sorted (tree.cons e es) known names (f ∷ formals) seen same calls h each plain =
         let x = split (kind e known) _ true h in
         let y = split (one_kind (kind_of_type f.shape) x.0 (begins e)) _ true x.2 in
         and_true (gives_at sort.Any 0 fs names e) (all_give sort.Any 0 fs names es)
-        (sorted e known names x.0 sort.Any 0 seen same calls.0 x.1 plain.0 (from_none (indexes e) (left_low (indexes e) (indexes es) low)) (one_any x.0 (formal_one f x.0 y.0 (begins e) each.0 y.1)))
-        (args_sorted es known names formals seen same calls.1 y.2 each.1 plain.1 (right_low (indexes e) (indexes es) low))
-    args_sorted other known names formals seen same calls h each plain low = absurd (not-fine wrong_kind 0 true h)
+        (sorted e known names x.0 sort.Any 0 seen same calls.0 x.1 plain.0 (one_any x.0 (formal_one f x.0 y.0 (begins e) each.0 y.1)))
+        (args_sorted es known names formals seen same calls.1 y.2 each.1 plain.1)
+    args_sorted other known names formals seen same calls h each plain = absurd (not-fine wrong_kind 0 true h)

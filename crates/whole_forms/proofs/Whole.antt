@@ -23,14 +23,14 @@ use Rattle.expr_lower.specs.Listed.{list_named}
 use Rattle.expr_lower.specs.Names.{Name, named}
 use Rattle.expr_lower.specs.Parted.{Part, alike, deep_named, number_of, part_at, part_named, sized}
 use Rattle.expr_lower.specs.Truths.{is_truth}
-use Rattle.whole_forms.specs.Lowerable.{AreSeen, HasRoutine, IsLike, IsSeen, indexes}
-use Rattle.whole_forms.proofs.ItemsAre.{HasItems, deeper, items_are, kinds_count}
+use Rattle.whole_forms.specs.Lowerable.{AreSeen, HasRoutine, IsLike, IsSeen}
+use Rattle.whole_forms.proofs.ItemsAre.{HasItems, items_are, kinds_count}
 use Rattle.whole_forms.proofs.Like.{IsOne, IsWithin, both_alike, like_kind, like_one, list_few, one_like, one_scalar, sized_like, where_none}
 use Rattle.whole_forms.proofs.Made.{IsInside, Made, inside_gens, made_by_is, made_seen}
 use Rattle.whole_forms.proofs.Ones.{IsItem, IsListed, binary_one, branch_parts, item_parts, known_kind, listed_kinds, not_both, prefix_one, short_left}
 use Rattle.whole_forms.proofs.Parts.{IsPartMeant, part_meant}
 use Rattle.whole_forms.proofs.SeenNames.{IsListKind, funs_counters, known_within, lists_seen, whole_seen}
-use Rattle.whole_forms.proofs.Sorts.{IsCalled, SortAt, fit_count, from_none, formal_one, is_called, left_low, lower, right_low, sorted}
+use Rattle.whole_forms.proofs.Sorts.{IsCalled, SortAt, formal_one, is_called, sorted}
 use Rattle.whole_forms.proofs.Within.{within}
 
 -- ---- of parts
@@ -105,38 +105,37 @@ made_left gens known names n inside seen plain h f = go (makes_none gens) refl
 module _ (funs : List Fun) (fs : List Function) (Q : List ℕ → Type 0) where
   mutual
     -- nothing is left out of an expression
-    pub filled : (e : Tree) (known : Names) (names : List Name) (k : Kind) (t : Shape) → AreSeen known names → known.funs ≡ funs → EachCall (HasRoutine funs fs) Q e → kind e known ≡ Fine k → IsPlain e → indexes e < 2 ^ 32 → IsLike t k
+    pub filled : (e : Tree) (known : Names) (names : List Name) (k : Kind) (t : Shape) → AreSeen known names → known.funs ≡ funs → EachCall (HasRoutine funs fs) Q e → kind e known ≡ Fine k → IsPlain e → IsLike t k
         → left_out_fill fs names t e ≡ None
-    filled (tree.number a at) known names k t seen same calls h plain low like =
+    filled (tree.number a at) known names k t seen same calls h plain like =
         where_none t NumKind at None tt (subst (IsLike t) (sym (fine-is NumKind k h)) like) refl
-    filled (tree.truth b at) known names k t seen same calls h plain low like =
+    filled (tree.truth b at) known names k t seen same calls h plain like =
         where_none t BoolKind at None tt (subst (IsLike t) (sym (fine-is BoolKind k h)) like) refl
-    filled (tree.variable text at) known names k t seen same calls h plain low like =
+    filled (tree.variable text at) known names k t seen same calls h plain like =
         let x = known_kind (meant_by text known) k at h in
         name_left t names text at x.0 k (seen text x.0 x.1) x.2 like
-    filled (tree.call text args at) known names k t seen same calls h plain low like =
+    filled (tree.call text args at) known names k t seen same calls h plain like =
         let c : IsCalled funs fs Q text known args k = is_called funs fs Q text args at known k calls.0 same h in
         where_none t k at (elim (function_for text (number_of args) fs) [ None ↦ Some at | Some f ↦ left_out_args fs names args ]) (subst IsOne c.is (one_scalar c.fun.result)) like
         (ap (λ (o : Option Function). elim o [ None ↦ Some at | Some f ↦ left_out_args fs names args ]) c.found
-        ∙ args_filled args known names c.fun.formals seen same calls.1 c.fit c.has.formals plain low)
-    filled (tree.paren e at) known names k t seen same calls h plain low like = filled e known names k t seen same calls h plain low like
-    filled (tree.if_expr test first other at) known names k t seen same calls h plain low like =
+        ∙ args_filled args known names c.fun.formals seen same calls.1 c.fit c.has.formals plain)
+    filled (tree.paren e at) known names k t seen same calls h plain like = filled e known names k t seen same calls h plain like
+    filled (tree.if_expr test first other at) known names k t seen same calls h plain like =
         let x = split (kind test known) _ k h in
         let y = split (kind first known) _ k x.2 in
         let z = split (kind other known) _ k y.2 in
         let b = branch_parts x.0 y.0 z.0 k at z.2 in
-        let both = right_low (indexes test) (max (indexes first) (indexes other)) low in
         neither (left_out_fill fs names one test) (left_out_fill fs names t first or_else left_out_fill fs names t other)
-        (filled test known names x.0 one seen same calls.0 x.1 plain.0 (left_low (indexes test) (max (indexes first) (indexes other)) low) (one_like scalar.Bool x.0 (subst IsOne (sym b.0) tt)))
+        (filled test known names x.0 one seen same calls.0 x.1 plain.0 (one_like scalar.Bool x.0 (subst IsOne (sym b.0) tt)))
         (neither (left_out_fill fs names t first) (left_out_fill fs names t other)
-        (filled first known names k t seen same calls.1 (y.1 ∙ ap Fine b.1) plain.1 (left_low (indexes first) (indexes other) both) like)
-        (filled other known names k t seen same calls.2 (z.1 ∙ ap Fine b.2) plain.2 (right_low (indexes first) (indexes other) both) like))
-    filled (tree.list es at) known names k t seen same calls h plain low like =
+        (filled first known names k t seen same calls.1 (y.1 ∙ ap Fine b.1) plain.1 like)
+        (filled other known names k t seen same calls.2 (z.1 ∙ ap Fine b.2) plain.2 like))
+    filled (tree.list es at) known names k t seen same calls h plain like =
         let ks = split (kinds es known) _ k h in
         let l : IsListed ks.0 k = listed_kinds ks.0 k at ks.2 in
         many_left t at (length ks.0) l.item (Some (number_of es)) (λ items. left_out_fills fs names items es) (subst (IsLike t) (sym l.is) like) (ap Some (kinds_count es known ks.0 ks.1))
-        (λ items of_item. fills es known names ks.0 l.item items seen same calls ks.1 l.all plain low of_item)
-    filled (tree.comp item gens at) known names k t seen same calls h plain low like =
+        (λ items of_item. fills es known names ks.0 l.item items seen same calls ks.1 l.all plain of_item)
+    filled (tree.comp item gens at) known names k t seen same calls h plain like =
         let i = split (kind item (with_counters gens known)) _ k h in
         let m = split (elements_in gens known) _ k i.2 in
         many_left t at m.0 i.0 (made_by gens)
@@ -144,98 +143,93 @@ module _ (funs : List Fun) (fs : List Function) (Q : List ℕ → Type 0) where
         (subst (IsLike t) (sym (list-of-kind m.0 i.0 k at m.2)) like) (made_by_is gens m.0 (made_seen gens known m.0 plain.1 m.1) (list_few m.0 at i.0 k m.2).0)
         (λ items of_item. made_left gens known names m.0 (λ inner. left_out_element items (left_out_fill fs inner one item) (left_out_fill fs inner items item)) seen plain.1 m.1
         (λ inner inside. element_left items i.0 (left_out_fill fs inner one item) (left_out_fill fs inner items item) of_item
-        (λ single. filled item (with_counters gens known) inner i.0 one inside (funs_counters gens known ∙ same) calls.0 i.1 plain.0 low single)
-        (filled item (with_counters gens known) inner i.0 items inside (funs_counters gens known ∙ same) calls.0 i.1 plain.0 low of_item)))
-    filled (tree.index base place at) known names k (Single s) seen same calls h plain low like =
+        (λ single. filled item (with_counters gens known) inner i.0 one inside (funs_counters gens known ∙ same) calls.0 i.1 plain.0 single)
+        (filled item (with_counters gens known) inner i.0 items inside (funs_counters gens known ∙ same) calls.0 i.1 plain.0 of_item)))
+    filled (tree.index base place at) known names k (Single s) seen same calls h plain like =
         let x = split (kind base known) _ k h in
         let y = split (kind place known) _ k x.2 in
         let i : IsItem x.0 y.0 k = item_parts x.0 y.0 k at y.2 in
-        let more = deeper 0 (indexes base) (indexes place) (from_none (suc (max (indexes base) (indexes place))) low) in
-        let base_low : indexes base < 2 ^ 32 = lower 1 (indexes base) more.1 in
         let of_one : IsLike one k = one_like scalar.Bool k (like_one s k like) in
         let whole : IsLike (Many i.count one) x.0 = subst (IsLike (Many i.count one)) (sym i.list) (refl, of_one) in
-        let no_place : left_out_fill fs names one place ≡ None = filled place known names y.0 one seen same calls.1 y.1 plain.1 more.2 (one_like scalar.Bool y.0 (subst IsOne (sym i.place) tt)) in
-        let no_places : left_out_places fs names base ≡ None = places base known names x.0 seen same calls.0 x.1 plain.0 base_low in
+        let no_place : left_out_fill fs names one place ≡ None = filled place known names y.0 one seen same calls.1 y.1 plain.1 (one_like scalar.Bool y.0 (subst IsOne (sym i.place) tt)) in
+        let no_places : left_out_places fs names base ≡ None = places base known names x.0 seen same calls.0 x.1 plain.0 in
         single_index (list_named names base) (deep_named names (tree.index base place at)) (left_out_fill fs names one place) (left_out_places fs names base or_else left_out_fill fs names one place)
         (left_out_apart (items_seen names base 0) one at (λ list. left_out_fill fs names list base) (left_out_fill fs names one place))
         no_place (neither (left_out_places fs names base) (left_out_fill fs names one place) no_places no_place)
         (apart_left (items_seen names base 0) i.count (scalars_of_kind x.0) at one (λ list. left_out_fill fs names list base) (left_out_fill fs names one place)
-        (items_are base known names x.0 0 i.count (lists_seen known names seen) x.1 plain.0 (from_none (indexes base) base_low) (subst (λ j. HasItems j 0 i.count) (sym i.list) refl))
+        (items_are base known names x.0 0 i.count (lists_seen known names seen) x.1 plain.0 (subst (λ j. HasItems j 0 i.count) (sym i.list) refl))
         (sized_like (Many i.count one) x.0 whole (within base known x.0 (known_within known names seen) x.1))
-        (filled base known names x.0 (Many i.count one) seen same calls.0 x.1 plain.0 base_low whole) no_place)
-    filled (tree.index base place at) known names k (Many n items) seen same calls h plain low like =
+        (filled base known names x.0 (Many i.count one) seen same calls.0 x.1 plain.0 whole) no_place)
+    filled (tree.index base place at) known names k (Many n items) seen same calls h plain like =
         let x = split (kind base known) _ k h in
         let y = split (kind place known) _ k x.2 in
         let i : IsItem x.0 y.0 k = item_parts x.0 y.0 k at y.2 in
-        let more = deeper 0 (indexes base) (indexes place) (from_none (suc (max (indexes base) (indexes place))) low) in
-        let base_low : indexes base < 2 ^ 32 = lower 1 (indexes base) more.1 in
         let whole : IsLike (Many i.count (Many n items)) x.0 = subst (IsLike (Many i.count (Many n items))) (sym i.list) (refl, like) in
-        let no_place : left_out_fill fs names one place ≡ None = filled place known names y.0 one seen same calls.1 y.1 plain.1 more.2 (one_like scalar.Bool y.0 (subst IsOne (sym i.place) tt)) in
-        let no_places : left_out_places fs names base ≡ None = places base known names x.0 seen same calls.0 x.1 plain.0 base_low in
+        let no_place : left_out_fill fs names one place ≡ None = filled place known names y.0 one seen same calls.1 y.1 plain.1 (one_like scalar.Bool y.0 (subst IsOne (sym i.place) tt)) in
+        let no_places : left_out_places fs names base ≡ None = places base known names x.0 seen same calls.0 x.1 plain.0 in
         list_index (part_named names (tree.index base place at)) (Many n items) at (left_out_places fs names base or_else left_out_fill fs names one place)
         (left_out_apart (items_seen names base 0) (Many n items) at (λ list. left_out_fill fs names list base) (left_out_fill fs names one place))
         (λ p e. part_meant base place at known names k p n items seen h e like)
         (neither (left_out_places fs names base) (left_out_fill fs names one place) no_places no_place)
         (apart_left (items_seen names base 0) i.count (scalars_of_kind x.0) at (Many n items) (λ list. left_out_fill fs names list base) (left_out_fill fs names one place)
-        (items_are base known names x.0 0 i.count (lists_seen known names seen) x.1 plain.0 (from_none (indexes base) base_low) (subst (λ j. HasItems j 0 i.count) (sym i.list) refl))
+        (items_are base known names x.0 0 i.count (lists_seen known names seen) x.1 plain.0 (subst (λ j. HasItems j 0 i.count) (sym i.list) refl))
         (sized_like (Many i.count (Many n items)) x.0 whole (within base known x.0 (known_within known names seen) x.1))
-        (filled base known names x.0 (Many i.count (Many n items)) seen same calls.0 x.1 plain.0 base_low whole) no_place)
-    filled (tree.prefix op e at) known names k t seen same calls h plain low like =
+        (filled base known names x.0 (Many i.count (Many n items)) seen same calls.0 x.1 plain.0 whole) no_place)
+    filled (tree.prefix op e at) known names k t seen same calls h plain like =
         let x = split (kind e known) _ k h in
         let ones = prefix_one op x.0 k at x.2 in
-        where_none t k at (left_out_fill fs names one e) ones.1 like (filled e known names x.0 one seen same calls x.1 plain low (one_like scalar.Bool x.0 ones.0))
-    filled (tree.binary op l r at) known names k t seen same calls h plain low like =
+        where_none t k at (left_out_fill fs names one e) ones.1 like (filled e known names x.0 one seen same calls x.1 plain (one_like scalar.Bool x.0 ones.0))
+    filled (tree.binary op l r at) known names k t seen same calls h plain like =
         let x = split (kind l known) _ k h in
         let y = split (kind r known) _ k x.2 in
         let ones = binary_one op x.0 y.0 k at y.2 in
         let test : is_short op && not (is_truth fs names l) ≡ false =
             not_both (is_short op) (is_truth fs names l)
-            (λ short. sorted funs fs Q l known names x.0 sort.Truths 0 seen same calls.0 x.1 plain.0 (from_none (indexes l) (left_low (indexes l) (indexes r) low))
+            (λ short. sorted funs fs Q l known names x.0 sort.Truths 0 seen same calls.0 x.1 plain.0
             (subst (λ j. SortAt j sort.Truths 0) (sym (short_left op x.0 y.0 k at short y.2)) tt)) in
         where_none t k at (if is_short op && not (is_truth fs names l) then Some at else left_out_fill fs names one l or_else left_out_fill fs names one r) ones.2 like
         (ap (λ b. if b then Some at else left_out_fill fs names one l or_else left_out_fill fs names one r) test
         ∙ neither (left_out_fill fs names one l) (left_out_fill fs names one r)
-        (filled l known names x.0 one seen same calls.0 x.1 plain.0 (left_low (indexes l) (indexes r) low) (one_like scalar.Bool x.0 ones.0))
-        (filled r known names y.0 one seen same calls.1 y.1 plain.1 (right_low (indexes l) (indexes r) low) (one_like scalar.Bool y.0 ones.1)))
-    filled other known names k t seen same calls h plain low like = absurd (not-fine wrong_kind 0 k h)
+        (filled l known names x.0 one seen same calls.0 x.1 plain.0 (one_like scalar.Bool x.0 ones.0))
+        (filled r known names y.0 one seen same calls.1 y.1 plain.1 (one_like scalar.Bool y.0 ones.1)))
+    filled other known names k t seen same calls h plain like = absurd (not-fine wrong_kind 0 k h)
 
     -- .. of some that are of one kind
-    pub fills : (es : Tree) (known : Names) (names : List Name) (ks : List Kind) (item : Kind) (t : Shape) → AreSeen known names → known.funs ≡ funs → EachCall (HasRoutine funs fs) Q es → kinds es known ≡ Fine ks → AreAll item ks → IsPlain es → indexes es < 2 ^ 32 → IsLike t item
+    pub fills : (es : Tree) (known : Names) (names : List Name) (ks : List Kind) (item : Kind) (t : Shape) → AreSeen known names → known.funs ≡ funs → EachCall (HasRoutine funs fs) Q es → kinds es known ≡ Fine ks → AreAll item ks → IsPlain es → IsLike t item
         → left_out_fills fs names t es ≡ None
-    fills tree.nil known names ks item t seen same calls h all plain low like = refl
-    fills (tree.cons e es) known names ks item t seen same calls h all plain low like =
+    fills tree.nil known names ks item t seen same calls h all plain like = refl
+    fills (tree.cons e es) known names ks item t seen same calls h all plain like =
         let k = split (kind e known) _ ks h in
         let more = split (kinds es known) _ ks k.2 in
         let each : AreAll item (k.0 ∷ more.0) = subst (AreAll item) (sym (fine-is (k.0 ∷ more.0) ks more.2)) all in
         neither (left_out_fill fs names t e) (left_out_fills fs names t es)
-        (filled e known names k.0 t seen same calls.0 k.1 plain.0 (left_low (indexes e) (indexes es) low) (subst (IsLike t) (sym each.0) like))
-        (fills es known names more.0 item t seen same calls.1 more.1 each.1 plain.1 (right_low (indexes e) (indexes es) low) like)
-    fills other known names ks item t seen same calls h all plain low like = absurd (not-fine wrong_kind 0 ks h)
+        (filled e known names k.0 t seen same calls.0 k.1 plain.0 (subst (IsLike t) (sym each.0) like))
+        (fills es known names more.0 item t seen same calls.1 more.1 each.1 plain.1 like)
+    fills other known names ks item t seen same calls h all plain like = absurd (not-fine wrong_kind 0 ks h)
 
     -- .. of the indexes of a chain
-    places : (e : Tree) (known : Names) (names : List Name) (k : Kind) → AreSeen known names → known.funs ≡ funs → EachCall (HasRoutine funs fs) Q e → kind e known ≡ Fine k → IsPlain e → indexes e < 2 ^ 32 → left_out_places fs names e ≡ None
-    places (tree.index base place at) known names k seen same calls h plain low =
+    places : (e : Tree) (known : Names) (names : List Name) (k : Kind) → AreSeen known names → known.funs ≡ funs → EachCall (HasRoutine funs fs) Q e → kind e known ≡ Fine k → IsPlain e → left_out_places fs names e ≡ None
+    places (tree.index base place at) known names k seen same calls h plain =
         let x = split (kind base known) _ k h in
         let y = split (kind place known) _ k x.2 in
         let i : IsItem x.0 y.0 k = item_parts x.0 y.0 k at y.2 in
-        let more = deeper 0 (indexes base) (indexes place) (from_none (suc (max (indexes base) (indexes place))) low) in
         neither (left_out_places fs names base) (left_out_fill fs names one place)
-        (places base known names x.0 seen same calls.0 x.1 plain.0 (lower 1 (indexes base) more.1))
-        (filled place known names y.0 one seen same calls.1 y.1 plain.1 more.2 (one_like scalar.Bool y.0 (subst IsOne (sym i.place) tt)))
-    places other known names k seen same calls h plain low = refl
+        (places base known names x.0 seen same calls.0 x.1 plain.0)
+        (filled place known names y.0 one seen same calls.1 y.1 plain.1 (one_like scalar.Bool y.0 (subst IsOne (sym i.place) tt)))
+    places other known names k seen same calls h plain = refl
 
     -- .. of arguments
     pub args_filled : (es : Tree) (known : Names) (names : List Name) (formals : List Local) → AreSeen known names → known.funs ≡ funs → EachCall (HasRoutine funs fs) Q es → arguments_fit es formals known ≡ Fine true → Each IsFormal formals → IsPlain es
-        → indexes es < 2 ^ 32 → left_out_args fs names es ≡ None
-    args_filled tree.nil known names formals seen same calls h each plain low = refl
-    args_filled (tree.cons e es) known names [] seen same calls h each plain low =
+        → left_out_args fs names es ≡ None
+    args_filled tree.nil known names formals seen same calls h each plain = refl
+    args_filled (tree.cons e es) known names [] seen same calls h each plain =
         let x = split (kind e known) _ true h in
         let y = split (arguments_fit es [] known) _ true x.2 in
         let none : false ≡ true = fine-is false true y.2 in absurd (cc)
-    args_filled (tree.cons e es) known names (f ∷ formals) seen same calls h each plain low =
+    args_filled (tree.cons e es) known names (f ∷ formals) seen same calls h each plain =
         let x = split (kind e known) _ true h in
         let y = split (one_kind (kind_of_type f.shape) x.0 (begins e)) _ true x.2 in
         neither (left_out_fill fs names one e) (left_out_args fs names es)
-        (filled e known names x.0 one seen same calls.0 x.1 plain.0 (left_low (indexes e) (indexes es) low) (one_like scalar.Bool x.0 (formal_one f x.0 y.0 (begins e) each.0 y.1)))
-        (args_filled es known names formals seen same calls.1 y.2 each.1 plain.1 (right_low (indexes e) (indexes es) low))
-    args_filled other known names formals seen same calls h each plain low = absurd (not-fine wrong_kind 0 true h)
+        (filled e known names x.0 one seen same calls.0 x.1 plain.0 (one_like scalar.Bool x.0 (formal_one f x.0 y.0 (begins e) each.0 y.1)))
+        (args_filled es known names formals seen same calls.1 y.2 each.1 plain.1)
+    args_filled other known names formals seen same calls h each plain = absurd (not-fine wrong_kind 0 true h)

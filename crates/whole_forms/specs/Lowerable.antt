@@ -1,7 +1,6 @@
 -- Expressions whose names and functions the code has, and whose sizes and bounds are written out.
 -- Trusted: part of what a promise means.
-use Rattle.std.specs.Prelude.{◌≡◌, ℕ, suc, ◌<◌, ◌^◌, max, List, length, Option, None, Some}
-use Rattle.cal_ast.specs.Tree as tree
+use Rattle.std.specs.Prelude.{◌≡◌, ℕ, List, length, Some}
 use Rattle.cal_ast.specs.Tree.{Tree}
 use Rattle.cal_model.specs.Value.{Kind, NumKind, BoolKind, ListKind, Shape, Single, Many, IsType, kind_of_type}
 use Rattle.cal_model.specs.Actor.{Fun}
@@ -64,24 +63,9 @@ CallsRoutines funs fs e = EachCall (HasRoutine funs fs) (λ text. Unit {0}) e
 
 -- ---- expressions
 
--- how deep indexes nest in an expression, of which types and bounds aren't looked at
-abbrev pub indexes : Tree → ℕ
-indexes (tree.cons e es) = max (indexes e) (indexes es)
-indexes (tree.call text args at) = indexes args
-indexes (tree.paren e at) = indexes e
-indexes (tree.if_expr test first other at) =
-    max (indexes test) (max (indexes first) (indexes other))
-indexes (tree.list es at) = indexes es
-indexes (tree.comp item gens at) = indexes item
-indexes (tree.index base place at) = suc (max (indexes base) (indexes place))
-indexes (tree.prefix op e at) = indexes e
-indexes (tree.binary op l r at) = max (indexes l) (indexes r)
-indexes other = 0
-
 -- an expression of which code can be made
 pub record IsLowerable (known : Names) (fs : List Function) (names : List Name) (e : Tree) :
     Type 0 where
   pub seen : AreSeen known names
   pub calls : CallsRoutines known.funs fs e
   pub plain : IsPlain e
-  pub few : indexes e < 2 ^ 32
