@@ -10,3 +10,4 @@ pub mod Within
 pub mod Parts
 pub mod Whole
 pub mod Calls
+mod Rows
