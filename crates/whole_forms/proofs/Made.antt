@@ -1,5 +1,5 @@
 -- Generators whose types and bounds are written out are seen to make as many elements as are judged.
-use Rattle.std.proofs.Common.{◌≡◌, ℕ, zero, suc, ◌*◌, ◌<◌, ◌≤◌, ◌^◌, ℤ, Bool, true, false, List, ◌∷◌, refl, sym, ap, ◌∙◌, subst, Option, None, Some, arith}
+use Rattle.std.proofs.Common.{◌≡◌, ℕ, zero, suc, ◌*◌, ◌≤◌, ◌^◌, ℤ, Bool, true, false, List, ◌∷◌, refl, sym, ap, ◌∙◌, subst, Option, None, Some, arith}
 use Rattle.std.specs.Prelude.{◌||◌, ◌-ℤ◌, if◌then◌else◌, int_lt, nat_lt, unsigned_abs}
 use Rattle.std.proofs.lemmas.Bool.Decides.{nat_tests}
 use Rattle.rvc_base.specs.declared.scalar.Scalar.{Scalar}
@@ -9,16 +9,15 @@ use Rattle.rvc_base.specs.Storing.{IsSize}
 use Rattle.cal_ast.specs.Places.{begins}
 use Rattle.cal_ast.specs.Tree as tree
 use Rattle.cal_ast.specs.Tree.{Tree}
-use Rattle.cal_model.specs.Value.{NumKind, Shape, Single, Many, kind_of_scalar, kind_of_type, max_list_scalars}
+use Rattle.cal_model.specs.Value.{NumKind, Shape, Single, Many, kind_of_scalar, max_list_scalars}
 use Rattle.cal_model.specs.Expression.{span}
-use Rattle.cal_model.specs.Kinding.{Fine, Known, Names, constant_number, counter, counts, elements_in, kind, type_judged, with_counters, with_known}
-use Rattle.cal_model.specs.Sound.{IsPlain, IsWrittenOut}
+use Rattle.cal_model.specs.Kinding.{Fine, Names, constant_number, counter, counts, elements_in, kind, type_judged, with_counters, with_known}
+use Rattle.cal_model.specs.Sound.{IsPlain}
 use Rattle.cal_model.proofs.KindValues.{fine-is, not-fine, split}
 use Rattle.expr_lower.specs.Bounds.{bound_of}
 use Rattle.expr_lower.specs.Generators.{Counted, counted_by, how_many, made_by, makes_none, ranged, ranged_by, some_counted, spanned, times}
 use Rattle.expr_lower.specs.Growing.{left_out_gens}
-use Rattle.expr_lower.specs.Meant.{single_meant}
-use Rattle.expr_lower.specs.Names.{Name, local, local_of}
+use Rattle.expr_lower.specs.Names.{Name, local}
 use Rattle.expr_lower.specs.Truths.{under_gens}
 use Rattle.expr_lower.proofs.Generated.{IsRange, range}
 use Rattle.whole_forms.specs.Lowerable.{AreSeen}

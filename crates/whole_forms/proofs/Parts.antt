@@ -1,19 +1,17 @@
 -- Parts of named lists that chains of indexes give are of the kinds of these chains.
-use Rattle.std.proofs.Common.{◌≡◌, ◌≢◌, ℕ, Bool, true, false, List, refl, sym, ap, ◌∙◌, subst, Option, None, Some}
-use Rattle.std.specs.Prelude.{if◌then◌else◌}
-use Rattle.rvc_base.specs.declared.scalar.Scalar.{Scalar}
+use Rattle.std.proofs.Common.{◌≡◌, ℕ, true, List, refl, sym, ap, ◌∙◌, subst, Option, Some}
 use Rattle.cal_ast.specs.Tree as tree
 use Rattle.cal_ast.specs.Tree.{Tree}
 use Rattle.cal_model.specs.Value.{Kind, NumKind, BoolKind, ListKind, Shape, Single, Many, kind_of_scalar, kind_of_type}
-use Rattle.cal_model.specs.Kinding.{Fine, Known, Names, item_kind, kind, meant_by}
+use Rattle.cal_model.specs.Kinding.{Fine, Known, Names, kind, meant_by}
 use Rattle.cal_model.proofs.KindValues.{split}
 use Rattle.expr_lower.specs.declared.names.Seat.{Seat}
 use Rattle.expr_lower.specs.declared.names.Seat.TheVariants.{Cell, Tokens}
 use Rattle.expr_lower.specs.Growing.{first_cell}
-use Rattle.expr_lower.specs.Names.{IsSingle, Name, named}
+use Rattle.expr_lower.specs.Names.{IsSingle, Name}
 use Rattle.expr_lower.specs.Parted.{Part, alike, item_in, part_at, part_named}
 use Rattle.expr_lower.proofs.PartValues.{IsItemOf, IsWhole, index_found, whole_found}
-use Rattle.whole_forms.specs.Lowerable.{AreSeen, FlatAt, IsFlat, IsLike, IsSeen}
+use Rattle.whole_forms.specs.Lowerable.{AreSeen, FlatAt, IsLike, IsSeen}
 use Rattle.whole_forms.proofs.Like.{IsOne, both_alike, like_kind, one_scalar}
 use Rattle.whole_forms.proofs.Ones.{IsItem, item_parts, known_kind}
 

@@ -1,5 +1,5 @@
 -- Names that the code sees, and those inside them.
-use Rattle.std.proofs.Common.{◌≡◌, ℕ, ◌≤◌, Bool, true, false, List, [], ◌∷◌, ◌++◌, refl, sym, ap, ◌∙◌, subst, Option, None, Some}
+use Rattle.std.proofs.Common.{◌≡◌, ℕ, Bool, true, false, List, ◌∷◌, refl, sym, ap, ◌∙◌, subst, Option, None, Some}
 use Rattle.std.specs.Prelude.{if◌then◌else◌}
 use Rattle.std.specs.Str.{bytes_eq}
 use Rattle.rvc_base.specs.declared.scalar.Scalar.{Scalar}
@@ -9,10 +9,9 @@ use Rattle.cal_ast.specs.Tree.{Tree}
 use Rattle.cal_model.specs.Value.{Kind, NumKind, BoolKind, ListKind, Shape, Single, Many, IsType, kind_of_type, scalars_of_type}
 use Rattle.cal_model.specs.Kinding.{Known, Names, counter, meant_by, with_counters, with_known}
 use Rattle.expr_lower.specs.declared.names.Seat.{Seat}
-use Rattle.expr_lower.specs.declared.names.Seat.TheVariants.{Cell, Tokens}
-use Rattle.expr_lower.specs.Names.{IsSingle, Name, local_of, named}
-use Rattle.expr_lower.specs.Parted.{Part, part_at, part_named, sized, whole_in, whole_of}
-use Rattle.whole_forms.specs.Lowerable.{AreSeen, FlatAt, IsFlat, IsSeen}
+use Rattle.expr_lower.specs.Names.{Name, local_of, named}
+use Rattle.expr_lower.specs.Parted.{part_at, part_named, whole_in, whole_of}
+use Rattle.whole_forms.specs.Lowerable.{AreSeen, IsSeen}
 use Rattle.whole_forms.proofs.Like.{IsWithin, sized_type, type_within}
 
 -- ---- one name more

@@ -1,5 +1,5 @@
 -- A type whose sizes are written out is seen to be what it is judged to be.
-use Rattle.std.proofs.Common.{◌≡◌, ℕ, zero, suc, ◌*◌, ◌≤◌, ℤ, pos, negsuc, Bool, true, false, List, [], ◌∷◌, codes, refl, sym, ap, ◌∙◌, subst, Option, None, Some, arith}
+use Rattle.std.proofs.Common.{◌≡◌, ℕ, zero, suc, ◌*◌, ◌≤◌, ℤ, pos, negsuc, Bool, true, false, List, [], ◌∷◌, codes, refl, ap, ◌∙◌, subst, Option, None, Some, arith}
 use Rattle.std.specs.Prelude.{◌&&◌, if◌then◌else◌, nat_le}
 use Rattle.std.specs.Str.{bytes_eq}
 use Rattle.std.proofs.lemmas.Bool.Decides.{nat_tests}
@@ -17,8 +17,7 @@ use Rattle.cal_model.specs.Sound.{IsPlain}
 use Rattle.cal_model.proofs.KindValues.{both, fine-is, not-fine, split, tested}
 use Rattle.expr_lower.specs.Bounds.{bound_of}
 use Rattle.expr_lower.specs.Meant.{only_size, single_in, single_meant, size_of, size_written}
-use Rattle.expr_lower.specs.Parted.{sized}
-use Rattle.list_lower.specs.ShapeMeant.{items_of_type, list_of_each, list_sized, many_meant, shape_meant}
+use Rattle.list_lower.specs.ShapeMeant.{items_of_type, list_of_each, many_meant, shape_meant}
 use Rattle.whole_forms.proofs.Like.{few_items, sized_type}
 use Rattle.whole_forms.proofs.WrittenOut.{constant_bound}
 
@@ -116,11 +115,17 @@ list_seen u (pos (suc n)) at t o p h typed e f =
     let few : suc n ≤ max_list_scalars = few_items (suc n) u all in
     let one : nat_le 1 (suc n) ≡ true = grind (arith, nat_tests) in
     let two : nat_le (suc n) max_list_scalars ≡ true = grind (arith, nat_tests, few) in
-    subst (IsSeenAs o p) (fine-is (Many (suc n) u) t test.1) ((e, f
-    ∙ ap (λ (x : Option ℕ). elim x [ None ↦ None | Some each ↦ list_of_each (suc n) u each ]) (sized_type u typed)
-    ∙ ap (λ b. if (b && nat_le (suc n) max_list_scalars) && nat_le (suc n * scalars_of_type u) max_list_scalars then Some (Many (suc n) u) else None) one
-    ∙ ap (λ b. if b && nat_le (suc n * scalars_of_type u) max_list_scalars then Some (Many (suc n) u) else None) two
-    ∙ ap (λ b. if b then Some (Many (suc n) u) else None) low), all)
+    subst (IsSeenAs o p) (fine-is (Many (suc n) u) t test.1) (
+      (
+        e,
+        f
+            ∙ ap (λ (x : Option ℕ). elim x [ None ↦ None | Some each ↦ list_of_each (suc n) u each ]) (sized_type u typed)
+            ∙ ap (λ b. if (b && nat_le (suc n) max_list_scalars) && nat_le (suc n * scalars_of_type u) max_list_scalars then Some (Many (suc n) u) else None) one
+            ∙ ap (λ b. if b && nat_le (suc n * scalars_of_type u) max_list_scalars then Some (Many (suc n) u) else None) two
+            ∙ ap (λ b. if b then Some (Many (suc n) u) else None) low,
+      ),
+      all,
+    )
 
 lists_seen : (g : List Argument) (args : Tree) (at : ℕ) (t : Shape) (f : Option ℕ → Option Scalar) → AreGiven g args → list_type g at ≡ Fine t
     → IsSeenAs (elim (size_written args) [ None ↦ None | Some size ↦ f size ]) (items_of_type args) t
@@ -147,9 +152,9 @@ truth_seen (a ∷ g) args p at t d h = absurd (not-fine _ at t h)
 named_seen : (a b c l : Bool) (g : List Argument) (args : Tree) (at : ℕ) (t : Shape) → AreGiven g args
     → (if a then truth_type g at else if b then number_type g (λ n. scalar.Int n) at else if c then number_type g (λ n. scalar.Uint n) at else if l then list_type g at else Broken unsupported_type at) ≡ Fine t
     → IsSeenAs (elim (size_written args) [
-        | None ↦ None
-        | Some size ↦ single_in (if a then Some (Single scalar.Bool) else if b then bits size (λ n. Single (scalar.Int n)) else if c then bits size (λ n. Single (scalar.Uint n)) else if l then list_of (only_size size) else None)
-      ]) (if l then items_of_type args else None) t
+      | None ↦ None
+      | Some size ↦ single_in (if a then Some (Single scalar.Bool) else if b then bits size (λ n. Single (scalar.Int n)) else if c then bits size (λ n. Single (scalar.Uint n)) else if l then list_of (only_size size) else None)
+    ]) (if l then items_of_type args else None) t
 named_seen true b c l g args at t d h = truth_seen g args (if l then items_of_type args else None) at t d h
 named_seen false true c l g args at t d h = numbers_seen (λ n. scalar.Int n) g args (if l then items_of_type args else None) at t (λ m j k. (j, k)) d h
 named_seen false false true l g args at t d h = numbers_seen (λ n. scalar.Uint n) g args (if l then items_of_type args else None) at t (λ m j k. (j, k)) d h

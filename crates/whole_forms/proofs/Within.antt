@@ -1,12 +1,11 @@
 -- The kind of an expression is within what lists may have.
-use Rattle.std.proofs.Common.{◌≡◌, ℕ, true, List, [], ◌∷◌, length, refl, sym, ap, ◌∙◌, subst, Option, None, Some}
+use Rattle.std.proofs.Common.{◌≡◌, List, [], ◌∷◌, length, ap, ◌∙◌, subst}
 use Rattle.rvc_base.specs.Rules.{wrong_kind}
 use Rattle.cal_ast.specs.Tree as tree
 use Rattle.cal_ast.specs.Tree.{Tree}
 use Rattle.cal_model.specs.Value.{Kind, NumKind, BoolKind, ListKind, kind_of_scalar}
 use Rattle.cal_model.specs.Call.{fun_named}
 use Rattle.cal_model.specs.Kinding.{Fine, Names, arguments_fit, elements_in, kind, kinds, meant_by, with_counters}
-use Rattle.cal_model.specs.Sound.{AreAll, Each}
 use Rattle.cal_model.proofs.KindValues.{fine-is, not-fine, split, tested}
 use Rattle.whole_forms.proofs.Like.{IsWithin, list_within, one_scalar, one_within}
 use Rattle.whole_forms.proofs.Ones.{IsItem, IsListed, binary_one, branch_parts, called, item_parts, known_kind, listed_kinds, prefix_one}

@@ -1,5 +1,5 @@
 -- A number that is written out is seen to be what it gives.
-use Rattle.std.proofs.Common.{◌≡◌, ℕ, ℤ, pos, List, [], ◌++◌, refl, sym, ap, ◌∙◌, Option, None, Some}
+use Rattle.std.proofs.Common.{◌≡◌, ℕ, ℤ, pos, [], ◌++◌, refl, ap, ◌∙◌, Option, Some}
 use Rattle.rvc_base.specs.Arithmetic as arithmetic
 use Rattle.rvc_base.specs.Arithmetic.{Computed}
 use Rattle.rvc_base.specs.Rules.{constant_traps, not_constant, wrong_kind}
