@@ -1,0 +1,16 @@
+mod Blanks
+mod Digits
+mod Lexing
+mod Lexed
+mod Printables
+mod Again
+mod Phrases
+mod RespelledExpressions
+mod RespelledStatements
+mod RespelledMembers
+mod RespelledFiles
+mod Said
+mod Operands
+mod Respelled
+mod Placeless
+mod ReadAgain
