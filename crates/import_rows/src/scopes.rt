@@ -1,7 +1,6 @@
 //! Actors with what their imports lead to, or the rule of scope that one of their files breaks.
 
-use crate::rows::{file_of, printed};
-use crate::table::cut;
+use crate::files::{cut, file_of, printed};
 use cal_ast::{Actor, Body, File, Function, Ident, Member, UnitFile, VarDecl};
 use cal_imports::{FileSet, Scope, resolve};
 use rvc_base::Front;
