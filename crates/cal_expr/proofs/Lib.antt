@@ -1,4 +1,5 @@
 pub mod Taking
+pub mod Tests
 pub mod ListSteps
 mod Climbing
 mod Nesting

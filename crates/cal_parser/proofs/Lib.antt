@@ -9,3 +9,4 @@ mod FileAnswers
 mod ImportPaths
 mod MemberLists
 mod Openings
+mod Starts
