@@ -7,7 +7,7 @@ ghost use Rattle.cal_lexer.specs.Lexeme.{Placed};
 ghost use Rattle.cal_lexer.specs.Lexes.{lexes};
 ghost use Rattle.cal_grammar.specs.Spells.{spells};
 ghost use Rattle.cal_print.specs.Canon.{canon};
-ghost use Rattle.canon_laws.specs.ReadBack.{IsReadBack};
+ghost use Rattle.cal_print.specs.ReadBack.{IsReadBack};
 
 /// Canonical text is read back. If a tree is that of a text, ignoring offsets, its canonical text has tokens, and these
 /// spell the same tree again, ignoring offsets, and as high.
@@ -26,7 +26,7 @@ pub fn one_canonical_text()
         → canon x ≡ canon y → IsEqualApart x y }
 {
     cal_lexer::one_list();
-    cal_grammar::one_tree();
+    cal_parser::one_tree();
 }
 
 /// Offsets don't show in canonical text: trees that are equal, ignoring offsets, have the same.
