@@ -19,6 +19,8 @@ pub mod FittedRoutines
 pub mod Finding
 pub mod Grown
 pub mod Coded
+pub mod AllowedCode
+pub mod AllowedRoutines
 pub mod Fitted
 pub mod Whole
 pub mod Adding

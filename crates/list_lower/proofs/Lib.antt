@@ -14,6 +14,7 @@ pub mod Going
 pub mod Elements
 pub mod Loops
 pub mod Filled
+pub mod AllowedFills
 pub mod FittedJumps
 pub mod FittedParts
 pub mod Fitted

@@ -31,3 +31,4 @@ pub mod ProcServed
 pub mod FittedProcs
 pub mod Readied
 pub mod ProcRows
+pub mod AllowedStmts
