@@ -51,9 +51,28 @@ module _ (a : Allowed) (fs : List Function) where
   next_allowed : (k : ℕ) (x : Counted) (gens : Tree) (turn out : ℕ) → ((c : ℕ) → k ≤ c → a.cells c ≡ true) → AreAllowed a (next_number k x gens turn out)
   next_allowed k x gens turn out own =
       let back : List Instr = op.Jump turn ∷ [] in
-      let rest = first_allowed (k + 2) gens (λ c up. own c (omega (arith, up))) in
-      (tt, (tt, (tt, (tt, (tt, (tt, (tt,
-      allowed_then a (set_number k x) (at_first (k + 2) gens ++ back) (set_allowed k x own) (allowed_then a (at_first (k + 2) gens) back rest (tt, tt)))))))))
+      let rest = first_allowed (k + 2) gens (λ c up. own c (omega (arith, up))) in (
+        tt,
+        (
+          tt,
+          (
+            tt,
+            (
+              tt,
+              (
+                tt,
+                (
+                  tt,
+                  (
+                    tt,
+                    allowed_then a (set_number k x) (at_first (k + 2) gens ++ back) (set_allowed k x own) (allowed_then a (at_first (k + 2) gens) back rest (tt, tt)),
+                  ),
+                ),
+              ),
+            ),
+          ),
+        ),
+      )
 
   more_allowed : (filled each : ℕ) → a.cells filled ≡ true → AreAllowed a (filled_more filled each)
   more_allowed filled each own = (tt, (tt, (tt, (own, tt))))
@@ -93,9 +112,11 @@ module _ (a : Allowed) (fs : List Function) where
     elements_allowed h write own (one_element item t c all filled turn names k m code g) =
         (tt, (tt, allowed_then a code (op.StoreAt c all None ∷ filled_more filled 1) (code_allowed a fs names h g) (write, more_allowed filled 1 own)))
     elements_allowed h write own (list_element item t size c all filled turn names k m code g) =
-        let each : ℕ = scalars_of_type (Many size t) in
-        (tt, allowed_then a code (op.Load filled ∷ op.CopyTo c all k each None ∷ filled_more filled each)
-        (fill_allowed (allows_more (k + each) (omega arith) h) (own_all k each (omega arith) h) g) (tt, (write, more_allowed filled each own)))
+        let each : ℕ = scalars_of_type (Many size t) in (
+          tt,
+          allowed_then a code (op.Load filled ∷ op.CopyTo c all k each None ∷ filled_more filled each)
+              (fill_allowed (allows_more (k + each) (omega arith) h) (own_all k each (omega arith) h) g) (tt, (write, more_allowed filled each own)),
+        )
     elements_allowed h write own (each_number g gens item t x c all filled turn out names k m code e d f) =
         let later = allows_more (k + 2) (omega arith) h in
         allowed_then a code (next_number k x gens turn out) (elements_allowed (allows_local x.text (Single x.kind) (k + 1) later) write own d) (next_allowed k x gens turn out h.own)

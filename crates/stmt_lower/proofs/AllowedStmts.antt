@@ -128,9 +128,14 @@ module _ (a : Allowed) where
           let later = runs_more k (grows_test g) h in
           allowed_then a x (y ++ op.Jump end ∷ z) (test_allowed a rs.functions names h.inside g)
           (allowed_then a y (op.Jump end ∷ z) (all_allowed known later ch ok.1 d) (tt, all_allowed known (runs_more j (grows_all d) later) ch ok.2 q))
-      stmt_allowed known h ch ok (while_code names test body at base n k m head out x y d g e f) =
-          (tt, (tt, allowed_then a y (x ++ op.Jump (base + 1) ∷ []) (all_allowed known h ch ok.1 d)
-          (allowed_then a x (op.Jump (base + 1) ∷ []) (test_allowed a rs.functions names (allows_more k (grows_all d) h.inside) g) (tt, tt))))
+      stmt_allowed known h ch ok (while_code names test body at base n k m head out x y d g e f) = (
+        tt,
+        (
+          tt,
+          allowed_then a y (x ++ op.Jump (base + 1) ∷ []) (all_allowed known h ch ok.1 d)
+              (allowed_then a x (op.Jump (base + 1) ∷ []) (test_allowed a rs.functions names (allows_more k (grows_all d) h.inside) g) (tt, tt)),
+        ),
+      )
       stmt_allowed known h ch ok (each_code names shape from to body text place at base n k j m turn start out x y z t e g d q f1 f2 f3) =
           let up = grows g in
           let more = grows d in
