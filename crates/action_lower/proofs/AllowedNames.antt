@@ -2,7 +2,6 @@
 use Rattle.std.proofs.Common.{◌≡◌, ℕ, zero, suc, ◌+◌, ◌*◌, ◌<◌, ◌≤◌, ◌⊎◌, inl, inr, ⊎_elim, Bool, true, false, List, [], ◌∷◌, ◌++◌, length, map, refl, sym, ap, ◌∙◌, subst, Option, None, Some, arith}
 use Rattle.std.specs.Prelude.{if◌then◌else◌}
 use Rattle.std.specs.Str.{bytes_eq}
-use Rattle.std.proofs.Math.Nat.{mul-le-mul_right}
 use Rattle.rvc_base.specs.declared.scalar.Scalar.{Scalar}
 use Rattle.cal_model.specs.Actor.{Action, Actor, Held, Pattern, Port}
 use Rattle.cal_model.specs.Kinding.{Kind, Known, Names, known_as, meant_by, with_known}
@@ -51,11 +50,8 @@ module _ (a : Allowed) where
 
   -- the token of a name, or one in each turn
   token-place : (n k j m : ℕ) → k < n → j < m → k + j * n < n * m
-  token-place n k zero m low less = absurd-or n k m low less
-    where
-      absurd-or : (n k m : ℕ) → k < n → 0 < m → k + 0 * n < n * m
-      absurd-or n k (suc m) low less = let e : n * suc m ≡ n + n * m = omega arith in let z : 0 * n ≡ 0 = refl in omega (arith, low, e, z)
-      absurd-or n k zero low less = absurd (omega (arith, less))
+  token-place n k zero zero low less = absurd (omega (arith, less))
+  token-place n k zero (suc m) low less = let e : n * suc m ≡ n + n * m = omega arith in let z : 0 * n ≡ 0 = omega arith in omega (arith, low, e, z)
   token-place n k (suc j) zero low less = absurd (omega (arith, less))
   token-place n k (suc j) (suc m) low less =
       let one = token-place n k j m low (omega (arith, less)) in

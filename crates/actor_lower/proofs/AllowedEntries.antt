@@ -213,7 +213,9 @@ module _ (actor : Actor) (sound : IsSound actor) where
       port-read firing q pattern k less =
           let number : coded.number_on (needs_of actor a) q.port ≡ need actor a q.port = get_or-map-range_with_len (need actor a) 0 (length actor.ins) q.port q.port 0 pattern.port (omega arith) in
           let takes : need actor a q.port ≡ taken_on q.port act.patterns = ap (λ (o : Option Action). elim o [ None ↦ 0 | Some x ↦ taken_on q.port x.patterns ]) is in
-          grind (arith, nat_tests, number, takes, less)
+          let low-one : k < coded.number_on (needs_of actor a) q.port = omega (arith, number, takes, less) in
+          let e : nat_lt k (coded.number_on (needs_of actor a) q.port) ≡ true = grind (arith, nat_tests, low-one) in
+          e
 
       ports-read : (firing : Bool) (qs : List Pattern) → Each (IsPattern actor) qs → Each (λ q. PortIsRead (bounds_of actor a firing) q.port (taken_on q.port act.patterns)) qs
       ports-read firing [] h = tt

@@ -1,7 +1,8 @@
 -- Code of an expression writes only cells that may be written, and reads only tokens that may be read.
-use Rattle.std.proofs.Common.{◌≡◌, ℕ, zero, suc, ◌+◌, ◌*◌, ◌<◌, ◌≤◌, ⊎_elim, List, [], ◌∷◌, ◌++◌, length, true, false, refl, sym, ap, ◌∙◌, subst, Option, None, Some, arith}
-use Rattle.std.specs.Prelude.{slice_get}
+use Rattle.std.proofs.Common.{◌≡◌, ℕ, zero, suc, ◌+◌, ◌*◌, ◌<◌, ◌≤◌, Bool, List, [], ◌∷◌, ◌++◌, length, true, false, refl, sym, ap, ◌∙◌, subst, Option, None, Some, arith}
+use Rattle.std.specs.Prelude.{if◌then◌else◌, pos, slice_get}
 use Rattle.std.specs.Str.{bytes_eq}
+use Rattle.rvc_base.specs.declared.scalar.Scalar.{Scalar}
 use Rattle.cal_model.specs.Value.{Shape, Single, Many, scalars_of_type}
 use Rattle.cal_ast.specs.declared.expr.PrefixOp.{PrefixOp}
 use Rattle.cal_ast.specs.declared.expr.PrefixOp.TheVariants as prefixes
@@ -57,7 +58,7 @@ own_all c size le h = λ d from to. h.own d (omega (arith, le, from))
 pub read_more : {a : Allowed} {names : List Name} (text : List ℕ) (t : Shape) (c : ℕ) → AreRead a names → AreRead a (local_of text t c ∷ names)
 read_more {a = a} {names = names} text t c h other y e = by (bytes_eq text other) e
   where
-    by : (b : _) → (if b then Some (local_of text t c) else named other names) ≡ Some y → SeatIsRead a (scalars_of_type y.shape) y.seat
+    by : (b : Bool) → (if b then Some (local_of text t c) else named other names) ≡ Some y → SeatIsRead a (scalars_of_type y.shape) y.seat
     by true g = let same : local_of text t c ≡ y = cc in subst (λ (z : Name). SeatIsRead a (scalars_of_type z.shape) z.seat) same tt
     by false g = h other y g
 
@@ -79,7 +80,7 @@ module _ (a : Allowed) where
   item_read : (l : ItemList) → SeatIsRead a l.size l.seat → IsAllowed a (item_instr l)
   item_read l h = item_at l.size l.seat h
 
-  list_read : (names : List Name) (e : Tree) (l : ItemList) → AreRead a names → list_named names e ≡ Some l → SeatIsRead a l.size l.seat
+  pub list_read : (names : List Name) (e : Tree) (l : ItemList) → AreRead a names → list_named names e ≡ Some l → SeatIsRead a l.size l.seat
   list_read names e l read g =
       let f : IsListName names e l = found names e l g in
       let one : scalars_of_type f.x.shape ≡ l.size * 1 = ap scalars_of_type f.shape in
@@ -150,9 +151,9 @@ module _ (a : Allowed) (fs : List Function) (names : List Name) where
     code_allowed h (deep_item e place spot base n m code l g d) =
         allowed_then a code (item_instr l ∷ []) (offset_allowed h d) (item_read a l (deep_read a names (tree.index e place spot) l h.read g), tt)
     code_allowed h (both l r place base n k m far end x y t g d e f) =
-        allowed_then a x (y ++ op.Jump end ∷ op.Const _ ∷ []) (test_allowed h g) (allowed_then a y (op.Jump end ∷ op.Const _ ∷ []) (code_allowed (allows_more k (grows_test g) h) d) (tt, (tt, tt)))
+        allowed_then a x (y ++ op.Jump end ∷ op.Const (pos 0) ∷ []) (test_allowed h g) (allowed_then a y (op.Jump end ∷ op.Const (pos 0) ∷ []) (code_allowed (allows_more k (grows_test g) h) d) (tt, (tt, tt)))
     code_allowed h (either l r place base n k m beyond end x y t g d e f) =
-        allowed_then a x (op.Const _ ∷ op.Jump end ∷ y) (test_allowed h g) (tt, (tt, code_allowed (allows_more k (grows_test g) h) d))
+        allowed_then a x (op.Const (pos 1) ∷ op.Jump end ∷ y) (test_allowed h g) (tt, (tt, code_allowed (allows_more k (grows_test g) h) d))
     code_allowed h (if_code test first other place base n k j m else_at end x y z g d q e f) =
         let later = allows_more k (grows_test g) h in
         allowed_then a x (y ++ op.Jump end ∷ z) (test_allowed h g) (allowed_then a y (op.Jump end ∷ z) (code_allowed later d) (tt, code_allowed (allows_more j (grows d) later) q))
@@ -171,6 +172,6 @@ module _ (a : Allowed) (fs : List Function) (names : List Name) where
     test_allowed h (both_tested l r place base n k m far x y t g d) = allowed_then a x y (test_allowed h g) (test_allowed (allows_more k (grows_test g) h) d)
 
   -- the start of a local in a cell
-  pub start_allowed : {t : _} {c : ℕ} {start : Tree} {base n m : ℕ} {code : List Instr} → a.cells c ≡ true → Allows a fs names n → IsStart fs names t c start base n code m → AreAllowed a code
+  pub start_allowed : {t : Scalar} {c : ℕ} {start : Tree} {base n m : ℕ} {code : List Instr} → a.cells c ≡ true → Allows a fs names n → IsStart fs names t c start base n code m → AreAllowed a code
   start_allowed own h (at_zero base n) = (tt, (own, tt))
   start_allowed {t = t} {c = c} own h (at_value e base n m code g) = allowed_then a code (op.Store c (Some t) ∷ []) (code_allowed h g) (own, tt)

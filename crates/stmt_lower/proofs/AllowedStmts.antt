@@ -6,8 +6,8 @@ use Rattle.rvc_base.specs.declared.scalar.Scalar.{Scalar}
 use Rattle.cal_ast.specs.Tree as tree
 use Rattle.cal_ast.specs.Tree.{Tree}
 use Rattle.cal_model.specs.Actor.{Local, Proc}
-use Rattle.cal_model.specs.Kinding.{Kind, Known, Names, counter, known_as, meant_by, with_known}
-use Rattle.cal_model.specs.Sound.{AreStatements, IsProc, IsStatement, MayBeAssigned, known_local, with_locals, with_vars_known}
+use Rattle.cal_model.specs.Kinding.{Kind, Known, Names, counter, known_as, meant_by, type_judged, with_known}
+use Rattle.cal_model.specs.Sound.{AreStatements, IsProc, IsStatement, MayBeAssigned, kind_of_judged, known_local, with_locals, with_vars_known}
 use Rattle.cal_model.specs.Value.{Shape, Single, Many, scalars_of_type}
 use Rattle.code_ir.specs.declared.instr.Instr.{Instr}
 use Rattle.code_ir.specs.declared.instr.Instr.TheVariants as op
@@ -155,13 +155,15 @@ module _ (a : Allowed) where
       block_allowed known h ch ok (no_more names body base n m code g) = all_allowed known h ch ok g
       block_allowed known h ch ok (variable_more names shape start vars body text place at base n k m x y t changes e g d) =
           let up = grows_start g in
+          let u : Known = record { name = text; kind = kind_of_judged (type_judged shape known); value = None; changes = changes } in
           allowed_then a x y (start_allowed a rs.functions names (own_one n (omega arith) h.inside) (allows_more (n + 1) (omega arith) h.inside) g)
-          (block_allowed (with_known _ known) (runs_local text (Single t) n (runs_more k (omega (arith, up)) h)) (changes_more _ (Single t) n (own_all n 1 (omega arith) h.inside) ch) ok d)
+          (block_allowed (with_known u known) (runs_local text (Single t) n (runs_more k (omega (arith, up)) h)) (changes_more u (Single t) n (own_all n 1 (omega arith) h.inside) ch) ok d)
       block_allowed known h ch ok (list_more names shape start vars body text place at base n k m x y t changes e g d) =
           let up = grows_list_start g in
+          let u : Known = record { name = text; kind = kind_of_judged (type_judged shape known); value = None; changes = changes } in
           let size : ℕ = scalars_of_type t in
           allowed_then a x y (list_start_allowed a rs.functions (allows_more (n + size) (omega arith) h.inside) (own_all n size (omega arith) h.inside) g)
-          (block_allowed (with_known _ known) (runs_local text t n (runs_more k (omega (arith, up)) h)) (changes_more _ t n (own_all n size (omega arith) h.inside) ch) ok d)
+          (block_allowed (with_known u known) (runs_local text t n (runs_more k (omega (arith, up)) h)) (changes_more u t n (own_all n size (omega arith) h.inside) ch) ok d)
 
       pub all_allowed : {names : List Name} {ss : Tree} {base n m : ℕ} {code : List Instr} (known : Names) → AllowsRuns a rs names n → ChangesAreWritten a names known → AreStatements ss procs known → AreStmts rs names ss base n code m → AreAllowed a code
       all_allowed known h ch ok (none names base n) = tt
