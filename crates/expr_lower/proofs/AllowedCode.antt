@@ -55,15 +55,15 @@ pub own_all : {a : Allowed} {fs : List Function} {names : List Name} {n : ℕ} (
 own_all c size le h = λ d from to. h.own d (omega (arith, le, from))
 
 -- one local more, which stands in cells
-pub read_more : {a : Allowed} {names : List Name} (text : List ℕ) (t : Shape) (c : ℕ) → AreRead a names → AreRead a (local_of text t c ∷ names)
-read_more {a = a} {names = names} text t c h other y e = by (bytes_eq text other) e
+pub read_more : (a : Allowed) (names : List Name) (text : List ℕ) (t : Shape) (c : ℕ) → AreRead a names → AreRead a (local_of text t c ∷ names)
+read_more a names text t c h other y e = by (bytes_eq text other) e
   where
     by : (b : Bool) → (if b then Some (local_of text t c) else named other names) ≡ Some y → SeatIsRead a (scalars_of_type y.shape) y.seat
     by true g = let same : local_of text t c ≡ y = cc in subst (λ (z : Name). SeatIsRead a (scalars_of_type z.shape) z.seat) same tt
     by false g = h other y g
 
 pub allows_local : {a : Allowed} {fs : List Function} {names : List Name} {n : ℕ} (text : List ℕ) (t : Shape) (c : ℕ) → Allows a fs names n → Allows a fs (local_of text t c ∷ names) n
-allows_local text t c h = record { own = h.own; formals = h.formals; read = read_more text t c h.read }
+allows_local {a = a} {names = names} text t c h = record { own = h.own; formals = h.formals; read = read_more a names text t c h.read }
 
 -- ---- instructions
 

@@ -23,7 +23,7 @@ module _ (a : Allowed) where
   pub formals_read : (xs : List Local) (ys : List Formal) (names : List Name) → AreRead a names → AreRead a (behind_formals xs ys names)
   formals_read [] ys names read = read
   formals_read (x ∷ xs) [] names read = read
-  formals_read (x ∷ xs) (y ∷ ys) names read = formals_read xs ys (local x.name y.kind y.cell ∷ names) (read_more x.name (Single y.kind) y.cell read)
+  formals_read (x ∷ xs) (y ∷ ys) names read = formals_read xs ys (local x.name y.kind y.cell ∷ names) (read_more a names x.name (Single y.kind) y.cell read)
 
   module _ (fs : List Function) where
     body_allowed : {t : Scalar} {e : Tree} {names : List Name} {xs : List Local} {base n m : ℕ} {code : List Instr} → Allows a fs names n → IsBody fs t e names xs base n code m → AreAllowed a code

@@ -21,11 +21,8 @@ use Rattle.list_lower.proofs.Filled.{grows_fill}
 use Rattle.list_lower.proofs.Shapes.{alike_sizes}
 
 -- some of the cells that may be written
-pub write_part : {a : Allowed} {c n : ℕ} (d k : ℕ) → c ≤ d → d + k ≤ c + n → MayWrite a c n → MayWrite a d k
-write_part d k from to h = λ x low up. h x (omega (arith, from, low)) (omega (arith, to, up))
-
-pub write_one : {a : Allowed} {c n : ℕ} → 0 < n → MayWrite a c n → a.cells c ≡ true
-write_one {c = c} some h = h c (omega arith) (omega (arith, some))
+pub write_part : (a : Allowed) (c n d k : ℕ) → c ≤ d → d + k ≤ c + n → MayWrite a c n → MayWrite a d k
+write_part a c n d k from to h = λ x low up. h x (omega (arith, from, low)) (omega (arith, to, up))
 
 module _ (a : Allowed) (fs : List Function) where
   take_allowed : (c size : ℕ) (seat : Seat) → MayWrite a c size → SeatIsRead a size seat → IsAllowed a (take_instr c size seat)
