@@ -48,11 +48,11 @@ module _ (a : Allowed) (rs : Routines) where
   started_behind known h ch (none_started names base n) = (h, ch)
   started_behind known h ch (start_more names behind x others t base n k m u v shape first rest) =
       let up = grows_start first in
-      started_behind (with_known (known_local x) known) (runs_local x.name (Single t) n (runs_more k (omega (arith, up)) h)) (changes_more (known_local x) (Single t) n (own_all n 1 (omega arith) h.inside) ch) rest
+      started_behind (with_known (known_local x) known) (runs_local x.name (Single t) n (runs_more k (omega (arith, up)) h)) (changes_more a names known (known_local x) (Single t) n (own_all n 1 (omega arith) h.inside) ch) rest
   started_behind known h ch (list_more names behind x others base n k m u v typed first rest) =
       let up = grows_list_start first in
       let size : ℕ = scalars_of_type x.shape in
-      started_behind (with_known (known_local x) known) (runs_local x.name x.shape n (runs_more k (omega (arith, up)) h)) (changes_more (known_local x) x.shape n (own_all n size (omega arith) h.inside) ch) rest
+      started_behind (with_known (known_local x) known) (runs_local x.name x.shape n (runs_more k (omega (arith, up)) h)) (changes_more a names known (known_local x) x.shape n (own_all n size (omega arith) h.inside) ch) rest
 
   -- ---- outputs
 

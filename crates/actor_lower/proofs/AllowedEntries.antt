@@ -113,11 +113,11 @@ saved-right (x ∷ xs) ys d e = ap (λ b. (x.cell == d) || b) (saved-right xs ys
 
 saved-range : (t : Scalar) (c n d : ℕ) → c ≤ d → d < c + n → is_saved (map (typed_cell t) (range_with_len c n)) d ≡ true
 saved-range t c zero d from to = absurd (omega (arith, from, to))
-saved-range t c (suc n) d from to = by (cases_lt c d)
+saved-range t c (suc n) d from to = by (λ less. saved-range t (c + 1) n d (omega (arith, less)) (omega (arith, to))) (cases_lt c d)
   where
-    by : (c < d) ⊎ (d ≤ c) → ((c == d) || is_saved (map (typed_cell t) (range_with_len (c + 1) n)) d) ≡ true
-    by (inl less) = ap (λ b. (c == d) || b) (saved-range t (c + 1) n d (omega (arith, less)) (omega (arith, to))) ∙ or-true (c == d)
-    by (inr le) = let same : c ≡ d = omega (arith, from, le) in let e : (c == d) ≡ true = grind (arith, nat_tests, same) in ap (λ b. b || is_saved (map (typed_cell t) (range_with_len (c + 1) n)) d) e
+    by : (c < d → is_saved (map (typed_cell t) (range_with_len (c + 1) n)) d ≡ true) → (c < d) ⊎ (d ≤ c) → ((c == d) || is_saved (map (typed_cell t) (range_with_len (c + 1) n)) d) ≡ true
+    by more (inl less) = ap (λ b. (c == d) || b) (more less) ∙ or-true (c == d)
+    by more (inr le) = let same : c ≡ d = omega (arith, from, le) in let e : (c == d) ≡ true = grind (arith, nat_tests, same) in ap (λ b. b || is_saved (map (typed_cell t) (range_with_len (c + 1) n)) d) e
 
 -- the cells of variables that change are saved
 vars-written : (a : Allowed) (c : ℕ) (hs : List Held) → ((d : ℕ) → is_saved (saved_from c hs) d ≡ true → a.cells d ≡ true) → VarsAreWritten a c hs
@@ -153,6 +153,12 @@ pub functions-wider : (whole : Code) (callable n m : ℕ) (fs : List Function) �
 functions-wider whole callable n m fs le has text f e =
     let one = has text f e in
     (one.0, one.1, record { first = one.2.first; row = one.2.row; low_end = one.2.low_end; high_end = (let h = one.2.high_end in omega (arith, h, le)); sizes = one.2.sizes })
+
+-- what is between two numbers
+gap : (a b : ℕ) → a ≤ b → (k : ℕ) × (a + k ≡ b)
+gap zero b h = (b, omega arith)
+gap (suc a) zero h = absurd (omega (arith, h))
+gap (suc a) (suc b) h = let g = gap a b (omega (arith, h)) in (g.0, let e = g.1 in omega (arith, e))
 
 module _ (actor : Actor) (sound : IsSound actor) where
   abbrev low : ℕ
@@ -190,11 +196,6 @@ module _ (actor : Actor) (sound : IsSound actor) where
         behind k is =
             let g = there rs.procedures k (omega (arith, is, less, count)) in
             subst (IsAllowedAt (bounds_at low (saved_from 0 actor.vars) [] true) whole) (next k g.0 g.1 ∙ is) (all.each k g.0 g.1)
-
-        gap : (a b : ℕ) → a ≤ b → (k : ℕ) × (a + k ≡ b)
-        gap zero b h = (b, omega arith)
-        gap (suc a) zero h = absurd (omega (arith, h))
-        gap (suc a) (suc b) h = let g = gap a b (omega (arith, h)) in (g.0, let e = g.1 in omega (arith, e))
 
         by : (r < length rs.functions) ⊎ (length rs.functions ≤ r) → IsAllowedAt (bounds_at low (saved_from 0 actor.vars) [] true) whole r
         by (inl low-one) =

@@ -35,14 +35,11 @@ module _ (a : Allowed) (fs : List Function) where
   set_allowed k x own = (own k (omega arith), (tt, (own (k + 1) (omega arith), tt)))
 
   first_allowed : (k : ℕ) (gens : Tree) → ((c : ℕ) → k ≤ c → a.cells c ≡ true) → AreAllowed a (at_first k gens)
-  first_allowed k (tree.cons g gens) own = by (counted_by g)
+  first_allowed k (tree.cons g gens) own = by (first_allowed (k + 2) gens (λ c up. own c (omega (arith, up)))) (counted_by g)
     where
-      rest : AreAllowed a (at_first (k + 2) gens)
-      rest = first_allowed (k + 2) gens (λ c up. own c (omega (arith, up)))
-
-      by : (o : Option Counted) → AreAllowed a (elim o [ None ↦ [] | Some x ↦ op.Const x.low ∷ (set_number k x ++ at_first (k + 2) gens) ])
-      by None = tt
-      by (Some x) = (tt, allowed_then a (set_number k x) (at_first (k + 2) gens) (set_allowed k x own) rest)
+      by : AreAllowed a (at_first (k + 2) gens) → (o : Option Counted) → AreAllowed a (elim o [ None ↦ [] | Some x ↦ op.Const x.low ∷ (set_number k x ++ at_first (k + 2) gens) ])
+      by rest None = tt
+      by rest (Some x) = (tt, allowed_then a (set_number k x) (at_first (k + 2) gens) (set_allowed k x own) rest)
   first_allowed k gens own = tt
 
   next_allowed : (k : ℕ) (x : Counted) (gens : Tree) (turn out : ℕ) → ((c : ℕ) → k ≤ c → a.cells c ≡ true) → AreAllowed a (next_number k x gens turn out)
@@ -101,9 +98,10 @@ module _ (a : Allowed) (fs : List Function) where
     pub fills_allowed : {names : List Name} {es : Tree} {t : Shape} {c base n m : ℕ} {code : List Instr} → Allows a fs names n → MayWrite a c (number_of es * scalars_of_type t) → AreFills fs names es t c base n code m → AreAllowed a code
     fills_allowed h write (no_item names t c base n) = tt
     fills_allowed h write (item_more names e es t c base n k m x y g d) =
+        let all : ℕ = suc (number_of es) * scalars_of_type t in
         let sum : suc (number_of es) * scalars_of_type t ≡ scalars_of_type t + number_of es * scalars_of_type t = omega arith in
-        allowed_then a x y (fill_allowed h (write_part c (scalars_of_type t) (omega arith) (omega (arith, sum)) write) g)
-        (fills_allowed (allows_more k (grows_fill g) h) (write_part (c + scalars_of_type t) (number_of es * scalars_of_type t) (omega arith) (omega (arith, sum)) write) d)
+        allowed_then a x y (fill_allowed h (write_part a c all c (scalars_of_type t) (omega arith) (omega (arith, sum)) write) g)
+        (fills_allowed (allows_more k (grows_fill g) h) (write_part a c all (c + scalars_of_type t) (number_of es * scalars_of_type t) (omega arith) (omega (arith, sum)) write) d)
 
     elements_allowed : {gens item : Tree} {t : Shape} {c all filled turn : ℕ} {names : List Name} {k m : ℕ} {code : List Instr} → Allows a fs names k → MayWrite a c all → a.cells filled ≡ true → AreElements fs gens item t c all filled turn names k code m → AreAllowed a code
     elements_allowed h write own (one_element item t c all filled turn names k m code g) =

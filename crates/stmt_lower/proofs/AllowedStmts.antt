@@ -45,8 +45,8 @@ pub runs_local : {a : Allowed} {rs : Routines} {names : List Name} {n : ℕ} (te
 runs_local text t c h = record { inside = allows_local text t c h.inside; procedures = h.procedures }
 
 -- one local more, whose cells may be written
-pub changes_more : {a : Allowed} {names : List Name} {known : Names} (u : Known) (t : Shape) (c : ℕ) → MayWrite a c (scalars_of_type t) → ChangesAreWritten a names known → ChangesAreWritten a (local_of u.name t c ∷ names) (with_known u known)
-changes_more {a = a} {names = names} {known = known} u t c write h other x v e m changes = by (bytes_eq u.name other) e m
+pub changes_more : (a : Allowed) (names : List Name) (known : Names) (u : Known) (t : Shape) (c : ℕ) → MayWrite a c (scalars_of_type t) → ChangesAreWritten a names known → ChangesAreWritten a (local_of u.name t c ∷ names) (with_known u known)
+changes_more a names known u t c write h other x v e m changes = by (bytes_eq u.name other) e m
   where
     by : (b : Bool) → (if b then Some (local_of u.name t c) else named other names) ≡ Some x → (if b then Some u else known_as other (known.locals ++ known.globals)) ≡ Some v → SeatIsWritten a (scalars_of_type x.shape) x.seat
     by true f g = let same : local_of u.name t c ≡ x = cc in subst (λ (z : Name). SeatIsWritten a (scalars_of_type z.shape) z.seat) same write
@@ -55,12 +55,12 @@ changes_more {a = a} {names = names} {known = known} u t c write h other x v e m
 -- ---- assignments
 
 -- what may be assigned may be written
-written : {a : Allowed} {names : List Name} {known : Names} {text : List ℕ} {ks : List Kind} {k : Kind} (c : ℕ) (x : Name) → ChangesAreWritten a names known → MayBeAssigned text ks k known → named text names ≡ Some x → x.seat ≡ Cell c → MayWrite a c (scalars_of_type x.shape)
-written {a = a} {text = text} c x h may e seat = subst (SeatIsWritten a (scalars_of_type x.shape)) seat (h text x may.meant e may.is_meant may.changes)
+written : (a : Allowed) (names : List Name) (known : Names) {text : List ℕ} {ks : List Kind} {k : Kind} (c : ℕ) (x : Name) → ChangesAreWritten a names known → MayBeAssigned text ks k known → named text names ≡ Some x → x.seat ≡ Cell c → MayWrite a c (scalars_of_type x.shape)
+written a names known {text = text} c x h may e seat = subst (SeatIsWritten a (scalars_of_type x.shape)) seat (h text x may.meant e may.is_meant may.changes)
 
 -- .. as a variable of another form
-written_as : {a : Allowed} {c : ℕ} (s t : Shape) (size : ℕ) → s ≡ t → scalars_of_type t ≡ size → MayWrite a c (scalars_of_type s) → MayWrite a c size
-written_as {a = a} {c = c} s t size same is h = subst (MayWrite a c) (ap scalars_of_type same ∙ is) h
+written_as : (a : Allowed) (c : ℕ) (s t : Shape) (size : ℕ) → s ≡ t → scalars_of_type t ≡ size → MayWrite a c (scalars_of_type s) → MayWrite a c size
+written_as a c s t size same is h = subst (MayWrite a c) (ap scalars_of_type same ∙ is) h
 
 module _ (a : Allowed) where
   copy_allowed : (c size : ℕ) (t : Scalar) (seat : Seat) → MayWrite a c size → SeatIsRead a size seat → AreAllowed a (copy_code c size t seat)
@@ -94,31 +94,31 @@ module _ (a : Allowed) where
     mutual
       pub stmt_allowed : {names : List Name} {s : Tree} {base n m : ℕ} {code : List Instr} (known : Names) → AllowsRuns a rs names n → ChangesAreWritten a names known → IsStatement s procs known → IsStmt rs names s base n code m → AreAllowed a code
       stmt_allowed known h ch ok (set names text value place at base n m c code x t e seat shape g) =
-          let write = written_as x.shape (Single t) 1 shape refl (written c x ch ok.4 e seat) in
+          let write = written_as a c x.shape (Single t) 1 shape refl (written a names known c x ch ok.4 e seat) in
           allowed_then a code (op.Store c (Some t) ∷ []) (code_allowed a rs.functions names h.inside g) (write c (omega arith) (omega arith), tt)
       stmt_allowed known h ch ok (set_list names text value place at base n c size x t l e seat shape g many) =
-          let write = written_as x.shape (Many size (Single t)) size shape (omega arith) (written c x ch ok.4 e seat) in
+          let write = written_as a c x.shape (Many size (Single t)) size shape (omega arith) (written a names known c x ch ok.4 e seat) in
           copy_allowed c size t l.seat write (subst (λ k. SeatIsRead a k l.seat) many (list_read a names value l h.inside.read g))
       stmt_allowed known h ch ok (set_items names text items list place at base n m c size x y t e seat shape number g) =
-          let write = written_as y.shape (Many size (Single t)) size shape (omega arith) (written c y ch ok.4 e seat) in
+          let write = written_as a c y.shape (Many size (Single t)) size shape (omega arith) (written a names known c y ch ok.4 e seat) in
           allowed_then a x (copy_code c size t (Cell n)) (kept_allowed (allows_more (n + size) (omega arith) h.inside) h.inside.own g) (copy_allowed c size t (Cell n) write tt)
-      stmt_allowed known h ch ok (set_whole names text from place from_at at base n c d x y e seat f there same) = (written c x ch ok.4 e seat, tt)
+      stmt_allowed known h ch ok (set_whole names text from place from_at at base n c d x y e seat f there same) = (written a names known c x ch ok.4 e seat, tt)
       stmt_allowed known h ch ok (set_filled names text value place at base n m c x y e seat g) =
           let size : ℕ = scalars_of_type y.shape in
-          allowed_then a x (op.Copy c n size (Some (leaf_of y.shape)) ∷ []) (fill_allowed a rs.functions (allows_more (n + size) (omega arith) h.inside) (own_all n size (omega arith) h.inside) g) (written c y ch ok.4 e seat, tt)
+          allowed_then a x (op.Copy c n size (Some (leaf_of y.shape)) ∷ []) (fill_allowed a rs.functions (allows_more (n + size) (omega arith) h.inside) (own_all n size (omega arith) h.inside) g) (written a names known c y ch ok.4 e seat, tt)
       stmt_allowed known h ch ok (set_item names text spot value place at base n k m c size x y z t e seat shape g d) =
-          let write = written_as z.shape (Many size (Single t)) size shape (omega arith) (written c z ch ok.4 e seat) in
+          let write = written_as a c z.shape (Many size (Single t)) size shape (omega arith) (written a names known c z ch ok.4 e seat) in
           allowed_then a x (y ++ op.StoreAt c size (Some t) ∷ []) (code_allowed a rs.functions names h.inside g)
           (allowed_then a y (op.StoreAt c size (Some t) ∷ []) (code_allowed a rs.functions names (allows_more k (grows g) h.inside) d) (write, tt))
       stmt_allowed known h ch ok (set_part names text places value place at base n k m c size x y z t e seat many part g d) =
-          let write = written_as z.shape z.shape size refl (sized_is z.shape size many) (written c z ch ok.4 e seat) in
+          let write = written_as a c z.shape z.shape size refl (sized_is z.shape size many) (written a names known c z ch ok.4 e seat) in
           let wide = grows_kept g in
           let first : ℕ = n + number_of places in
           let tail : List Instr = part_tail c size first t (step_code n z.shape places) in
           allowed_then a x (y ++ tail) (kept_allowed (allows_more (first + scalars_of_type t) (omega arith) h.inside) h.inside.own g)
           (allowed_then a y tail (fill_allowed a rs.functions (allows_more k (omega (arith, wide)) h.inside) (own_all first (scalars_of_type t) (omega arith) h.inside) d) (tail_allowed c size first n t z.shape places write))
       stmt_allowed known h ch ok (set_part_list names text from places place from_at at base n m c size d x z y t e seat many part f there same g) =
-          let write = written_as z.shape z.shape size refl (sized_is z.shape size many) (written c z ch ok.4 e seat) in
+          let write = written_as a c z.shape z.shape size refl (sized_is z.shape size many) (written a names known c z ch ok.4 e seat) in
           allowed_then a x (part_tail c size d t (step_code n z.shape places)) (kept_allowed (allows_more (n + number_of places) (omega arith) h.inside) h.inside.own g) (tail_allowed c size d n t z.shape places write)
       stmt_allowed known h ch ok (call names text args place at base n m part p e g) =
           allowed_then a part (run_code p) (args_allowed a rs.functions names h.inside g) (run_allowed p (h.procedures text p (proc_found text (number_of args) rs.procedures p e).0))
@@ -141,7 +141,7 @@ module _ (a : Allowed) where
           let more = grows d in
           let head : List Instr = each_head n t out in
           let tail : List Instr = each_tail n turn out in
-          let inner = all_allowed (with_known (counter text) known) (runs_local text (Single t) (n + 2) (runs_more j (omega (arith, up, more)) h)) (changes_more (counter text) (Single t) (n + 2) (own_all (n + 2) 1 (omega arith) h.inside) ch) ok.5 q in
+          let inner = all_allowed (with_known (counter text) known) (runs_local text (Single t) (n + 2) (runs_more j (omega (arith, up, more)) h)) (changes_more a names known (counter text) (Single t) (n + 2) (own_all (n + 2) 1 (omega arith) h.inside) ch) ok.5 q in
           let own_first = own_one n (omega arith) h.inside in
           let own_last = own_one (n + 1) (omega arith) h.inside in
           let own_name = own_one (n + 2) (omega arith) h.inside in
@@ -157,13 +157,13 @@ module _ (a : Allowed) where
           let up = grows_start g in
           let u : Known = record { name = text; kind = kind_of_judged (type_judged shape known); value = None; changes = changes } in
           allowed_then a x y (start_allowed a rs.functions names (own_one n (omega arith) h.inside) (allows_more (n + 1) (omega arith) h.inside) g)
-          (block_allowed (with_known u known) (runs_local text (Single t) n (runs_more k (omega (arith, up)) h)) (changes_more u (Single t) n (own_all n 1 (omega arith) h.inside) ch) ok d)
+          (block_allowed (with_known u known) (runs_local text (Single t) n (runs_more k (omega (arith, up)) h)) (changes_more a names known u (Single t) n (own_all n 1 (omega arith) h.inside) ch) ok d)
       block_allowed known h ch ok (list_more names shape start vars body text place at base n k m x y t changes e g d) =
           let up = grows_list_start g in
           let u : Known = record { name = text; kind = kind_of_judged (type_judged shape known); value = None; changes = changes } in
           let size : ℕ = scalars_of_type t in
           allowed_then a x y (list_start_allowed a rs.functions (allows_more (n + size) (omega arith) h.inside) (own_all n size (omega arith) h.inside) g)
-          (block_allowed (with_known u known) (runs_local text t n (runs_more k (omega (arith, up)) h)) (changes_more u t n (own_all n size (omega arith) h.inside) ch) ok d)
+          (block_allowed (with_known u known) (runs_local text t n (runs_more k (omega (arith, up)) h)) (changes_more a names known u t n (own_all n size (omega arith) h.inside) ch) ok d)
 
       pub all_allowed : {names : List Name} {ss : Tree} {base n m : ℕ} {code : List Instr} (known : Names) → AllowsRuns a rs names n → ChangesAreWritten a names known → AreStatements ss procs known → AreStmts rs names ss base n code m → AreAllowed a code
       all_allowed known h ch ok (none names base n) = tt
@@ -176,12 +176,12 @@ module _ (a : Allowed) where
     proc_body_allowed known h ch ok (local_more names x xs kind base n k m u v shape first rest) =
         let up = grows_start first in
         allowed_then a u v (start_allowed a rs.functions names (own_one n (omega arith) h.inside) (allows_more (n + 1) (omega arith) h.inside) first)
-        (proc_body_allowed (with_known (known_local x) known) (runs_local x.name (Single kind) n (runs_more k (omega (arith, up)) h)) (changes_more (known_local x) (Single kind) n (own_all n 1 (omega arith) h.inside) ch) ok rest)
+        (proc_body_allowed (with_known (known_local x) known) (runs_local x.name (Single kind) n (runs_more k (omega (arith, up)) h)) (changes_more a names known (known_local x) (Single kind) n (own_all n 1 (omega arith) h.inside) ch) ok rest)
     proc_body_allowed known h ch ok (local_list names x xs base n k m u v typed first rest) =
         let up = grows_list_start first in
         let size : ℕ = scalars_of_type x.shape in
         allowed_then a u v (list_start_allowed a rs.functions (allows_more (n + size) (omega arith) h.inside) (own_all n size (omega arith) h.inside) first)
-        (proc_body_allowed (with_known (known_local x) known) (runs_local x.name x.shape n (runs_more k (omega (arith, up)) h)) (changes_more (known_local x) x.shape n (own_all n size (omega arith) h.inside) ch) ok rest)
+        (proc_body_allowed (with_known (known_local x) known) (runs_local x.name x.shape n (runs_more k (omega (arith, up)) h)) (changes_more a names known (known_local x) x.shape n (own_all n size (omega arith) h.inside) ch) ok rest)
 
     -- formals have cells of their own
     formals_change : (xs : List Local) (ys : List Formal) (names : List Name) (known : Names) → StandForFormals xs ys → AreWritten a ys → ChangesAreWritten a names known → ChangesAreWritten a (behind_formals xs ys names) (with_locals xs known)
@@ -190,7 +190,7 @@ module _ (a : Allowed) where
     formals_change (x ∷ xs) [] names known stand write ch = absurd stand
     formals_change (x ∷ xs) (y ∷ ys) names known stand write ch =
         formals_change xs ys (local x.name y.kind y.cell ∷ names) (with_known (known_local x) known) stand.1 write.1
-        (changes_more (known_local x) (Single y.kind) y.cell (λ d from to. let same : y.cell ≡ d = omega (arith, from, to) in subst (λ c. a.cells c ≡ true) same write.0) ch)
+        (changes_more a names known (known_local x) (Single y.kind) y.cell (λ d from to. let same : y.cell ≡ d = omega (arith, from, to) in subst (λ c. a.cells c ≡ true) same write.0) ch)
 
     pub proc_allowed : (globals : List Name) (p : Proc) (g : Procedure) (base n m : ℕ) (code : List Instr) (known : Names) → AllowsRuns a rs globals n → ChangesAreWritten a globals known → IsProc procs known p → IsProcRoutine globals rs p g base n code m → AreAllowed a code
     proc_allowed globals p g base n m code known h ch sound is =
