@@ -6,9 +6,9 @@ use Rattle.rvc_base.specs.declared.scalar.Scalar.{Scalar}
 use Rattle.cal_ast.specs.Tree as tree
 use Rattle.cal_ast.specs.Tree.{Tree}
 use Rattle.cal_model.specs.Actor.{Local, Proc}
-use Rattle.cal_model.specs.Kinding.{Kind, Known, Names, counter, known_as, meant_by, type_judged, with_known}
+use Rattle.cal_model.specs.Kinding.{Known, Names, counter, known_as, meant_by, type_judged, with_known}
 use Rattle.cal_model.specs.Sound.{AreStatements, IsProc, IsStatement, MayBeAssigned, kind_of_judged, known_local, with_locals, with_vars_known}
-use Rattle.cal_model.specs.Value.{Shape, Single, Many, scalars_of_type}
+use Rattle.cal_model.specs.Value.{Kind, Shape, Single, Many, scalars_of_type}
 use Rattle.code_ir.specs.declared.instr.Instr.{Instr}
 use Rattle.code_ir.specs.declared.instr.Instr.TheVariants as op
 use Rattle.expr_lower.specs.declared.callees.Formal.{Formal}
