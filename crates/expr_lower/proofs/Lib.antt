@@ -4,6 +4,7 @@ pub mod Listing
 pub mod PartValues
 pub mod Rowed
 pub mod Truthful
+pub mod Bounded
 pub mod MeantIs
 pub mod Generated
 pub mod Effects

@@ -20,6 +20,7 @@ pub mod Parted
 pub mod PartView
 pub mod Seen
 pub mod Meant
+pub mod Bounds
 pub mod Generators
 pub mod ItemsSeen
 pub mod Growing

@@ -30,3 +30,4 @@ pub mod ApartItems
 pub mod Whole
 pub mod StartingLists
 pub mod AddingFunctions
+pub mod Deeper
