@@ -34,3 +34,4 @@ pub mod Erased
 pub mod Seeing
 pub mod AddingRoutines
 pub mod Written
+pub mod BoundWhole

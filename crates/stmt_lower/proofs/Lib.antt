@@ -31,3 +31,5 @@ pub mod ProcServed
 pub mod FittedProcs
 pub mod Readied
 pub mod ProcRows
+pub mod Constants
+pub mod CountedTurns
