@@ -8,6 +8,7 @@ mod apart;
 mod bounds;
 mod counting;
 mod exprs;
+mod fixed;
 mod generators;
 pub mod laws;
 mod lists;
