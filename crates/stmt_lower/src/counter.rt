@@ -1,7 +1,8 @@
 //! The cells of a `foreach`, and the parts of its code that are the same for every body.
 
-ghost use Rattle.std.specs.Prelude.{◌≡◌, ◌+◌, ◌<◌, ◌^◌, ◌≤◌, IfErr, IfOk, IfSome, OnOk};
+ghost use Rattle.std.specs.Prelude.{◌≡◌, ◌∷◌, [], ◌+◌, ◌<◌, ◌^◌, ◌≤◌, IfErr, IfOk, IfSome, OnOk};
 ghost use Rattle.cal_ast.specs.View.{expr_tree, type_tree};
+ghost use Rattle.code_ir.specs.declared.instr.Instr.TheVariants as op;
 ghost use Rattle.expr_lower.specs.declared.fault.LowerFault.TheVariants.{Memory, TooManyCells};
 ghost use Rattle.expr_lower.specs.Lowered.{IsPut};
 ghost use Rattle.stmt_lower.specs.Stating.{count_first, count_next};
@@ -11,7 +12,7 @@ ghost use Rattle.stmt_lower.specs.SeenStmts.{CountsSpan};
 
 use cal_ast::{Expr, TypeExpr};
 use code_ir::Instr;
-use expr_lower::{Draft, LowerFault, put_all};
+use expr_lower::{Draft, LowerFault, put, put_all};
 use list_lower::{bound_of, single_meant};
 use rvc_base::{Num, Scalar, conv};
 
@@ -160,6 +161,14 @@ pub(crate) fn put_first(cell: u32, low: Num, draft: &mut Draft) -> Result<(), Lo
     ensures memory { IfErr result (λ fault. fault ≡ Memory) }
 {
     put_all(draft, &[Instr::Const(low), Instr::Store(cell, None)])
+}
+
+/// Appends a turn alone.
+pub(crate) fn put_turn_alone(draft: &mut Draft) -> Result<(), LowerFault>
+    ensures added { OnOk result (IsPut (op.Turn ∷ []) draft.old draft.new) }
+    ensures memory { IfErr result (λ fault. fault ≡ Memory) }
+{
+    put(draft, Instr::Turn)
 }
 
 /// Appends the instructions that count, and jump back to the turn unless the last number is passed.

@@ -21,7 +21,7 @@ ghost use Rattle.stmt_lower.specs.StmtWords.{run_of, set_of, set_one_of, while_o
 
 use crate::callees::{ProcCallee, procedure_for, put_run};
 use crate::counter::{Span, put_bounds, put_count, put_first, put_less, put_next, put_turn};
-use crate::counter::{span_of, take_cells};
+use crate::counter::{put_turn_alone, span_of, take_cells};
 use crate::deep::set_part;
 use crate::jumps::{exit_at, jump_at};
 use crate::lists::{set_copy, set_filled, set_items};
@@ -337,7 +337,7 @@ fn each_counted(
     let cell = take_cell(draft)?;
     put_first(cell, span.low, draft)?;
     let turn = next_place(draft)?;
-    put(draft, Instr::Turn)?;
+    put_turn_alone(draft)?;
     each_body(scope, name, cell, span.kind, body, draft)?;
     put_count(cell, span.high, turn, draft)
 }

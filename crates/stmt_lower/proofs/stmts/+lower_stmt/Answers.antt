@@ -80,8 +80,8 @@ each_between-returns-in_err-each_body-clause-fault t c =
 pub each_counted-returns-clause-ok : goal.each_counted-returns-clause-ok
 each_counted-returns-clause-ok t c = λ shape from to at counts.
     counted_adds (seen c.args.scope.now) shape from to (body_of c.args.body.now) (string_bytes c.args.name.now.text) c.args.name.now.at at c.args.span c.in_ok-cell.cell
-    c.args.draft.now c.take_cell.new.draft c.put_first.new.draft c.put.new.draft c.each_body.new.draft c.put_count.new.draft c.in_ok-turn.turn
-    counts c.in_ok-cell.ensures.taken c.in_ok-put_first.ensures.added c.in_ok-turn.ensures.place c.in_ok-put.ensures.added c.in_ok-each_body.ensures.ok c.put_count.ensures.added
+    c.args.draft.now c.take_cell.new.draft c.put_first.new.draft c.put_turn_alone.new.draft c.each_body.new.draft c.put_count.new.draft c.in_ok-turn.turn
+    counts c.in_ok-cell.ensures.taken c.in_ok-put_first.ensures.added c.in_ok-turn.ensures.place c.in_ok-put_turn_alone.ensures.added c.in_ok-each_body.ensures.ok c.put_count.ensures.added
 
 pub each_counted-returns-clause-whole : goal.each_counted-returns-clause-whole
 each_counted-returns-clause-whole t c = λ shape from to at counts.
