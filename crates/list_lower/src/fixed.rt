@@ -25,8 +25,8 @@ pub(crate) fn fixed_item(scope: &Scope, base: &Expr, place: &Expr) -> Option<Ins
 /// The offset of an item in the whole list.
 #[cycle(fixed_offset)]
 fn item_offset(scope: &Scope, base: &Expr, place: &Expr) -> Option<u32>
-    ensures at { (at : ℕ) → IfSome result
-        (λ k. fixed_offset (seen scope.now) (index_of base.now place.now at) ≡ Some k) }
+    ensures at { IfSome result
+        (λ k. fixed_offset (seen scope.now) (index_of base.now place.now 0) ≡ Some k) }
 {
     let rows = rows_named(scope, base)?;
     let list = fixed_offset(scope, base)?;

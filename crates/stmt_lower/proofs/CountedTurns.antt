@@ -3,6 +3,7 @@ use Rattle.std.proofs.Common.{◌≡◌, ◌⊎◌, ℕ, zero, suc, ◌+◌, ◌
 use Rattle.std.specs.Prelude.{slice_get, slice_set, if◌then◌else◌, int_lt, not, ◌&&◌, ◌≤ℤ◌, ◌<ℤ◌, unsigned_abs}
 use Rattle.std.specs.Ordering.{int_eq}
 use Rattle.std.proofs.lemmas.Int.{ints}
+use Rattle.std.proofs.lemmas.Bool.Decides.{Decides-int_eq}
 use Rattle.rvc_base.specs.declared.scalar.Scalar.{Scalar}
 use Rattle.rvc_base.specs.declared.scalar.Scalar.TheVariants as scalar
 use Rattle.rvc_base.specs.declared.trap.Trap.TheVariants.{Overflow}
@@ -51,7 +52,7 @@ use Rattle.stmt_lower.proofs.Scoping.{AreLaid, HoldsInside, inside_still}
 
 -- a number that a type holds as it is is one of its range
 held_in_range : (t : Scalar) (z : ℤ) → IsSize t → holds_number t z ≡ true → InRange t z
-held_in_range t z sized e = let same : conv t z ≡ z = grind e in subst (InRange t) same (conv-in-range t z sized)
+held_in_range t z sized e = let same : conv t z ≡ z = (Decides-int_eq (conv t z) z).0 e in subst (InRange t) same (conv-in-range t z sized)
 
 -- what lies between two numbers of a range is in it
 in_between : (t : Scalar) (low i high : ℤ) → InRange t low → InRange t high → int_lt i low ≡ false → int_lt high i ≡ false → InRange t i
@@ -62,8 +63,8 @@ in_between (scalar.Uint n) low i high x y e f = grind (arith, ints, x, y, e, f)
 -- the number behind one of a type's range is a number
 next_is_num : (t : Scalar) (z : ℤ) → IsSize t → InRange t z → IsNum (z +ℤ pos 1)
 next_is_num scalar.Bool z s h = grind (arith, ints, h)
-next_is_num (scalar.Int n) z s h = let e : 2 ^ (n - 1) ≤ 2 ^ max_size = pow_mono (omega arith) in omega (arith, ints)
-next_is_num (scalar.Uint n) z s h = let e : 2 ^ n ≤ 2 ^ max_size = pow_mono (omega arith) in omega (arith, ints)
+next_is_num (scalar.Int n) z s h = let small : n - 1 ≤ max_size = omega arith in let e : 2 ^ (n - 1) ≤ 2 ^ max_size = pow_mono small in omega (arith, ints)
+next_is_num (scalar.Uint n) z s h = let small : n ≤ max_size = omega arith in let e : 2 ^ n ≤ 2 ^ max_size = pow_mono small in omega (arith, ints)
 
 -- both bounds are of the type, and there is a number
 pub record IsHeld (t : Scalar) (low high : ℤ) : Type 0 where

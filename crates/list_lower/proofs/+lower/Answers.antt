@@ -123,13 +123,13 @@ exprs::item-returns-in-Some-clause-ok t c =
     let e : Tree = tree.index (expr_tree c.args.base.now) (expr_tree c.args.place.now) c.args.at in
     on_ok_weaker c.put.result
     (λ (p : IsPut (c.in-Some.instr ∷ []) c.args.draft.now c.put.new.draft). put_adds (IsCode (called c.args.scope.now) (seen c.args.scope.now) e) (c.in-Some.instr ∷ []) c.args.draft.now c.put.new.draft p
-    (λ base n. fixed_is_code (called c.args.scope.now) (seen c.args.scope.now) e base n c.in-Some.instr (c.in-Some.ensures c.args.at)))
+    (λ base n. fixed_is_code (called c.args.scope.now) (seen c.args.scope.now) e base n c.in-Some.instr (c.in-Some.ensures.fixed c.args.at)))
     c.put.ensures.added
 
 pub exprs::item-returns-in-Some-clause-whole : goal.exprs::item-returns-in-Some-clause-whole
 exprs::item-returns-in-Some-clause-whole t c =
     on_ok_weaker c.put.result
-    (λ (p : IsPut (c.in-Some.instr ∷ []) c.args.draft.now c.put.new.draft). fixed_whole (called c.args.scope.now) (seen c.args.scope.now) (expr_tree c.args.base.now) (expr_tree c.args.place.now) c.args.at c.in-Some.instr (c.in-Some.ensures c.args.at))
+    (λ (p : IsPut (c.in-Some.instr ∷ []) c.args.draft.now c.put.new.draft). fixed_whole (called c.args.scope.now) (seen c.args.scope.now) (expr_tree c.args.base.now) (expr_tree c.args.place.now) c.args.at c.in-Some.instr (c.in-Some.ensures.fixed c.args.at))
     c.put.ensures.added
 
 pub exprs::any_item-returns-clause-ok : goal.exprs::any_item-returns-clause-ok

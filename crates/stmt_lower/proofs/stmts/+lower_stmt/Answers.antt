@@ -1,6 +1,8 @@
-use Rattle.std.proofs.Common.{◌≡◌, ◌∷◌, [], length, map, ap, Err, None, Some, string_bytes, subst, sym, rules, arith}
+use Rattle.std.proofs.Common.{◌≡◌, ◌∷◌, [], length, map, ap, Err, None, Some, SFits, of_z, to_z, string_bytes, subst, sym, rules, arith}
 use Rattle.std.specs.Prelude.{IfErr, OnOk}
+use Rattle.std.proofs.lemmas.Int.{to_z-of_z}
 use Rattle.std.proofs.lemmas.Result.{on_ok_weaker}
+use Rattle.rvc_base.specs.Width.{num_width}
 use Rattle.cal_ast.specs.Tree as tree
 use Rattle.cal_ast.specs.Tree.{Tree, listed}
 use Rattle.cal_ast.specs.View.{expr_tree, optional_expr, stmt_tree, type_tree, var_tree}
@@ -9,9 +11,10 @@ use Rattle.cal_model.specs.Value.{Single}
 use Rattle.cal_model.specs.View.{shape_view}
 use Rattle.cal_model.specs.declared.kind.Shape as shapes
 use Rattle.expr_lower.specs.Growing.{IsFault}
+use Rattle.expr_lower.specs.Lowered.{IsPut}
 use Rattle.code_ir.specs.declared.instr.Instr.TheVariants as op
 use Rattle.stmt_lower.specs.declared.counter.Counter.{Counter}
-use Rattle.stmt_lower.specs.Stating.{AreStmts, IsBlock, IsStmt, block_code, each_next, no_more}
+use Rattle.stmt_lower.specs.Stating.{AreStmts, IsBlock, IsStmt, block_code, count_first, count_next, each_next, no_more}
 use Rattle.expr_lower.specs.Meant.{single_meant}
 use Rattle.list_lower.specs.ShapeMeant.{shape_meant}
 use Rattle.stmt_lower.specs.StmtSeen.{called, seen}
@@ -79,14 +82,37 @@ each_between-returns-in_err-each_body-clause-fault t c =
 
 pub each_counted-returns-clause-ok : goal.each_counted-returns-clause-ok
 each_counted-returns-clause-ok t c = λ shape from to at counts.
+    let low_fits : SFits num_width c.args.span.low = search rules in
+    let high_fits : SFits num_width c.args.span.high = search rules in
+    let low_same : to_z num_width (of_z num_width c.args.span.low) ≡ c.args.span.low = to_z-of_z num_width c.args.span.low low_fits in
+    let high_same : to_z num_width (of_z num_width c.args.span.high) ≡ c.args.span.high = to_z-of_z num_width c.args.span.high high_fits in
+    on_ok_weaker c.put_count.result
+    (λ (p : IsPut (count_next c.in_ok-cell.cell (to_z num_width (of_z num_width c.args.span.high)) c.in_ok-turn.turn) c.each_body.new.draft c.put_count.new.draft).
     counted_adds (seen c.args.scope.now) shape from to (body_of c.args.body.now) (string_bytes c.args.name.now.text) c.args.name.now.at at c.args.span c.in_ok-cell.cell
     c.args.draft.now c.take_cell.new.draft c.put_first.new.draft c.put_turn_alone.new.draft c.each_body.new.draft c.put_count.new.draft c.in_ok-turn.turn
-    counts c.in_ok-cell.ensures.taken c.in_ok-put_first.ensures.added c.in_ok-turn.ensures.place c.in_ok-put_turn_alone.ensures.added c.in_ok-each_body.ensures.ok c.put_count.ensures.added
+    counts c.in_ok-cell.ensures.taken (subst (λ z. IsPut (count_first c.in_ok-cell.cell z) c.take_cell.new.draft c.put_first.new.draft) low_same c.in_ok-put_first.ensures.added) c.in_ok-turn.ensures.place c.in_ok-put_turn_alone.ensures.added c.in_ok-each_body.ensures.ok
+    (subst (λ z. IsPut (count_next c.in_ok-cell.cell z c.in_ok-turn.turn) c.each_body.new.draft c.put_count.new.draft) high_same p))
+    c.put_count.ensures.added
 
 pub each_counted-returns-clause-whole : goal.each_counted-returns-clause-whole
 each_counted-returns-clause-whole t c = λ shape from to at counts.
+    on_ok_weaker c.put_count.result
+    (λ (p : IsPut (count_next c.in_ok-cell.cell (to_z num_width (of_z num_width c.args.span.high)) c.in_ok-turn.turn) c.each_body.new.draft c.put_count.new.draft).
     counted_whole (called c.args.scope.now) (seen c.args.scope.now) shape from to (body_of c.args.body.now) (string_bytes c.args.name.now.text) c.args.name.now.at at c.in_ok-cell.cell c.args.span
-    counts c.in_ok-each_body.ensures.whole
+    counts c.in_ok-each_body.ensures.whole)
+    c.put_count.ensures.added
+
+pub each-returns-in-Some-clause-ok : goal.each-returns-in-Some-clause-ok
+each-returns-in-Some-clause-ok t c =
+    c.each_counted.ensures.ok (type_tree c.args.shape.now) (expr_tree c.args.from.now) (expr_tree c.args.to.now) c.args.at c.in-Some.ensures.counts
+
+pub each-returns-in-Some-clause-whole : goal.each-returns-in-Some-clause-whole
+each-returns-in-Some-clause-whole t c =
+    c.each_counted.ensures.whole (type_tree c.args.shape.now) (expr_tree c.args.from.now) (expr_tree c.args.to.now) c.args.at c.in-Some.ensures.counts
+
+pub each-returns-in-Some-clause-fault : goal.each-returns-in-Some-clause-fault
+each-returns-in-Some-clause-fault t c =
+    c.each_counted.ensures.fault (type_tree c.args.shape.now) (expr_tree c.args.from.now) (expr_tree c.args.to.now) c.args.at c.in-Some.ensures.counts
 
 pub each_counted-returns-in_err-each_body-clause-fault : goal.each_counted-returns-in_err-each_body-clause-fault
 each_counted-returns-in_err-each_body-clause-fault t c = λ shape from to at counts.
