@@ -20,8 +20,10 @@ ghost use Rattle.stmt_lower.specs.StmtWords.{alone_of, body_of, branch_of, count
 ghost use Rattle.stmt_lower.specs.StmtWords.{run_of, set_of, set_one_of, while_of};
 
 use crate::callees::{ProcCallee, procedure_for, put_run};
-use crate::counter::{Span, put_bounds, put_count, put_first, put_less, put_next, put_turn};
-use crate::counter::{put_turn_alone, span_of, take_cells};
+use crate::counter::{
+    Span, put_bounds, put_count, put_first, put_less, put_next, put_turn, put_turn_alone, span_of,
+    take_cells,
+};
 use crate::deep::set_part;
 use crate::jumps::{exit_at, jump_at};
 use crate::lists::{set_copy, set_filled, set_items};

@@ -18,7 +18,7 @@ use Rattle.stmt_lower.specs.Stating.{AreStmts, IsBlock, IsStmt, block_code, coun
 use Rattle.expr_lower.specs.Meant.{single_meant}
 use Rattle.list_lower.specs.ShapeMeant.{shape_meant}
 use Rattle.stmt_lower.specs.StmtSeen.{called, seen}
-use Rattle.stmt_lower.specs.SeenStmts.{AddsBlock,  AddsStmt, AreWhyNot, IsWhyNot, behind, left_out_block}
+use Rattle.stmt_lower.specs.SeenStmts.{AddsBlock, AddsStmt, AreWhyNot, IsWhyNot, behind, left_out_block}
 use Rattle.stmt_lower.specs.StmtWords.{body_of, counted_of, foreach_of}
 use Rattle.expr_lower.proofs.Adding.{length_join, same_adds, no_items}
 use Rattle.stmt_lower.proofs.AddingStmts.{counted_adds, counted_fault, counted_whole, each_adds, each_fault, each_whole, none_added, list_open, list_variable_adds, variable_adds, variable_open, more_added, fault_among, alone_adds, fork_adds, while_adds, weight_item}
