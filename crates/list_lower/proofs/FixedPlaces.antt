@@ -189,7 +189,7 @@ module _ (fs : List Function) (names : List Name) (e : Tree) (base n : ℕ) (i :
   less = let w = fixed_within names e d.part fixed.offset d.is fixed.at in let size = d.size in omega (arith, w, count_one, size)
 
   module _ (w : World) (env : Env) (stack : List ℤ) (frames : List ℕ) (cells : List ℤ) (left : ℕ) (stands : StandsAt w.code.instrs base (i ∷ [])) (holds : Holds names w.tokens cells env) where
-    s : State
+    abbrev s : State
     s = state base stack frames cells left
 
     given : GivesPart names env d.part (eval e w.calls env left) left fixed.offset
@@ -250,6 +250,10 @@ places_whole fs names (tree.index base place at) k h =
     ap (λ o. o or_else left_out_in fs names place) (places_whole fs names base s.list s.list_at) ∙ bound_whole fs names place (pos s.place_is) s.written
 places_whole fs names e k h = cc
 
+-- what is left out of an item of a list that has a name, or is a part of one, or of neither
+abbrev index_left : Option ItemList → Option ItemList → Option ℕ → Option ℕ → Option ℕ → Option ℕ
+index_left o d place places apart = elim o [ Some l ↦ place | None ↦ elim d [ Some l ↦ places or_else place | None ↦ apart ] ]
+
 pub fixed_whole : (fs : List Function) (names : List Name) (base place : Tree) (at : ℕ) (i : Instr) → IsFixed names (tree.index base place at) i → left_out_in fs names (tree.index base place at) ≡ None
 fixed_whole fs names base place at i fixed = go (list_named names base) (deep_named names (tree.index base place at)) fixed.deep
   where
@@ -260,13 +264,7 @@ fixed_whole fs names base place at i fixed = go (list_named names base) (deep_na
     place_whole = bound_whole fs names place (pos s.place_is) s.written
 
     go : (o d : Option ItemList) → d ≡ Some fixed.list
-        → elim o [
-          | Some l ↦ left_out_in fs names place
-          | None ↦ elim d [
-            | Some l ↦ left_out_places fs names base or_else left_out_in fs names place
-            | None ↦ left_out_apart (items_seen names base 0) one at (λ list. left_out_fill fs names list base) (left_out_in fs names place)
-          ]
-        ] ≡ None
+        → index_left o d (left_out_in fs names place) (left_out_places fs names base) (left_out_apart (items_seen names base 0) one at (λ list. left_out_fill fs names list base) (left_out_in fs names place)) ≡ None
     go (Some l) d e = place_whole
     go None (Some l) e = ap (λ o. o or_else left_out_in fs names place) (places_whole fs names base s.list s.list_at) ∙ place_whole
     go None None e = cc
