@@ -87,7 +87,7 @@ module _ (a : Allowed) where
       let size : scalars_of_type f.x.shape ≡ l.size = omega (arith, one) in
       subst (λ s. SeatIsRead a l.size s) f.seat (subst (λ k. SeatIsRead a k f.x.seat) size (read f.text f.x f.is))
 
-  deep_read : (names : List Name) (e : Tree) (l : ItemList) → AreRead a names → deep_named names e ≡ Some l → SeatIsRead a l.size l.seat
+  pub deep_read : (names : List Name) (e : Tree) (l : ItemList) → AreRead a names → deep_named names e ≡ Some l → SeatIsRead a l.size l.seat
   deep_read names e l read g =
       let d : IsDeep names e l = deep_found names e l g in
       let f : IsPartOf names d.part = part_found names e d.part d.is in

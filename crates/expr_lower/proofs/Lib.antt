@@ -36,3 +36,4 @@ pub mod Erased
 pub mod Seeing
 pub mod AddingRoutines
 pub mod Written
+pub mod BoundWhole

@@ -31,3 +31,4 @@ pub mod Whole
 pub mod StartingLists
 pub mod AddingFunctions
 pub mod Deeper
+pub mod FixedPlaces

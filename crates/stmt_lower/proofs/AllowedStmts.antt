@@ -29,7 +29,7 @@ use Rattle.list_lower.proofs.Filled.{grows_fill}
 use Rattle.stmt_lower.specs.AllowingRuns.{AllowsRuns, ChangesAreWritten, SeatIsWritten}
 use Rattle.stmt_lower.specs.Procedures.{Procedure, Routines}
 use Rattle.stmt_lower.specs.Proceeding.{IsProcBody, IsProcRoutine, local_list, local_more, no_local}
-use Rattle.stmt_lower.specs.Stating.{IsKept, IsStmt, AreStmts, copy_code, no_place, part_tail, place_more, set, set_filled, set_item, set_items, set_list, set_part, set_part_list, set_whole, step_code, step_in, if_alone, if_else, while_code, each_code, each_head, each_tail, block_code, none, one_more, IsBlock, list_more, no_more, variable_more, call, run_code}
+use Rattle.stmt_lower.specs.Stating.{IsKept, IsStmt, AreStmts, copy_code, no_place, part_tail, place_more, set, set_filled, set_item, set_items, set_list, set_part, set_part_list, set_whole, step_code, step_in, count_next, if_alone, if_else, while_code, each_code, each_counted, each_head, each_tail, block_code, none, one_more, IsBlock, list_more, no_more, variable_more, call, run_code}
 use Rattle.stmt_lower.specs.Targets.{leaf_of}
 use Rattle.stmt_lower.proofs.DeepItems.{grows_kept}
 use Rattle.stmt_lower.proofs.Executed.{grows_all, grows_block, grows_start, grows_stmt}
@@ -149,6 +149,11 @@ module _ (a : Allowed) where
           let next : AreAllowed a tail = (tt, (tt, (tt, (tt, (tt, (tt, (tt, (own_first, (tt, tt))))))))) in
           allowed_then a x (y ++ (head ++ (z ++ tail))) (code_allowed a rs.functions names (allows_more (n + 3) (omega arith) h.inside) g)
           (allowed_then a y (head ++ (z ++ tail)) (code_allowed a rs.functions names (allows_more k (omega (arith, up)) h.inside) d) (allowed_then a head (z ++ tail) bounds (allowed_then a z tail inner next)))
+      stmt_allowed known h ch ok (each_counted names shape from to body text place at base n m low high c t e f1 f2 f3 q) =
+          let own = own_one n (omega arith) h.inside in
+          let inner = all_allowed (with_known (counter text) known) (runs_local text (Single t) n (runs_more (n + 1) (omega arith) h)) (changes_more a names known (counter text) (Single t) n (own_all n 1 (omega arith) h.inside) ch) ok.5 q in
+          let tail : List Instr = count_next n high (base + 2) in
+          (tt, (own, (tt, allowed_then a c tail inner (tt, (tt, (tt, (own, (tt, (tt, (tt, (tt, tt)))))))))))
       stmt_allowed known h ch ok (block_code names vars body at base n m code g) = block_allowed known h ch ok.2 g
 
       pub block_allowed : {names : List Name} {vars body : Tree} {base n m : ℕ} {code : List Instr} (known : Names) → AllowsRuns a rs names n → ChangesAreWritten a names known → AreStatements body procs (with_vars_known vars known) → IsBlock rs names vars body base n code m → AreAllowed a code

@@ -32,3 +32,5 @@ pub mod FittedProcs
 pub mod Readied
 pub mod ProcRows
 pub mod AllowedStmts
+pub mod Constants
+pub mod CountedTurns
