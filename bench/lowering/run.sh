@@ -26,6 +26,11 @@ for name in "${below[@]}"; do
 done
 mkdir -p "$work/crates/lowering_bench/src"
 cp "$here/driver.rt.txt" "$work/crates/lowering_bench/src/main.rt"
+for file in "$here"/proofs/*.txt; do
+    name=$(basename "$file" .txt)
+    mkdir -p "$work/crates/lowering_bench/proofs/${name%.*}"
+    cp "$file" "$work/crates/lowering_bench/proofs/${name%.*}/${name#*.}.antt"
+done
 {
     printf '//! The code of bodies.\n\nuse code_ir::Instr;\nuse rvc_base::{Num, Scalar};\n\n'
     cat "$work/tables"
