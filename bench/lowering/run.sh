@@ -14,6 +14,7 @@ bash "$here/lowered.sh" "$top" "$work" "$here/bodies" Sat.cal Idct.cal Crc.cal G
 cat "$work/lowered.txt" "$here/hand.txt" | awk -f "$here/tables.awk" >"$work/tables"
 
 # The driver is a program over crates of the checkout. What the checkout has proved already isn't proved again.
+cp "$top/HANDLES" "$work/"
 below=(rvc_base code_ir action_machine)
 for name in "${below[@]}"; do
     mkdir -p "$work/crates/$name"
