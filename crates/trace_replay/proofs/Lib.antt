@@ -1,3 +1,7 @@
+pub mod Ahead
+pub mod Waits
+pub mod Stacks
+pub mod Behind
 mod Rows
 pub mod Limits
 pub mod Pulling

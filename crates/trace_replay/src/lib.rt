@@ -13,6 +13,7 @@ mod events;
 mod growing;
 mod growth;
 mod head;
+mod holding;
 mod laws;
 mod reading;
 mod replayed;
