@@ -1,26 +1,29 @@
 -- What lies on stacks is put back, and taken back, link by link.
-use Rattle.std.proofs.Common.{◌≡◌, ◌≢◌, ℕ, zero, suc, ◌+◌, ◌<◌, ◌≤◌, true, false, List, [], ◌∷◌, ℤ, length, take, drop, map, refl, sym, ap, subst, ◌∙◌, ⊎_elim, arith}
-use Rattle.std.specs.Prelude.{Some, slice_get, slice_set, slice_index_or}
+use Rattle.std.proofs.Common.{◌≡◌, ◌≢◌, ℕ, zero, suc, ◌+◌, ◌<◌, ◌≤◌, true, false, List, [], ◌∷◌, ℤ, length, take, drop, map, min, refl, sym, ap, subst, ◌∙◌, ⊎_elim, arith}
+use Rattle.std.specs.Prelude.{Some, slice_get, slice_set, slice_index_or, if◌then◌else◌}
 use Rattle.std.proofs.lemmas.Bool.{cases_eq}
 use Rattle.std.proofs.lemmas.List.{length-map, length-set}
 use Rattle.token_ring.specs.Queue.{Queue}
 use Rattle.net_model.specs.declared.wiring.Link.{Link}
 use Rattle.net_model.specs.Network.{Network, is_input}
-use Rattle.net_model.specs.State.{Flow, State}
+use Rattle.net_model.specs.State.{Flow, State, untaken}
+use Rattle.net_model.specs.Event.{after_arrival}
 use Rattle.net_model.specs.Cell.{Cell}
 use Rattle.net_model.specs.Wired.{IsWired}
 use Rattle.net_state.specs.Filling.{IsInputLink}
 use Rattle.net_state.specs.Held.{Held}
 use Rattle.net_state.specs.Standing.{StandsIn, unarrived}
-use Rattle.net_state.specs.TakingBack.{PutsAll, TakesAll, WaitElsewhere, down, waits_on}
+use Rattle.net_state.specs.TakingBack.{PutsAll, TakesAll, WaitElsewhere, down, waits_on, with_arrivals}
 use Rattle.net_state.specs.Working.{IsAtRest}
 use Rattle.net_state.proofs.Gaining.{get_set_other, get_set_same, some_is, there_too}
 use Rattle.net_state.proofs.Kept.{same_then}
 use Rattle.net_state.proofs.Surveying.{same_all}
 use Rattle.network_runner.proofs.Begun.{map_at, map_index}
-use Rattle.trace_replay.specs.Holding.{AreEmpty, ComeNext, FitStacks, FitsStack, IsBehind, KeepsRest, MayBeAhead, PutsEach, PutsOne, TakesEach, TakesOne, ahead, ahead_by, ahead_on, counts_of, rooms_of, tokens_of_stacks}
+use Rattle.net_state.specs.declared.filling.Filled.{Filled}
+use Rattle.trace_replay.specs.Holding.{AreEmpty, ComeNext, CountsOnePut, CountsPut, FitStacks, FitsStack, IsBehind, KeepsRest, MayBeAhead, PutsEach, PutsOne, TakesEach, TakesOne, ahead, ahead_by, ahead_on, counts_of, rooms_of, tokens_of_stacks}
 use Rattle.trace_replay.proofs.Ahead.{ahead_in, ahead_more, ahead_none, ahead_out, prefix_same, set_self, take_whole}
 use Rattle.trace_replay.proofs.Chained.{There, is_low, low_there, there}
+use Rattle.trace_replay.proofs.Waits.{inside_input, waits_untaken}
 
 -- What stays.
 
@@ -207,6 +210,26 @@ takes_nothing l n link stack held inner = record {
   keeps = keeps_none held;
 }
 
+pub takes_stack : {X : Type 0} (l n count : ℕ) (link : Link) (before after : List ℤ) (old new : Held (Cell X)) → before ≡ [] → is_input link ≡ true → count ≡ min n (waits_on old l) → TakesAll l count before after old new
+    → (IsAtRest old → IsAtRest new) → WaitElsewhere l old new → KeepsRest old new → TakesOne l n link old new after
+takes_stack {X} l n count link before after old new empty input least takes rests elsewhere keeps = record {
+  states = λ net s flow wired at there ordered sent stood.
+      let later : Flow = after_arrival n link flow in
+      let stood_later : StandsIn net old (with_arrivals n s l link flow) = subst (λ f. StandsIn net old (record s { flows = slice_set s.flows l f })) (ahead_in link n flow input) stood in
+      let waits : waits_on old l ≡ untaken later =
+      waits_untaken net old (with_arrivals n s l link flow) wired stood_later l link later at (get_set_same s.flows l flow later there) input in
+      let taken : later.taken ≡ flow.taken = ap (λ b. if b then flow.taken + n else flow.taken) (inside_input net old (with_arrivals n s l link flow) wired stood_later l link later at (get_set_same s.flows l flow later there) input) in
+      let all : count ≡ n = omega (arith, least, waits, taken, ordered) in
+      let so : TakesAll l n before after old new = subst (λ k. TakesAll l k before after old new) all takes in
+      let both = so net s link flow at there ordered (sent input) stood_later in (
+        both.0,
+        λ _. both.1 (drop (flow.arrived + n) flow.sent) (ap (λ ts. down ts (drop (flow.arrived + n) flow.sent)) (sym empty)),
+      );
+  rests = rests;
+  elsewhere = elsewhere;
+  keeps = keeps;
+}
+
 -- The stacks of the links from link l on were taken.
 pub record IsTakingEach {X : Type 0} (l : ℕ) (counts : List ℕ) (old now : Held (Cell X)) (first left : List Queue) : Type 0 where
   pub keeps : KeepsRest old now
@@ -315,3 +338,31 @@ module _ {X : Type 0} (counts : List ℕ) (old now : Held (Cell X)) (first left 
     count = so_far.long ∙ (count ∙ sym (ap (λ ls. length ls) so_far.keeps.links));
     each = λ l link stack at at_stack. so_far.fit l link stack (omega arith) at at_stack;
   }
+
+-- What was put back is counted link by link.
+pub record IsCountingPut (l : ℕ) (put : List ℕ) (first now : List Filled) : Type 0 where
+  pub done : (m : ℕ) (before after : Filled) → m < l → slice_get first m ≡ Some before → slice_get now m ≡ Some after → CountsOnePut (slice_index_or put m 0) before after
+  pub left : (m : ℕ) → l ≤ m → slice_get now m ≡ slice_get first m
+
+pub counting_starts : (put : List ℕ) (came : List Filled) → IsCountingPut 0 put came came
+counting_starts put came = record { done = λ m before after low was is. absurd (omega (arith, low)); left = λ m high. refl }
+
+pub counting_more : (l : ℕ) (put : List ℕ) (first now : List Filled) (old new : Filled) → IsCountingPut l put first now → slice_get now l ≡ Some old → CountsOnePut (slice_index_or put l 0) old new
+    → IsCountingPut (suc l) put first (slice_set now l new)
+counting_more l put first now old new so_far at counts = record {
+  done = λ m before after low was is. ⊎_elim
+      (λ (same : m ≡ l).
+      let before_is : before ≡ old = some_is before old (sym was ∙ (ap (slice_get first) same ∙ (sym (so_far.left l (omega arith)) ∙ at))) in
+      let after_is : after ≡ new = some_is after new (sym is ∙ (ap (slice_get (slice_set now l new)) same ∙ get_set_same now l old new at)) in
+      subst (λ k. CountsOnePut (slice_index_or put k 0) before after) (sym same)
+      (subst (λ x. CountsOnePut (slice_index_or put l 0) x after) (sym before_is) (subst (λ y. CountsOnePut (slice_index_or put l 0) old y) (sym after_is) counts)))
+      (λ (differ : m ≢ l). so_far.done m before after (omega (arith, low, differ)) was (sym (get_set_other now m l new differ) ∙ is))
+      (cases_eq m l);
+  left = λ m high. get_set_other now m l new (λ same. omega (arith, high, same)) ∙ so_far.left m (omega (arith, high));
+}
+
+pub counting_all : (l : ℕ) (put : List ℕ) (first now : List Filled) → IsCountingPut l put first now → length now ≡ length first → length first ≤ l → CountsPut put first now
+counting_all l put first now so_far long all = record {
+  as_many = long;
+  each = λ m before after was is. so_far.done m before after (let low : m < length first = is_low first m before was in omega (arith, low, all)) was is;
+}
