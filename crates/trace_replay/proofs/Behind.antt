@@ -130,7 +130,7 @@ module _ {X : Type 0} (old mid new : Held (Cell X)) (stacks : List Queue) (befor
     many : length (counts_of stacks) ≡ length net.links
     many = length-map stacks (λ (q : Queue). length q.tokens) ∙ (fit.count ∙ sym (ap (λ ls. length ls) stands.is_of.links_are))
 
-    next : State X
+    abbrev next : State X
     next = ahead net (counts_of stacks) s
 
     module _ (l : ℕ) (link : Link) (flow : Flow) (at : slice_get net.links l ≡ Some link) (there_flow : slice_get s.flows l ≡ Some flow) where

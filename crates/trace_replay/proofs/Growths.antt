@@ -234,10 +234,10 @@ module _ {X : Type 0} (grow l capacity : ℕ) (held made grew back new : Held (C
     flow : There s.flows l
     flow = there net.links s.flows l link.item whole link.at
 
-    wider : Flow
+    abbrev wider : Flow
     wider = record { sent = flow.item.sent; arrived = flow.item.arrived; taken = flow.item.taken; capacity = capacity }
 
-    next : State X
+    abbrev next : State X
     next = record s { flows = slice_set s.flows l wider }
 
     goes_next : grown s l capacity (slice_get s.flows l) ≡ Some next
