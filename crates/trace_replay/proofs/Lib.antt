@@ -1,4 +1,5 @@
 pub mod Ahead
+pub mod Making
 pub mod Waits
 pub mod Stacks
 pub mod Behind
