@@ -256,8 +256,8 @@ module _ {X : Type 0} (grow l capacity : ℕ) (held made grew back new : Held (C
     stood : StandsIn net grew (ahead net (came_counts came) next)
     stood =
         let now = of_some (grown (after_delivery net s) l capacity (slice_get (after_delivery net s).flows l)) (λ u. StandsSince net grew (after_delivery net s) u)
-            (record { actors = s.actors; flows = slice_set (after_delivery net s).flows l wider; trapped = s.trapped })
-            (ap (grown (after_delivery net s) l capacity) flow_then) both.1 in
+        (record { actors = s.actors; flows = slice_set (after_delivery net s).flows l wider; trapped = s.trapped })
+        (ap (grown (after_delivery net s) l capacity) flow_then) both.1 in
         subst (λ fs. StandsIn net grew (record s { flows = fs }))
         (ap (λ w. slice_set w.flows l wider) same_state ∙ sym (ahead_set l (came_counts came) net.links s.flows link.item wider link.at inner)) now.now
 

@@ -163,7 +163,7 @@ module _ {X : Type 0} (l : ℕ) (old now : Held (Cell X)) (first left : List Que
         let mid = so_far.states net s later stood behind in
         let here : slice_get (ahead net (take l (counts_of first)) s).flows l ≡ Some flow.item = prefix_same l (counts_of first) net.links s.flows ∙ flow.at in
         let next : is_input link.item ≡ true → drop flow.item.arrived flow.item.sent ≡ down stack.tokens (unarrived (slice_get later.flows l)) = λ input.
-            sym (ap unarrived flow.at) ∙ (behind.each l link.item link.at input ∙ ap (λ ts. down ts (unarrived (slice_get later.flows l))) (tokens_at first l stack at_first)) in
+        sym (ap unarrived flow.at) ∙ (behind.each l link.item link.at input ∙ ap (λ ts. down ts (unarrived (slice_get later.flows l))) (tokens_at first l stack at_first)) in
         subst (StandsIn net new) (sym (ahead_more net (counts_of first) s l (length stack.tokens) link.item flow.item (map_at (λ (q : Queue). length q.tokens) first l stack at_first) link.at flow.at))
         (puts.states net (ahead net (take l (counts_of first)) s) link.item flow.item (unarrived (slice_get later.flows l)) link.at here next mid);
     waits = λ m high. puts.elsewhere m (λ same. omega (arith, high, same)) ∙ so_far.waits m (omega (arith, high));
@@ -202,8 +202,8 @@ module _ {X : Type 0} (l : ℕ) (old now : Held (Cell X)) (first left : List Que
 pub takes_nothing : {X : Type 0} (l n : ℕ) (link : Link) (stack : List ℤ) (held : Held (Cell X)) → is_input link ≡ false → TakesOne l n link held held stack
 takes_nothing l n link stack held inner = record {
   states = λ net s flow wired at there ordered sent stood. (
-      subst (StandsIn net held) (ap (λ fs. record s { flows = fs }) (ap (slice_set s.flows l) (ahead_out link n flow inner) ∙ set_self s.flows l flow there)) stood,
-      λ input. (let clash : true ≡ false = sym input ∙ inner in cc),
+    subst (StandsIn net held) (ap (λ fs. record s { flows = fs }) (ap (slice_set s.flows l) (ahead_out link n flow inner) ∙ set_self s.flows l flow there)) stood,
+    λ input. (let clash : true ≡ false = sym input ∙ inner in cc),
   );
   rests = λ rest. rest;
   elsewhere = λ m differ. refl;
@@ -245,11 +245,11 @@ taking_starts l counts held stacks all many = record {
   keeps = keeps_none held;
   rests = λ rest. rest;
   states = λ net s wired may stood. (
-      subst (λ cs. StandsIn net held (ahead net cs s)) (sym (ap (λ n. take n counts) (sym many) ∙ take_whole counts)) stood,
-      λ m link flow high at there input.
-          let low : m < length net.links = is_low net.links m link at in
-          let links : length net.links ≡ length held.links = ap (λ ls. length ls) stood.is_of.links_are in
-          absurd (omega (arith, high, low, links, all)),
+    subst (λ cs. StandsIn net held (ahead net cs s)) (sym (ap (λ n. take n counts) (sym many) ∙ take_whole counts)) stood,
+    λ m link flow high at there input.
+        let low : m < length net.links = is_low net.links m link at in
+        let links : length net.links ≡ length held.links = ap (λ ls. length ls) stood.is_of.links_are in
+        absurd (omega (arith, high, low, links, all)),
   );
   fit = λ m link stack high at at_stack. let low : m < length held.links = is_low held.links m link at in absurd (omega (arith, high, low, all));
   same = λ m low. refl;
@@ -295,8 +295,8 @@ module _ {X : Type 0} (l : ℕ) (counts : List ℕ) (old now new : Held (Cell X)
         let here : slice_get (ahead net (take l counts) s).flows l ≡ Some flow.item = prefix_same l counts net.links s.flows ∙ flow.at in
         let n_is : slice_index_or counts l 0 ≡ n = Rattle.std.proofs.lemmas.Option.get_or_from_slice_get counts l n 0 at_count in
         let one = takes.states net (ahead net (take l counts) s) flow.item wired at here (may.ordered l link flow.item at flow.at)
-            (λ input. subst (λ k. flow.item.arrived + k ≤ length flow.item.sent) n_is (may.sent l link flow.item at flow.at input))
-            (subst (StandsIn net now) (ahead_more net counts s l n link flow.item at_count at flow.at) was.0) in (
+        (λ input. subst (λ k. flow.item.arrived + k ≤ length flow.item.sent) n_is (may.sent l link flow.item at flow.at input))
+        (subst (StandsIn net now) (ahead_more net counts s l n link flow.item at_count at flow.at) was.0) in (
           one.0,
           λ m other that high at_m there_m input. ⊎_elim
               (λ (same : m ≡ l).

@@ -242,7 +242,13 @@ fn take_back_each<A: Firing>(
     let mut l = links.len();
     'links: while l > 0 {
         l -= 1;
-        take_back_one(state, LinkId(l as u32), &links[l], came[l].tokens, &mut stacks[l]);
+        take_back_one(
+            state,
+            LinkId(l as u32),
+            &links[l],
+            came[l].tokens,
+            &mut stacks[l],
+        );
     }
 }
 
