@@ -21,7 +21,6 @@ use Rattle.net_model.proofs.Twins.{StepToo, TwinNets, Twins, each_same, twin, tw
 use Rattle.net_model.proofs.LikeLines.{between_back, goes_too, grows_too, line_too, plays_too, quiet_back, stalled_back, stuck_back}
 use Rattle.network_cells.proofs.Lawlike.{carried, keep_alike, nets, texts_alike, twins_of}
 use Rattle.alike_traces.specs.Traces.{trial}
-use Rattle.trace_replay.specs.Events.{IsUnfedGrowth}
 use Rattle.trace_replay.specs.Judging.{AreOfTable, AtEnd, AtEvents, AtFirst, AtInstance, EventFails, FiringFails, IsNotRun, IsOver, IsTrace, LacksRoomIn, Lead, LeadsOn, LineFails, MayCome, Reached, RestFails, BeginsNone, IsOfNoTable, MayNotCome, IsBehindEnd, IsCutOff, GoesPast, EndsPast, TrapComes, Trial, after_line, due, first_line, instance_text, is_end}
 use Rattle.trace_replay.specs.declared.why.Why.{Why}
 
@@ -385,42 +384,6 @@ module _ {X Y : Type 0} (related : ℕ → X → Y → Type 0) (allowed : Allowe
         fails = rest_fails_too told.reached lead.that told.rest told.longer why lead.fellows told.fails;
       }
 
-  -- a growth where more is to come is one there too
-  record EventsToo (opened s : State X) (that : Reached Y) : Type 0 where
-    first : List Y
-    those : List Y
-    is : that ≡ AtEvents (twin opened first) (twin s those)
-    twins : Fit s those
-
-  events_only : (opened s : State X) (that : Reached Y) → Fellows (AtEvents opened s) that → EventsToo opened s that
-  events_only opened s that (events _ _ first those twins) = record { first = first; those = those; is = refl; twins = twins }
-
-  unfed_growth_too : (text : List ℕ) (n : ℕ) (why : Why) → IsUnfedGrowth t text n why → IsUnfedGrowth fellow text n why
-  unfed_growth_too text n why told =
-      let lead = lead_too told.texts AtFirst (AtEvents told.opened told.s) AtFirst firsts told.lead in
-      let at = events_only told.opened told.s lead.that lead.fellows in
-      record {
-        texts = told.texts;
-        front = told.front;
-        more = told.more;
-        line = told.line;
-        opened = twin told.opened at.first;
-        s = twin told.s at.those;
-        is_text = told.is_text;
-        lead = subst (λ r. Lead fellow AtFirst told.texts r) at.is lead.lead;
-        growth = record {
-          l = told.growth.l;
-          capacity = told.growth.capacity;
-          line_is = told.growth.line_is;
-          grows = grows_too related allowed t.net others twins_there t.grow told.s at.those told.growth.l told.growth.capacity at.twins told.growth.grows;
-          unfed = told.growth.unfed;
-        };
-        spells = told.spells;
-        of_table = told.of_table;
-        number = told.number;
-        why_is = told.why_is;
-      }
-
   of_table_too : (lines : List Line) → AreOfTable t lines → AreOfTable fellow lines
   of_table_too lines of_table = record {
     first = subst IsWritten first_same of_table.first;
@@ -438,11 +401,6 @@ module _ {X Y : Type 0} (related : ℕ → X → Y → Type 0) (allowed : Allowe
   not_run_alike text n why told =
       carried related allowed net other alike (λ m w. IsNotRun (trial m grow w) text n why) s that states
       (not_run_too related allowed (trial net grow s) other.leaves that.actors (nets related allowed net other alike) (twins_of related allowed net other alike s that states) text n why told)
-
-  pub unfed_growth_alike : (text : List ℕ) (n : ℕ) (why : Why) → IsUnfedGrowth (trial net grow s) text n why → IsUnfedGrowth (trial other grow that) text n why
-  unfed_growth_alike text n why told =
-      carried related allowed net other alike (λ m w. IsUnfedGrowth (trial m grow w) text n why) s that states
-      (unfed_growth_too related allowed (trial net grow s) other.leaves that.actors (nets related allowed net other alike) (twins_of related allowed net other alike s that states) text n why told)
 
   pub trace_alike : (text : List ℕ) (lines : List Line) (end : Line) (last : State X) → IsTrace (trial net grow s) text lines end last
       → (there : State Y) × IsTrace (trial other grow that) text lines end there × StatesAlike related allowed net last there

@@ -5,7 +5,6 @@ use Rattle.trace_text.specs.declared.line.Line.{Line}
 use Rattle.net_model.specs.Network.{Network}
 use Rattle.net_model.specs.State.{State}
 use Rattle.net_model.specs.Alike.{Allowed, AreAlike, StatesAlike}
-use Rattle.trace_replay.specs.Events.{IsUnfedGrowth}
 use Rattle.trace_replay.specs.Judging.{IsNotRun, IsTrace, Trial}
 use Rattle.trace_replay.specs.declared.why.Why.{Why}
 
@@ -30,11 +29,3 @@ NoRunsAlike {X} {Y} related allowed = (net : Network X) (other : Network Y) (gro
     (s : State X) (that : State Y) (text : List ℕ) (line : ℕ) (why : Why)
     → AreAlike related allowed net other → StatesAlike related allowed net s that
     → IsNotRun (trial net grow s) text line why → IsNotRun (trial other grow that) text line why
-
--- .. and a growth that is true over the one, where more is to come, is such a growth over the other
-abbrev pub UnfedGrowthsAlike : {X Y : Type 0} → (ℕ → X → Y → Type 0) → Allowed → Type 0
-UnfedGrowthsAlike {X} {Y} related allowed = (net : Network X) (other : Network Y) (grow : ℕ)
-    (s : State X) (that : State Y) (text : List ℕ) (line : ℕ) (why : Why)
-    → AreAlike related allowed net other → StatesAlike related allowed net s that
-    → IsUnfedGrowth (trial net grow s) text line why
-    → IsUnfedGrowth (trial other grow that) text line why

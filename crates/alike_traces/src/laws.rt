@@ -2,15 +2,14 @@
 //!
 //! The law is the contract of a function that does nothing: it is proved with the crate, and can be cited.
 
-ghost use Rattle.alike_traces.specs.Traces.{NoRunsAlike, TracesAlike, UnfedGrowthsAlike};
+ghost use Rattle.alike_traces.specs.Traces.{NoRunsAlike, TracesAlike};
 
 use net_model::Likeness;
 
 /// Networks that are alike have the same traces from states that are alike. A trace of the one leads there to states that
 /// are alike (`traces`); of a text that is none, what is told over the one may be told over the other: the line that no run
-/// has, and why (`no_runs`), or the growth at which replay stops since more is to come from outside (`unfed_growths`).
+/// has, and why (`no_runs`).
 pub fn traces_are_alike<K: Likeness>()
     ensures traces { TracesAlike K.related K.allowed }
     ensures no_runs { NoRunsAlike K.related K.allowed }
-    ensures unfed_growths { UnfedGrowthsAlike K.related K.allowed }
 {}

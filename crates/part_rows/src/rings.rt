@@ -23,3 +23,18 @@ fn a_ring_is_a_list(rt: HostRuntime) -> Result<(), Fail> {
     assert_eq!(rt; tokens.at(2), 5);
     Ok(())
 }
+
+#[test]
+fn the_newest_is_taken_back(rt: HostRuntime) -> Result<(), Fail> {
+    let mut ring = Ring::new(rt.alloc(), 2)?;
+    ring.push(1);
+    ring.push(2);
+    ring.take(1);
+    ring.push(3);
+    assert_eq!(rt; ring.take_back(), 3);
+    assert_eq!(rt; ring.len(), 1);
+    assert_eq!(rt; ring.at(0), 2);
+    ring.push(4);
+    assert_eq!(rt; ring.at(1), 4);
+    Ok(())
+}

@@ -1,5 +1,5 @@
 -- What is judged over the cells of an image is judged over its source network.
-use Rattle.std.proofs.Common.{◌≡◌, inl, inr, ℕ, List, map, subst}
+use Rattle.std.proofs.Common.{◌≡◌, ℕ, List, map, subst}
 use Rattle.std.specs.Prelude.{Some, string_bytes}
 use Rattle.std.specs.Arc.{arc_value}
 use Rattle.std.specs.declared.result.Result.{Result}
@@ -36,7 +36,7 @@ use Rattle.network_commands.specs.Commands.{port_names}
 use Rattle.replay_job.specs.Steps.{Judges, source_trial, trial_of}
 use Rattle.replay_job.specs.declared.outcome.NotReplayed.{NotReplayed}
 use Rattle.replay_job.specs.declared.outcome.NotReplayed.TheVariants as stop
-use Rattle.alike_traces.proofs.LikeTraces.{not_run_alike, trace_alike, unfed_growth_alike}
+use Rattle.alike_traces.proofs.LikeTraces.{not_run_alike, trace_alike}
 
 module _ (actors : List Actor) (codes : List coded.Actor) (net : Network ActorState) (alike : AreAlike (stands_at actors) (may_come_at actors) (lowered_network codes net) net)
     (is : IsActorNetwork actors net) (lawful : ActorNetworksAreLawful) (none : NoTraceIsNotRun ActorState)
@@ -58,12 +58,10 @@ module _ (actors : List Actor) (codes : List coded.Actor) (net : Network ActorSt
       }
 
   refused_too : (text : List ℕ) (fault : ReplayFault) → IsRefused (trial_of (lowered_network codes net) cells inputs grow) text fault → IsRefused (source_trial net inputs grow) text fault
-  refused_too text (NotRun line why) (inl refused) =
+  refused_too text (NotRun line why) refused =
       let not_run = not_run_alike (stands_at actors) (may_come_at actors) (lowered_network codes net) net alike grow begin (start_of net inputs) states text line why refused.0 in
       let laws = lawful actors net is in
-      inl (not_run, (λ lines end last short is_trace. none (source_trial net inputs grow) text lines end last line why laws.0 laws.1 short is_trace not_run))
-  refused_too text (NotRun line why) (inr late) =
-      inr (unfed_growth_alike (stands_at actors) (may_come_at actors) (lowered_network codes net) net alike grow begin (start_of net inputs) states text line why late)
+      (not_run, λ lines end last short is_trace. none (source_trial net inputs grow) text lines end last line why laws.0 laws.1 short is_trace not_run)
   refused_too text (ReadFault feed) refused = tt
   refused_too text Memory refused = tt
 

@@ -21,6 +21,8 @@ pub(crate) enum Named {
     Race,
     /// A token is divided by the next.
     Div,
+    /// It takes two tokens of one port once. Then a token is divided by the next, as soon as the other port has two.
+    Late,
 }
 
 const BYTE: Option<Scalar> = Some(Scalar::Uint(8));
@@ -77,6 +79,26 @@ const DIV: &[Instr] = &[
     Instr::Done,
 ];
 
+/// The guards at 0 and 4, the firings at 8 and 11. Cell 0 is the state variable.
+const LATE: &[Instr] = &[
+    Instr::Load(0),
+    Instr::Const(0),
+    Instr::Eq,
+    Instr::Answer,
+    Instr::Load(0),
+    Instr::Const(2),
+    Instr::Eq,
+    Instr::Answer,
+    Instr::Const(2),
+    Instr::Store(0, PAIR),
+    Instr::Done,
+    Instr::Token(0, 0),
+    Instr::Token(0, 1),
+    Instr::Div,
+    Instr::Store(1, BYTE),
+    Instr::Done,
+];
+
 fn code(alloc: Global, instrs: &[Instr], entries: &[u32], cells: u32) -> Result<Admitted, Memory> {
     let code = ActorCode {
         instrs: Vec::from_slice(alloc, instrs)?,
@@ -98,6 +120,7 @@ fn admitted(alloc: Global, named: Named) -> Result<Admitted, Memory> {
         Named::Join => code(alloc, JOIN, &[0], 1),
         Named::Race => code(alloc, RACE, &[0, 4, 7], 2),
         Named::Div => code(alloc, DIV, &[0], 1),
+        Named::Late => code(alloc, LATE, &[0, 4, 8, 11], 2),
     }
 }
 
@@ -110,6 +133,11 @@ const JOINS: &[(&[u32], &[u32], &[u32], u32, u32)] = &[(&[1, 1], &[1], &[], 0, 0
 const RACES: &[(&[u32], &[u32], &[u32], u32, u32)] = &[
     (&[1], &[0], &[0], 4, 1),
     (&[0], &[1], &[0], 7, 1),
+];
+
+const LATES: &[(&[u32], &[u32], &[u32], u32, u32)] = &[
+    (&[2, 0], &[0], &[0], 8, 1),
+    (&[2, 2], &[1], &[4], 11, 1),
 ];
 
 /// Of each, the tokens that it takes and sends, its guards, its firing, and the first cell from which it sends.
@@ -135,13 +163,14 @@ fn actions(alloc: Global, named: Named) -> Result<Vec<ActionCode>, Memory> {
         Named::Sum | Named::Div => shaped(alloc, ONE_FOR_TWO),
         Named::Join => shaped(alloc, JOINS),
         Named::Race => shaped(alloc, RACES),
+        Named::Late => shaped(alloc, LATES),
         _ => shaped(alloc, ONE_FOR_ONE),
     }
 }
 
 fn automaton(alloc: Global, named: Named) -> Result<Fsm, Memory> {
     let built = match named {
-        Named::Race => build(alloc, &[], &[true, true], 1),
+        Named::Race | Named::Late => build(alloc, &[], &[true, true], 1),
         _ => build(alloc, &[], &[true], 1),
     };
     built.map_err(|_fault| Memory)
@@ -149,7 +178,7 @@ fn automaton(alloc: Global, named: Named) -> Result<Fsm, Memory> {
 
 fn order(alloc: Global, named: Named) -> Result<Order, Memory> {
     let closed = match named {
-        Named::Race => close(alloc, &[(0, 1)], 2),
+        Named::Race | Named::Late => close(alloc, &[(0, 1)], 2),
         _ => close(alloc, &[], 1),
     };
     closed.map_err(|_fault| Memory)
@@ -158,7 +187,7 @@ fn order(alloc: Global, named: Named) -> Result<Order, Memory> {
 /// The state variables: their types, in the first cells.
 fn saved(alloc: Global, named: Named) -> Result<Vec<StateCell>, Memory> {
     let mut saved = Vec::new(alloc);
-    if named == Named::Race {
+    if kept(named) == 1 {
         saved.push(StateCell {
             cell: 0,
             kind: Scalar::Uint(2),
@@ -170,8 +199,16 @@ fn saved(alloc: Global, named: Named) -> Result<Vec<StateCell>, Memory> {
 /// How many state variables there are.
 fn kept(named: Named) -> u32 {
     match named {
-        Named::Race => 1,
+        Named::Race | Named::Late => 1,
         _ => 0,
+    }
+}
+
+/// How many input ports there are.
+fn ins(named: Named) -> u32 {
+    match named {
+        Named::Join | Named::Late => 2,
+        _ => 1,
     }
 }
 
@@ -192,7 +229,7 @@ pub(crate) fn lowered(alloc: Global, named: Named) -> Result<Lowered, Memory> {
         kept: kept(named),
         start: 0,
         saved: saved(alloc, named)?,
-        ins: if named == Named::Join { 2 } else { 1 },
+        ins: ins(named),
         outs: 1,
     };
     Lowered::of_straight_lines(alloc, parts).map_err(|_unfit| Memory)

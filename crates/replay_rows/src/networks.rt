@@ -25,6 +25,9 @@ pub(crate) enum Net {
     Short,
     /// Two ways as in `Pair`, and one that holds one token to an actor that takes one.
     Behind,
+    /// Two ways as in `Pair`, and an actor beside them that takes two tokens of the input, of which its link holds two, and
+    /// divides the next two once two have come over another link.
+    Late,
 }
 
 const BYTE: Scalar = Scalar::Uint(8);
@@ -76,6 +79,16 @@ const BEHIND: &[Row] = &[
     ((2, 0), (NET, 0), 512),
 ];
 
+const LATE: &[Row] = &[
+    ((NET, 0), (0, 0), 512),
+    ((0, 0), (1, 0), 512),
+    ((1, 0), (2, 0), 512),
+    ((0, 0), (2, 1), 1),
+    ((NET, 0), (3, 0), 2),
+    ((0, 0), (3, 1), 512),
+    ((2, 0), (NET, 0), 512),
+];
+
 fn rows(named: Net) -> &'static [Row] {
     match named {
         Net::Inc | Net::Wide | Net::Div => ONE,
@@ -84,6 +97,7 @@ fn rows(named: Net) -> &'static [Row] {
         Net::Beside => BESIDE,
         Net::Short => SHORT,
         Net::Behind => BEHIND,
+        Net::Late => LATE,
     }
 }
 
@@ -96,6 +110,7 @@ fn instances(named: Net) -> &'static [Named] {
         Net::Beside | Net::Short | Net::Behind => {
             &[Named::Copy, Named::Sum, Named::Join, Named::Race]
         }
+        Net::Late => &[Named::Copy, Named::Sum, Named::Join, Named::Late],
     }
 }
 
@@ -107,6 +122,7 @@ fn paths(named: Net) -> &'static [&'static str] {
         Net::Ring => &["p Race", "q Race"],
         Net::Pair => &["c Copy", "s Sum", "j Join"],
         Net::Beside | Net::Short | Net::Behind => &["c Copy", "s Sum", "j Join", "r Race"],
+        Net::Late => &["c Copy", "s Sum", "j Join", "l Late"],
     }
 }
 

@@ -48,6 +48,15 @@ const ROWS: &[Row] = &[
         &[0, 0, 0, 0, 0],
         &[2],
     ),
+    // What came while a growth was judged arrives at the next delivery.
+    (
+        Net::Short,
+        &[1, 2, 3, 4],
+        "rvc-trace 2 4 6 4\ni 0 c Copy\ni 1 s Sum\ni 2 j Join\ni 3 r Race\nr\nf 0 0\nr\nf 3 0\ng 3 2\nf 0 0\nr\nb\n",
+        &[4, 0, 0, 0, 2, 0],
+        &[0, 0, 0, 0, 0, 0],
+        &[0],
+    ),
 ];
 
 /// The numbers of a trace that is a run's.
@@ -56,7 +65,11 @@ fn numbers_of(alloc: Global, row: Row<'_>) -> Option<Counts> {
     let case = Case {
         net,
         input,
-        grow: if net == Net::Pair { 4 } else { 0 },
+        grow: if net == Net::Pair || net == Net::Short {
+            4
+        } else {
+            0
+        },
         trace: trace.as_bytes(),
         failing: &[],
     };

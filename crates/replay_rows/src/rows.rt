@@ -26,6 +26,12 @@ const DIVIDES: Line = Line::Trap {
     trap: Trap::DivideByZero,
 };
 
+const LATE: Line = Line::Trap {
+    inst: 3,
+    action: 1,
+    trap: Trap::DivideByZero,
+};
+
 /// A network, its input, up to which capacity links grow, a trace, and its answer.
 type Row<'a> = (Net, &'a [u8], u32, &'a str, Answer);
 
@@ -155,13 +161,44 @@ const ROWS: &[Row] = &[
         "rvc-trace 2 4 6 4\ni 0 c Copy\ni 1 s Sum\ni 2 j Join\ni 3 r Race\nr\nf 0 0\nr\nf 3 0\ng 3 3\n",
         Answer::Fails(10, Why::End),
     ),
-    // More of the input is to come on the link of which a token was taken.
+    // More of the input is to come on the link of which a token was taken: it arrives at the next delivery, or counts as
+    // arrived at the end.
+    (
+        Net::Short,
+        &[1, 2, 3, 4],
+        4,
+        "rvc-trace 2 4 6 4\ni 0 c Copy\ni 1 s Sum\ni 2 j Join\ni 3 r Race\nr\nf 0 0\nr\nf 3 0\ng 3 2\nf 0 0\nr\nb\n",
+        Answer::Ends(Line::Budget, 3, 3),
+    ),
+    (
+        Net::Short,
+        &[1, 2, 3, 4],
+        4,
+        "rvc-trace 2 4 6 4\ni 0 c Copy\ni 1 s Sum\ni 2 j Join\ni 3 r Race\nr\nf 0 0\nr\nf 3 0\ng 3 2\nb\n",
+        Answer::Ends(Line::Budget, 2, 2),
+    ),
     (
         Net::Short,
         &[1, 2, 3, 4],
         4,
         "rvc-trace 2 4 6 4\ni 0 c Copy\ni 1 s Sum\ni 2 j Join\ni 3 r Race\nr\nf 0 0\nr\nf 3 0\ng 3 2\n",
-        Answer::Fails(10, Why::End),
+        Answer::Fails(11, Why::Cut),
+    ),
+    // Two tokens that came while the growth was judged arrive in their order: 7 is divided by 0.
+    (
+        Net::Late,
+        &[1, 2, 7, 0],
+        4,
+        "rvc-trace 2 4 7 4\ni 0 c Copy\ni 1 s Sum\ni 2 j Join\ni 3 l Late\nr\nf 0 0\nr\nf 3 0\ng 3 2\nf 0 0\nr\nt 3 1 DivideByZero\n",
+        Answer::Ends(LATE, 3, 3),
+    ),
+    // Until then they don't wait.
+    (
+        Net::Late,
+        &[1, 2, 7, 0],
+        4,
+        "rvc-trace 2 4 7 4\ni 0 c Copy\ni 1 s Sum\ni 2 j Join\ni 3 l Late\nr\nf 0 0\nr\nf 3 0\ng 3 2\nf 0 0\nt 3 1 DivideByZero\n",
+        Answer::Fails(12, Why::Trap),
     ),
     // Each cause.
     (

@@ -1,5 +1,5 @@
 -- The end line that is true of a network, and a delivery that changes nothing of it.
-use Rattle.std.proofs.Common.{◌≡◌, ◌≢◌, ℕ, zero, suc, ◌+◌, ◌-◌, ◌*◌, ◌<◌, ◌≤◌, ◌⊎◌, min, Bool, true, false, List, [], ◌∷◌, length, refl, sym, ap, subst, ◌∙◌, arith}
+use Rattle.std.proofs.Common.{◌≡◌, ◌≢◌, ℕ, zero, suc, ◌+◌, ◌-◌, ◌*◌, ◌<◌, ◌≤◌, ◌⊎◌, min, Bool, true, false, List, [], ◌∷◌, ℤ, length, refl, sym, ap, subst, ◌∙◌, arith}
 use Rattle.std.specs.Prelude.{Option, None, Some, slice_get, slice_index_or, if◌then◌else◌}
 use Rattle.trace_text.specs.declared.line.Line.{Line}
 use Rattle.trace_text.specs.declared.line.Line.TheVariants.{Header as FirstLine, Inst, Fire, Deliver, Grow, Quiet, Trap as TrapLine, Stall, Budget}
@@ -22,7 +22,7 @@ use Rattle.net_state.specs.declared.filling.Filled.{Filled}
 use Rattle.net_state.specs.Moving.{SameActors, SameMarks}
 use Rattle.net_state.specs.Surveyed.{AreSettled, AreUntrapped}
 use Rattle.trace_replay.specs.Ending.{EndsNotSo, EndsSo, FitInputs, IsEndOf, IsTrueEnd, MayGrow}
-use Rattle.network_runner.specs.Delivering.{Delivers}
+use Rattle.trace_replay.specs.Holding.{DeliversHeld}
 use Rattle.trace_replay.proofs.Chained.{There, there, is_low}
 
 -- At most one end line is true.
@@ -288,18 +288,18 @@ stalled_end one_place not_quiet grow held now i a l false line same links stalls
 
 -- An end line by the delivery behind it.
 
-pub ends_yes : {X : Type 0} (grow : ℕ) (line end : Line) (old new : Held (Cell X)) (readings readings_new : List (Option Reading)) (feeds feeds_new : Inputs) (came : List Filled)
-    → IsEndOf grow new end → line ≡ end → AreSettled old → Delivers old new readings readings_new feeds feeds_new came → EndsSo grow line old readings feeds
-ends_yes grow line end old new readings readings_new feeds feeds_new came is_end same settle delivers net inputs opened s stands wired lawful fits =
+pub ends_yes : {X : Type 0} (grow : ℕ) (line end : Line) (old new : Held (Cell X)) (stacks : List (List ℤ)) (readings readings_new : List (Option Reading)) (feeds feeds_new : Inputs) (came : List Filled)
+    → IsEndOf grow new end → line ≡ end → AreSettled old → DeliversHeld old new stacks readings readings_new feeds feeds_new came → EndsSo grow line old stacks readings feeds
+ends_yes grow line end old new stacks readings readings_new feeds feeds_new came is_end same settle delivers net inputs opened s stands wired lawful fits =
     let settled : IsSettled net s = settle net s stands.stands.now in
     let after = delivers.states net inputs s stands.stands.now wired stands.fed in
     ends_before net grow s line wired settled
     (subst (IsTrueEnd net grow (after_delivery net s)) (sym same)
     (is_end net (after_delivery net s) after.stands.now wired lawful after.all (still_settled net s settled)))
 
-pub ends_no : {X : Type 0} → StallsInOnePlace X → StalledIsNotQuiet X → (grow : ℕ) (line end : Line) (old new : Held (Cell X)) (readings readings_new : List (Option Reading)) (feeds feeds_new : Inputs) (came : List Filled)
-    → IsEndOf grow new end → line ≢ end → AreSettled old → Delivers old new readings readings_new feeds feeds_new came → EndsNotSo grow line old readings feeds
-ends_no one_place not_quiet grow line end old new readings readings_new feeds feeds_new came is_end differ settle delivers net inputs opened s stands wired lawful fits h =
+pub ends_no : {X : Type 0} → StallsInOnePlace X → StalledIsNotQuiet X → (grow : ℕ) (line end : Line) (old new : Held (Cell X)) (stacks : List (List ℤ)) (readings readings_new : List (Option Reading)) (feeds feeds_new : Inputs) (came : List Filled)
+    → IsEndOf grow new end → line ≢ end → AreSettled old → DeliversHeld old new stacks readings readings_new feeds feeds_new came → EndsNotSo grow line old stacks readings feeds
+ends_no one_place not_quiet grow line end old new stacks readings readings_new feeds feeds_new came is_end differ settle delivers net inputs opened s stands wired lawful fits h =
     let settled : IsSettled net s = settle net s stands.stands.now in
     let after = delivers.states net inputs s stands.stands.now wired stands.fed in
     differ (one_end one_place not_quiet net grow (after_delivery net s) line end lawful (ends_after net grow s line wired settled h)

@@ -23,9 +23,8 @@ use Rattle.net_state.specs.Filling.{IsFed}
 use Rattle.round_runner.specs.Running.{ComesBy, HasRest, count_inputs, feed_of}
 use Rattle.trace_replay.specs.Between.{Between, CountsBy, CountsEnd, EndsBy, FailsBy, GoesBy, IsAt, Steps}
 use Rattle.trace_replay.specs.Counting.{IsCountedTo}
-use Rattle.trace_replay.specs.Events.{BeginsAt, IsJudgedOrNot, IsTextOf, IsUnfedGrowth}
+use Rattle.trace_replay.specs.Events.{BeginsAt, IsTextOf}
 use Rattle.trace_replay.specs.Feeding.{PullsInputs}
-use Rattle.trace_replay.specs.Growing.{IsUnfed}
 use Rattle.trace_replay.specs.Laws.{StartFits}
 use Rattle.trace_replay.specs.Head.{StandsAt}
 use Rattle.trace_replay.specs.Judging.{AtEnd, AtEvents, AtFirst, AtInstance, IsNotRun, Lead, LeadsOn, MayCome, Reached, Trial, after_line, due, first_line, instance_text, is_end, is_of_table}
@@ -144,13 +143,17 @@ comes_pulled s l feed rest link (Some (Some reading)) a b same comes =
     subst (λ left. IsFed s l (Some link) (record { kind = reading.kind; bytes = coming reading.pulled left }) × HasRest reading.kind rest (coming reading.pulled left)) (sym same) comes
 
 pub at_pulled : {X : Type 0} (net : Network X) (inputs : List (List ℕ)) (now : Between X) (feeds : Inputs) (opened s : State X) → PullsOnlyAt TRACE_FEED now.feeds feeds
-    → IsAt net inputs now opened s → IsAt net inputs (record { held = now.held; readings = now.readings; numbers = now.numbers; feeds = feeds }) opened s
+    → IsAt net inputs now opened s → IsAt net inputs (record { held = now.held; taken = now.taken; readings = now.readings; numbers = now.numbers; feeds = feeds }) opened s
 at_pulled net inputs now feeds opened s pulls at = record {
   stands = record {
     stands = at.stands.stands;
-    fed = λ l link at_link input. comes_pulled s l (feed_of net.links l) (rest_at net.ins inputs link.from) link (slice_get now.readings l) now.feeds feeds
-        (pulls.same_left (feed_of net.links l) (λ same. no_trace (count_inputs (take l net.links)) (sym same)))
-        (at.stands.fed l link at_link input);
+    fed = record {
+      later = at.stands.fed.later;
+      behind = at.stands.fed.behind;
+      fed = λ l link at_link input. comes_pulled at.stands.fed.later l (feed_of net.links l) (rest_at net.ins inputs link.from) link (slice_get now.readings l) now.feeds feeds
+          (pulls.same_left (feed_of net.links l) (λ same. no_trace (count_inputs (take l net.links)) (sym same)))
+          (at.stands.fed.fed l link at_link input);
+    };
   };
   fits = at.fits;
 }
@@ -209,7 +212,7 @@ pub record IsNext {X : Type 0} (old new : Trace) (now : Between X) (feeds : Inpu
   pub count : new.count ≡ old.count + 1
 
 abbrev Later : {X : Type 0} → Between X → Inputs → Between X
-Later now feeds = record { held = now.held; readings = now.readings; numbers = now.numbers; feeds = feeds }
+Later now feeds = record { held = now.held; taken = now.taken; readings = now.readings; numbers = now.numbers; feeds = feeds }
 
 text_by : {X : Type 0} (t : Trial X) (texts old before : List (List ℕ)) (last : List ℕ) (lines : List Line) (s next : State X) (line : Line) → texts ≡ before ++ last ∷ [] → before ≡ old
     → IsTextOf t (concat old) lines s → IsWritten line × (last ≡ line_text line) → goes t.net s line ≡ Some next
@@ -273,53 +276,20 @@ led_end {X} t text inputs old new now feeds later grow line same numbers grow_is
       counted = counts t inputs led.opened led.s grow_is wired lawful at to.0 comes.goes_so t.start led.lines led.begin led.text_of.leads led.counted;
     }
 
--- The line may not come, or is a growth where more is to come from outside.
+-- The line may not come.
 
 of_table_here : (t_grow grow old_grow : ℕ) (line : Line) → t_grow ≡ grow → old_grow ≡ grow → is_of_table old_grow line ≡ true → is_of_table t_grow line ≡ true
 of_table_here t_grow grow old_grow line one two of = subst (λ g. is_of_table g line ≡ true) (two ∙ sym one) of
 
-unfed_growth : {X : Type 0} (t : Trial X) (text : List ℕ) (inputs : List (List ℕ)) (old new : Trace) (now : Between X) (feeds : Inputs) (grow : ℕ) (line : Line) (same : Bool)
-    → t.grow ≡ grow → (led : LedTo t text inputs old now) → IsNext old new now feeds grow line same → IsUnfed t.net t.grow led.s line → IsUnfedGrowth t text new.count End
-unfed_growth t text inputs old new now feeds grow line same grow_is led read growth =
-    let others = told_after read.read.scans.text (coming_on old.lines.bytes now.feeds TRACE_FEED) (coming_on new.lines.bytes feeds TRACE_FEED) led.reached.rest led.reached.told read.read.scans.passes in
-    record {
-      texts = led.reached.texts;
-      front = read.read.scans.text;
-      more = others.0;
-      line = line;
-      opened = led.opened;
-      s = led.s;
-      is_text = led.reached.is_text ∙ ap (λ a. concat led.reached.texts ++ a) others.2;
-      lead = led.reached.lead;
-      growth = growth;
-      spells = read.read.scans.is_scanned.0;
-      of_table = of_table_here t.grow grow old.grow line grow_is read.trace_grow read.read.of_table;
-      number = read.count ∙ ap (λ k. k + 1) led.reached.number;
-      why_is = refl;
-    }
-
 pub led_fails : {X : Type 0} (t : Trial X) (text : List ℕ) (inputs : List (List ℕ)) (old new : Trace) (now : Between X) (feeds : Inputs) (grow : ℕ) (line : Line) (same : Bool) (why : Why)
     → t.grow ≡ grow → IsWired t.net → AreLawful t.net → LedTo t text inputs old now → IsNext old new now feeds grow line same
-    → FailsBy grow line (Later now feeds) why
-    → IsNotRun t text new.count why ⊎ IsUnfedGrowth t text new.count why
-led_fails t text inputs old new now feeds grow line same why grow_is wired lawful led read fails = ⊎_elim
-    (λ each.
+    → FailsBy grow line (Later now feeds) why → IsNotRun t text new.count why
+led_fails t text inputs old new now feeds grow line same why grow_is wired lawful led read fails =
     let at : IsAt t.net inputs (Later now feeds) led.opened led.s = at_pulled t.net inputs now feeds led.opened led.s read.pulls led.at in
-    inl (subst (λ k. IsNotRun t text k why) (sym read.count)
+    subst (λ k. IsNotRun t text k why) (sym read.count)
     (not_run_line t text read.expected old.count old.lines.passed new.lines.passed (AtEvents led.opened led.s) (coming_on old.lines.bytes now.feeds TRACE_FEED) (coming_on new.lines.bytes feeds TRACE_FEED)
     line same why led.reached read.read.scans read.read.within (of_table_here t.grow grow old.grow line grow_is read.trace_grow read.read.of_table)
-    (each t inputs led.opened led.s grow_is wired lawful at))))
-    (λ unfed.
-    let at : IsAt t.net inputs (Later now feeds) led.opened led.s = at_pulled t.net inputs now feeds led.opened led.s read.pulls led.at in
-    inr (subst (IsUnfedGrowth t text new.count) (sym unfed.0)
-    (unfed_growth t text inputs old new now feeds grow line same grow_is led read (unfed.1 t inputs led.opened led.s grow_is wired lawful at))))
-    fails
-
--- what is judged is judged, or is a growth where more is to come
-pub judged_or_not : {X : Type 0} (t : Trial X) (text : List ℕ) (fault : ReplayFault) → IsJudged t text fault → IsJudgedOrNot t text fault
-judged_or_not t text (NotRun line why) judged = inl judged
-judged_or_not t text (ReadFault feed) judged = tt
-judged_or_not t text Memory judged = tt
+    (fails t inputs led.opened led.s grow_is wired lawful at))
 
 pub is_next : {X : Type 0} (old new : Trace) (now : Between X) (feeds : Inputs) (grow : ℕ) (line : Line) (same : Bool) → old.grow ≡ grow
     → PullsOnlyAt TRACE_FEED now.feeds feeds

@@ -1,3 +1,8 @@
+pub mod Ahead
+pub mod Making
+pub mod Waits
+pub mod Stacks
+pub mod Behind
 mod Rows
 pub mod Limits
 pub mod Pulling

@@ -12,6 +12,7 @@ use Rattle.net_model.specs.Trace.{FitFlows, after_delivery, held_since, opened_b
 use Rattle.net_model.specs.Wired.{IsWired}
 use Rattle.net_model.proofs.Keeping.{Since, SinceOpened, deliver_since, fire_since, fits_now}
 use Rattle.net_model.proofs.KeepingRuns.{set_is}
+use Rattle.trace_replay.specs.Holding.{FitTaken}
 use Rattle.trace_replay.specs.Between.{Between, CanGoOn, IsAt, Steps}
 use Rattle.port_files.specs.Coming.{EndIsTrue, Reading}
 use Rattle.net_state.specs.Held.{HoldFew}
@@ -155,13 +156,14 @@ readers_pulled links readings a b pulls fit = record {
       subst (EndIsTrue reading) (sym (pulls.same_left (feed_of links l) (λ same. no_trace (count_inputs (take l links)) (sym same)))) (fit.same_feeds l reading here);
 }
 
-pub ready_pulled : {X : Type 0} (now next : Between X) (links : List Link) (came grow : ℕ) → next.held ≡ now.held → next.readings ≡ now.readings → next.numbers ≡ now.numbers
+pub ready_pulled : {X : Type 0} (now next : Between X) (links : List Link) (came grow : ℕ) → next.held ≡ now.held → next.taken ≡ now.taken → next.readings ≡ now.readings → next.numbers ≡ now.numbers
     → PullsOnlyAt TRACE_FEED now.feeds next.feeds → CanGoOn now links came grow → CanGoOn next links came grow
-ready_pulled now next links came grow held readings numbers pulls ready = record {
+ready_pulled now next links came grow held taken readings numbers pulls ready = record {
   links_are = ap (λ h. h.links) held ∙ ready.links_are;
   few = ready.few;
   few_held = subst (λ h. HoldFew h.capacities) (sym held) ready.few_held;
   work = subst (λ h. AllWork h.cells) (sym held) ready.work;
+  taken_fits = subst (λ h. FitTaken h next.taken) (sym held) (subst (FitTaken now.held) (sym taken) ready.taken_fits);
   readers = subst (λ xs. ReadersFit links xs next.feeds) (sym readings) (readers_pulled links now.readings now.feeds next.feeds pulls ready.readers);
   came_for_each = ready.came_for_each;
   numbers = subst (FitLinks links) (sym numbers) ready.numbers;

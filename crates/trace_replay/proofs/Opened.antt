@@ -30,6 +30,8 @@ use Rattle.network_runner.specs.Filling.{ReadersFit}
 use Rattle.network_runner.specs.Making.{AreReadersOf}
 use Rattle.network_runner.proofs.Begun.{comes_at, counts_none, map_at, map_index, reader_at, start_unarrived}
 use Rattle.network_runner.proofs.Leaving.{from_inside}
+use Rattle.trace_replay.specs.Holding.{stacked}
+use Rattle.trace_replay.proofs.Behind.{behind_none, fresh_fit}
 use Rattle.trace_replay.specs.Between.{CanGoOn, IsAt}
 use Rattle.trace_replay.specs.Counting.{FitLinks, IsCountedTo}
 use Rattle.trace_replay.specs.Ending.{CanGrow, HoldEnough}
@@ -179,12 +181,14 @@ module _ {C X : Type 0} (cell : C → Cell X) (cells : List C) (wiring : Wiring)
   enough : HoldEnough wiring.links.items replay.state.capacities
   enough l link at = subst (λ cs. link.capacity ≤ slice_index_or cs l 0) (sym opened.capacities) (holds_first wiring.links.items l link at)
 
-  pub ready_to_go : CanGoOn (record { held = seen cell replay.state; readings = replay.readers.items; numbers = replay.numbers; feeds = feeds }) replay.links.items (length replay.came.items) replay.grow
+  pub ready_to_go : CanGoOn (record { held = seen cell replay.state; taken = replay.taken; readings = replay.readers.items; numbers = replay.numbers; feeds = feeds }) replay.links.items (length replay.came.items) replay.grow
   ready_to_go = record {
     links_are = opened.links_held ∙ sym opened.links_are;
     few = subst (λ ls. length ls ≤ max_links) (sym opened.links_are) work.few_links;
     work = all_work;
     few_held = opened.few;
+    taken_fits = fresh_fit (seen cell replay.state) wiring.links.items replay.taken opened.links_held
+        (λ l link at. ap (λ cs. slice_index_or cs l 0) opened.capacities ∙ map_index capacity_of wiring.links.items l link 0 at) opened.taken;
     readers = subst (λ ls. ReadersFit ls replay.readers.items feeds) (sym opened.links_are) (readers_fit wiring replay.readers.items feeds opened.readers can.inputs_open);
     came_for_each = opened.came ∙ ap length (sym opened.links_are);
     numbers = subst (λ ls. FitLinks ls replay.numbers) (sym opened.links_are) (record {
@@ -222,7 +226,7 @@ module _ {C X : Type 0} (cell : C → Cell X) (cells : List C) (wiring : Wiring)
         let low : length (waiting_at (map cell cells) link.to) ≤ link.capacity = (wired_ready.queues l link at).waiting in
         subst (λ f. untaken f ≤ f.capacity) same (omega (arith, low))
 
-    is_at : IsAt t.net inputs (record { held = seen cell replay.state; readings = replay.readers.items; numbers = replay.numbers; feeds = feeds }) t.start t.start
+    is_at : IsAt t.net inputs (record { held = seen cell replay.state; taken = replay.taken; readings = replay.readers.items; numbers = replay.numbers; feeds = feeds }) t.start t.start
     is_at = record {
       stands = record {
         stands = record {
@@ -232,8 +236,9 @@ module _ {C X : Type 0} (cell : C → Cell X) (cells : List C) (wiring : Wiring)
               (subst (λ ls. AreCounted (map cell cells) ls replay.state.waited) (opened.links_held ∙ sym is.is_of.links)
               (subst (λ cs. AreCounted (map cell cs) replay.state.links replay.state.waited) opened.cells_are opened.waited)));
         };
-        fed = subst (λ s. AreFedBy t.net inputs s replay.readers.items feeds) (sym is.start)
-            (are_fed t.net (map cell cells) wiring inputs replay.readers.items feeds is.is_of opened.readers is.told);
+        fed = behind_none t.net inputs t.start (stacked replay.taken) replay.readers.items feeds opened.taken.empty
+            (subst (λ s. AreFedBy t.net inputs s replay.readers.items feeds) (sym is.start)
+            (are_fed t.net (map cell cells) wiring inputs replay.readers.items feeds is.is_of opened.readers is.told));
       };
       fits = fits;
     }
@@ -252,7 +257,7 @@ module _ {C X : Type 0} (cell : C → Cell X) (cells : List C) (wiring : Wiring)
 
     pub begins : (trace : Trace) (first : Line) → trace.lines.bytes ≡ [] → trace.lines.passed ≡ 0 → trace.count ≡ 0 → trace.grow ≡ grow
         → first ≡ Header replay.count (length replay.links.items) replay.grow
-        → BeginsFirst t text inputs trace (record { held = seen cell replay.state; readings = replay.readers.items; numbers = replay.numbers; feeds = feeds }) replay.grow first names
+        → BeginsFirst t text inputs trace (record { held = seen cell replay.state; taken = replay.taken; readings = replay.readers.items; numbers = replay.numbers; feeds = feeds }) replay.grow first names
     begins trace first no_bytes none_passed none_read grow_is first_is = record {
       head = record {
         grow_is = is.grow_is ∙ sym grow_is;

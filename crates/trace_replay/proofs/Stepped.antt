@@ -20,23 +20,24 @@ use Rattle.net_model.specs.Trace.{after_delivery, grown}
 use Rattle.net_model.specs.Cell.{Cell}
 use Rattle.net_model.proofs.Commuting.{Fired, fired_unless}
 use Rattle.net_model.proofs.Keeping.{Changed, changed}
-use Rattle.net_model.proofs.KeepingRuns.{set_is}
 use Rattle.net_state.specs.declared.filling.Filled.{Filled}
 use Rattle.net_state.specs.Held.{Held, HoldFew}
 use Rattle.net_state.specs.Moving.{SameActors, SameMarks}
 use Rattle.net_state.specs.Standing.{StandsSince}
+use Rattle.net_state.specs.TakingBack.{NoMoreWait}
 use Rattle.network_runner.specs.Counting.{IsToPort}
-use Rattle.network_runner.specs.Delivering.{Delivers}
+use Rattle.trace_replay.specs.Holding.{AreEmpty, DeliversHeld, FitTaken, StandsHeld, stacked}
+use Rattle.trace_replay.specs.declared.holding.TakenBack.{TakenBack}
 use Rattle.network_runner.specs.Filling.{IsFeedOf as IsFeedOfReader, ReadersFit}
 use Rattle.network_runner.proofs.Flowing.{fire_gone}
-use Rattle.network_runner.proofs.Leaving.{fed_still}
+use Rattle.trace_replay.proofs.Behind.{behind_none, behind_still, taken_fewer, unarrived_still}
 use Rattle.network_runner.proofs.Numbers.{arrived_long, rests_long, sent_long}
 use Rattle.trace_replay.specs.Between.{CanGoOn, CountsBy, CountsEnd, EndsBy, FailsBy, GoesBy, IsAt, IfFails, OnEnds, Steps, is_still_end}
 use Rattle.trace_replay.specs.Counting.{AreFewCounted, CatchesUp, CountsDelivery, CountsFiring, FitLinks}
 use Rattle.trace_replay.specs.Ending.{EndsNotSo, EndsSo, HoldEnough, IsTrueEnd}
-use Rattle.trace_replay.specs.Feeding.{IsFeedRead, StandsFed}
+use Rattle.trace_replay.specs.Feeding.{IsFeedRead}
 use Rattle.trace_replay.specs.Growing.{GrowsBy, StillFits}
-use Rattle.trace_replay.specs.declared.growth.Growth.TheVariants.{Untrue, Unfed, Grown}
+use Rattle.trace_replay.specs.declared.growth.Growth.TheVariants.{Untrue, Grown}
 use Rattle.trace_replay.specs.Judging.{EventFails, TrapComes, Trial, is_end}
 use Rattle.trace_replay.specs.Trying.{AllWork, FiresOn, TrapsNotSo, TrapsSo}
 use Rattle.trace_replay.specs.declared.came.Came.{Came}
@@ -46,19 +47,19 @@ use Rattle.trace_replay.specs.declared.why.Why.TheVariants.{End as EndIs, Trap}
 use Rattle.trace_replay.proofs.Chained.{There, there}
 use Rattle.trace_replay.proofs.Counted.{delivery_counts, end_counts, firing_counts, growth_counts}
 use Rattle.trace_replay.proofs.Ended.{fits_after, untrapped_after}
-use Rattle.trace_replay.proofs.Growths.{HasGrown, grown_is}
+use Rattle.trace_replay.proofs.Growths.{HasGrown, grown_is, input_still}
 use Rattle.trace_replay.proofs.Onward.{trap_goes, unless_trapped, untrapped_goes}
 use Rattle.trace_replay.proofs.Traces.{next_of}
 use Rattle.trace_replay.proofs.Widened.{can_grow_after}
 
 -- A firing: from outside nothing comes.
 
-pub fired_goes : {X : Type 0} (grow i a : ℕ) (held new : Held (Cell X)) (readings : List (Option Reading)) (numbers numbers_new : Counts) (feeds : Inputs) → FiresOn i a held new
-    → GoesBy grow (Fire i a) (record { held = held; readings = readings; numbers = numbers; feeds = feeds }) (record { held = new; readings = readings; numbers = numbers_new; feeds = feeds })
-fired_goes {X} grow i a held new readings numbers numbers_new feeds fires t inputs opened s same wired lawful at =
+pub fired_goes : {X : Type 0} (grow i a : ℕ) (held new : Held (Cell X)) (taken : TakenBack) (readings : List (Option Reading)) (numbers numbers_new : Counts) (feeds : Inputs) → FiresOn i a held new
+    → GoesBy grow (Fire i a) (record { held = held; taken = taken; readings = readings; numbers = numbers; feeds = feeds }) (record { held = new; taken = taken; readings = readings; numbers = numbers_new; feeds = feeds })
+fired_goes {X} grow i a held new taken readings numbers numbers_new feeds fires t inputs opened s same wired lawful at =
     let both = fires t.net opened s at.stands.stands in
     next_of
-    ((next : State X) × Steps t opened s (Fire i a) next × IsAt t.net inputs (record { held = new; readings = readings; numbers = numbers_new; feeds = feeds }) opened next)
+    ((next : State X) × Steps t opened s (Fire i a) next × IsAt t.net inputs (record { held = new; taken = taken; readings = readings; numbers = numbers_new; feeds = feeds }) opened next)
     (happens t.net s (FireEvent i a)) (λ next. StandsSince t.net new opened next)
     (λ u h stands.
     let one : Fired t.net s u i a = fired_unless t.net s u i a s.trapped refl h in (
@@ -67,7 +68,8 @@ fired_goes {X} grow i a held new readings numbers numbers_new feeds fires t inpu
       record {
         stands = record {
           stands = stands;
-          fed = fed_still t.net inputs s u 1 readings feeds at.stands.stands.now.stands.flows.count stands.now.stands.flows.count (fire_gone t.net wired lawful s u i a h) at.stands.fed;
+          fed = behind_still t.net inputs s u (stacked taken) readings feeds
+              (unarrived_still t.net s u 1 at.stands.stands.now.stands.flows.count stands.now.stands.flows.count (fire_gone t.net wired lawful s u i a h)) at.stands.fed;
         };
         fits = λ m link flow at_link here input.
             let was : Changed (after_firing i (need_of (slice_get t.net.leaves i) a) one.sent) s.flows m link flow =
@@ -78,20 +80,21 @@ fired_goes {X} grow i a held new readings numbers numbers_new feeds fires t inpu
     ))
     both.1
 
-pub fired_counts : {X : Type 0} (grow i a : ℕ) (held : Held (Cell X)) (readings : List (Option Reading)) (numbers numbers_new : Counts) (feeds : Inputs) → CountsFiring numbers numbers_new
-    → CountsBy grow (Fire i a) (record { held = held; readings = readings; numbers = numbers; feeds = feeds }) numbers_new
-fired_counts grow i a held readings numbers numbers_new feeds counts t inputs opened s same wired lawful at next h =
+pub fired_counts : {X : Type 0} (grow i a : ℕ) (held : Held (Cell X)) (taken : TakenBack) (readings : List (Option Reading)) (numbers numbers_new : Counts) (feeds : Inputs) → CountsFiring numbers numbers_new
+    → CountsBy grow (Fire i a) (record { held = held; taken = taken; readings = readings; numbers = numbers; feeds = feeds }) numbers_new
+fired_counts grow i a held taken readings numbers numbers_new feeds counts t inputs opened s same wired lawful at next h =
     firing_counts t.net inputs held s next i a numbers numbers_new wired lawful at.stands.stands.now counts h
 
-pub fired_ready : {X : Type 0} (grow : ℕ) (links : List Link) (came : ℕ) (held new : Held (Cell X)) (readings : List (Option Reading)) (numbers numbers_new : Counts) (feeds : Inputs)
-    → CountsFiring numbers numbers_new → AllWork new.cells → SameActors held.cells new.cells → new.links ≡ held.links → new.capacities ≡ held.capacities
-    → CanGoOn (record { held = held; readings = readings; numbers = numbers; feeds = feeds }) links came grow
-    → CanGoOn (record { held = new; readings = readings; numbers = numbers_new; feeds = feeds }) links came grow
-fired_ready grow links came held new readings numbers numbers_new feeds counts work same same_links same_capacities ready = record {
+pub fired_ready : {X : Type 0} (grow : ℕ) (links : List Link) (came : ℕ) (held new : Held (Cell X)) (taken : TakenBack) (readings : List (Option Reading)) (numbers numbers_new : Counts) (feeds : Inputs)
+    → CountsFiring numbers numbers_new → AllWork new.cells → SameActors held.cells new.cells → NoMoreWait held new → new.links ≡ held.links → new.capacities ≡ held.capacities
+    → CanGoOn (record { held = held; taken = taken; readings = readings; numbers = numbers; feeds = feeds }) links came grow
+    → CanGoOn (record { held = new; taken = taken; readings = readings; numbers = numbers_new; feeds = feeds }) links came grow
+fired_ready grow links came held new taken readings numbers numbers_new feeds counts work same fewer same_links same_capacities ready = record {
   links_are = same_links ∙ ready.links_are;
   few = ready.few;
   few_held = subst HoldFew (sym same_capacities) ready.few_held;
   work = work;
+  taken_fits = taken_fewer held new taken same_links same_capacities fewer ready.taken_fits;
   readers = ready.readers;
   came_for_each = ready.came_for_each;
   numbers = record {
@@ -105,9 +108,9 @@ fired_ready grow links came held new readings numbers numbers_new feeds counts w
 
 -- A trap.
 
-pub trapped_ends : {X : Type 0} (grow i a : ℕ) (c : TrapName) (held : Held (Cell X)) (readings : List (Option Reading)) (numbers : Counts) (feeds : Inputs) → TrapsSo i a c held
-    → EndsBy grow (TrapLine i a c) (record { held = held; readings = readings; numbers = numbers; feeds = feeds })
-trapped_ends grow i a c held readings numbers feeds traps t inputs opened s same wired lawful at =
+pub trapped_ends : {X : Type 0} (grow i a : ℕ) (c : TrapName) (held : Held (Cell X)) (taken : TakenBack) (readings : List (Option Reading)) (numbers : Counts) (feeds : Inputs) → TrapsSo i a c held
+    → EndsBy grow (TrapLine i a c) (record { held = held; taken = taken; readings = readings; numbers = numbers; feeds = feeds })
+trapped_ends grow i a c held taken readings numbers feeds traps t inputs opened s same wired lawful at =
     let comes : TrapComes t.net opened s i a (effect_at t.net s i a) c = traps t.net opened s at.stands.stands in (
       record s { trapped = true },
       record {
@@ -118,15 +121,15 @@ trapped_ends grow i a c held readings numbers feeds traps t inputs opened s same
       },
     )
 
-pub untrapped_fails : {X : Type 0} (grow i a : ℕ) (c : TrapName) (held : Held (Cell X)) (readings : List (Option Reading)) (numbers : Counts) (feeds : Inputs) → TrapsNotSo i a c held
-    → FailsBy grow (TrapLine i a c) (record { held = held; readings = readings; numbers = numbers; feeds = feeds }) Trap
-untrapped_fails grow i a c held readings numbers feeds traps_not = inl (λ t inputs opened s same wired lawful at. (refl, traps_not t.net opened s at.stands.stands))
+pub untrapped_fails : {X : Type 0} (grow i a : ℕ) (c : TrapName) (held : Held (Cell X)) (taken : TakenBack) (readings : List (Option Reading)) (numbers : Counts) (feeds : Inputs) → TrapsNotSo i a c held
+    → FailsBy grow (TrapLine i a c) (record { held = held; taken = taken; readings = readings; numbers = numbers; feeds = feeds }) Trap
+untrapped_fails grow i a c held taken readings numbers feeds traps_not t inputs opened s same wired lawful at = (refl, traps_not t.net opened s at.stands.stands)
 
 -- .. and what was sent is counted
-pub over_counts : {X : Type 0} (grow : ℕ) (line : Line) (links : List Link) (held : Held (Cell X)) (readings : List (Option Reading)) (numbers numbers_new : Counts) (feeds : Inputs)
+pub over_counts : {X : Type 0} (grow : ℕ) (line : Line) (links : List Link) (held : Held (Cell X)) (taken : TakenBack) (readings : List (Option Reading)) (numbers numbers_new : Counts) (feeds : Inputs)
     → held.links ≡ links → is_end line ≡ true → AreFewCounted numbers → CatchesUp held.cells links numbers numbers_new
-    → CountsEnd grow line (record { held = held; readings = readings; numbers = numbers; feeds = feeds }) numbers_new
-over_counts grow line links held readings numbers numbers_new feeds links_are over few catches t inputs opened s same wired lawful at next h =
+    → CountsEnd grow line (record { held = held; taken = taken; readings = readings; numbers = numbers; feeds = feeds }) numbers_new
+over_counts grow line links held taken readings numbers numbers_new feeds links_are over few catches t inputs opened s same wired lawful at next h =
     end_counts t.net inputs held s next line numbers numbers_new wired lawful at.stands.stands.now over few.firings
     (subst (λ ls. CatchesUp held.cells ls numbers numbers_new) (sym (at.stands.stands.now.is_of.links_are ∙ links_are)) catches) h
 
@@ -143,10 +146,10 @@ is_over (Grow l c) still = cc
 
 -- A delivery.
 
-pub delivered_goes : {X : Type 0} (grow : ℕ) (held new : Held (Cell X)) (readings readings_new : List (Option Reading)) (numbers numbers_new : Counts) (feeds feeds_new : Inputs) (came : List Filled)
-    → Delivers held new readings readings_new feeds feeds_new came
-    → GoesBy grow Deliver (record { held = held; readings = readings; numbers = numbers; feeds = feeds }) (record { held = new; readings = readings_new; numbers = numbers_new; feeds = feeds_new })
-delivered_goes grow held new readings readings_new numbers numbers_new feeds feeds_new came delivers t inputs opened s same wired lawful at =
+pub delivered_goes : {X : Type 0} (grow : ℕ) (held new : Held (Cell X)) (taken taken_new : TakenBack) (readings readings_new : List (Option Reading)) (numbers numbers_new : Counts) (feeds feeds_new : Inputs) (came : List Filled)
+    → DeliversHeld held new (stacked taken) readings readings_new feeds feeds_new came → AreEmpty (stacked taken_new)
+    → GoesBy grow Deliver (record { held = held; taken = taken; readings = readings; numbers = numbers; feeds = feeds }) (record { held = new; taken = taken_new; readings = readings_new; numbers = numbers_new; feeds = feeds_new })
+delivered_goes grow held new taken taken_new readings readings_new numbers numbers_new feeds feeds_new came delivers none t inputs opened s same wired lawful at =
     let made = delivers.states t.net inputs s at.stands.stands.now wired at.stands.fed in (
       after_delivery t.net s,
       record {
@@ -155,16 +158,16 @@ delivered_goes grow held new readings readings_new numbers numbers_new feeds fee
         is_due = tt;
       },
       record {
-        stands = record { stands = made.stands; fed = made.fed };
+        stands = record { stands = made.stands; fed = behind_none t.net inputs (after_delivery t.net s) (stacked taken_new) readings_new feeds_new none made.fed };
         fits = fits_after t.net held s wired at.stands.stands.now at.fits;
       },
     )
 
-pub delivered_counts : {X : Type 0} (grow : ℕ) (links : List Link) (held new : Held (Cell X)) (readings readings_new : List (Option Reading)) (numbers caught numbers_new : Counts) (feeds feeds_new : Inputs) (came : List Filled)
-    → Delivers held new readings readings_new feeds feeds_new came → held.links ≡ links → AreFewCounted numbers → HoldFew held.capacities
+pub delivered_counts : {X : Type 0} (grow : ℕ) (links : List Link) (held new : Held (Cell X)) (taken taken_new : TakenBack) (readings readings_new : List (Option Reading)) (numbers caught numbers_new : Counts) (feeds feeds_new : Inputs) (came : List Filled)
+    → DeliversHeld held new (stacked taken) readings readings_new feeds feeds_new came → held.links ≡ links → AreFewCounted numbers → HoldFew held.capacities
     → CatchesUp held.cells links numbers caught → CountsDelivery came caught numbers_new
-    → CountsBy grow Deliver (record { held = held; readings = readings; numbers = numbers; feeds = feeds }) numbers_new
-delivered_counts grow links held new readings readings_new numbers caught numbers_new feeds feeds_new came delivers links_are few few_held catches counts t inputs opened s same wired lawful at next h =
+    → CountsBy grow Deliver (record { held = held; taken = taken; readings = readings; numbers = numbers; feeds = feeds }) numbers_new
+delivered_counts grow links held new taken taken_new readings readings_new numbers caught numbers_new feeds feeds_new came delivers links_are few few_held catches counts t inputs opened s same wired lawful at next h =
     let made = delivers.states t.net inputs s at.stands.stands.now wired at.stands.fed in
     delivery_counts t.net inputs held new s wired lawful at.stands.stands.now numbers caught numbers_new came few few_held
     (subst (λ ls. CatchesUp held.cells ls numbers caught) (sym (at.stands.stands.now.is_of.links_are ∙ links_are)) catches) counts made.stands.now made.told next h
@@ -185,16 +188,17 @@ fit_delivered cells links came old caught new catches counts fit =
       ports = subst (λ v. IsToPort links (length v.items)) (sym counts.sent) now.ports;
     }
 
-pub delivered_ready : {X : Type 0} (grow : ℕ) (links : List Link) (came came_new : ℕ) (held new : Held (Cell X)) (readings readings_new : List (Option Reading)) (numbers numbers_new : Counts) (feeds feeds_new : Inputs)
-    → ReadersFit links readings_new feeds_new → came_new ≡ came → FitLinks links numbers_new → SameActors held.cells new.cells → SameMarks held.cells new.cells → new.links ≡ held.links
+pub delivered_ready : {X : Type 0} (grow : ℕ) (links : List Link) (came came_new : ℕ) (held new : Held (Cell X)) (taken taken_new : TakenBack) (readings readings_new : List (Option Reading)) (numbers numbers_new : Counts) (feeds feeds_new : Inputs)
+    → FitTaken new taken_new → ReadersFit links readings_new feeds_new → came_new ≡ came → FitLinks links numbers_new → SameActors held.cells new.cells → SameMarks held.cells new.cells → new.links ≡ held.links
     → new.capacities ≡ held.capacities
-    → CanGoOn (record { held = held; readings = readings; numbers = numbers; feeds = feeds }) links came grow
-    → CanGoOn (record { held = new; readings = readings_new; numbers = numbers_new; feeds = feeds_new }) links came_new grow
-delivered_ready grow links came came_new held new readings readings_new numbers numbers_new feeds feeds_new fit came_is counted same marks same_links same_capacities ready = record {
+    → CanGoOn (record { held = held; taken = taken; readings = readings; numbers = numbers; feeds = feeds }) links came grow
+    → CanGoOn (record { held = new; taken = taken_new; readings = readings_new; numbers = numbers_new; feeds = feeds_new }) links came_new grow
+delivered_ready grow links came came_new held new taken taken_new readings readings_new numbers numbers_new feeds feeds_new taken_fits fit came_is counted same marks same_links same_capacities ready = record {
   links_are = same_links ∙ ready.links_are;
   few = ready.few;
   few_held = subst HoldFew (sym same_capacities) ready.few_held;
   work = untrapped_after held.cells new.cells same marks ready.work;
+  taken_fits = taken_fits;
   readers = fit;
   came_for_each = came_is ∙ ready.came_for_each;
   numbers = counted;
@@ -222,9 +226,9 @@ end_steps t opened s (Fire i a) h = absurd h
 end_steps t opened s Deliver h = absurd h
 end_steps t opened s (Grow l c) h = absurd h
 
-pub ended_ends : {X : Type 0} (grow : ℕ) (line : Line) (held : Held (Cell X)) (readings : List (Option Reading)) (numbers : Counts) (feeds : Inputs) → EndsSo grow line held readings feeds
-    → EndsBy grow line (record { held = held; readings = readings; numbers = numbers; feeds = feeds })
-ended_ends grow line held readings numbers feeds ends t inputs opened s same wired lawful at =
+pub ended_ends : {X : Type 0} (grow : ℕ) (line : Line) (held : Held (Cell X)) (taken : TakenBack) (readings : List (Option Reading)) (numbers : Counts) (feeds : Inputs) → EndsSo grow line held (stacked taken) readings feeds
+    → EndsBy grow line (record { held = held; taken = taken; readings = readings; numbers = numbers; feeds = feeds })
+ended_ends grow line held taken readings numbers feeds ends t inputs opened s same wired lawful at =
     (s, end_steps t opened s line (subst (λ g. IsTrueEnd t.net g s line) (sym same) (ends t.net inputs opened s at.stands wired lawful at.fits)))
 
 end_fails : {X : Type 0} (t : Trial X) (opened s : State X) (line : Line) → is_still_end line ≡ true → (IsTrueEnd t.net t.grow s line → ⊥) → EventFails t opened s line EndIs
@@ -238,41 +242,21 @@ end_fails t opened s (Fire i a) still not_so = cc
 end_fails t opened s Deliver still not_so = cc
 end_fails t opened s (Grow l c) still not_so = cc
 
-pub not_ended_fails : {X : Type 0} (grow : ℕ) (line : Line) (held : Held (Cell X)) (readings : List (Option Reading)) (numbers : Counts) (feeds : Inputs) → is_still_end line ≡ true
-    → EndsNotSo grow line held readings feeds → FailsBy grow line (record { held = held; readings = readings; numbers = numbers; feeds = feeds }) EndIs
-not_ended_fails grow line held readings numbers feeds still ends_not = inl (λ t inputs opened s same wired lawful at.
-    end_fails t opened s line still (λ h. ends_not t.net inputs opened s at.stands wired lawful at.fits (subst (λ g. IsTrueEnd t.net g s line) same h)))
+pub not_ended_fails : {X : Type 0} (grow : ℕ) (line : Line) (held : Held (Cell X)) (taken : TakenBack) (readings : List (Option Reading)) (numbers : Counts) (feeds : Inputs) → is_still_end line ≡ true
+    → EndsNotSo grow line held (stacked taken) readings feeds → FailsBy grow line (record { held = held; taken = taken; readings = readings; numbers = numbers; feeds = feeds }) EndIs
+not_ended_fails grow line held taken readings numbers feeds still ends_not t inputs opened s same wired lawful at =
+    end_fails t opened s line still (λ h. ends_not t.net inputs opened s at.stands wired lawful at.fits (subst (λ g. IsTrueEnd t.net g s line) same h))
 
 -- The growth of a link.
 
-from_leaf : (gives : ℕ → ℕ) (i : ℕ) (flow : Flow) (link : Link) (end : End) → link.from ≡ end → Rattle.net_model.specs.Ends.HasLessRoom gives i flow end → is_input link ≡ false
-from_leaf gives i flow link (AtNet port) from less = absurd less
-from_leaf gives i flow link (AtLeaf inst port) from less = ap is_outside from
-
-stall_inside : {X : Type 0} (net : Network X) (s : State X) (i a l : ℕ) (link : Link) → IsStalled net s i a l → slice_get net.links l ≡ Some link → is_input link ≡ false
-stall_inside {X} net s i a l link stalled at = of_flow (slice_get (all_fed net s).flows l) (subst (λ o. LacksOn (give_of (slice_get net.leaves i) a) i o (slice_get (all_fed net s).flows l)) at stalled.lacks)
-  where
-    of_flow : (p : Option Flow) → LacksOn (give_of (slice_get net.leaves i) a) i (Some link) p → is_input link ≡ false
-    of_flow None lacks = absurd lacks
-    of_flow (Some flow) lacks = from_leaf (give_of (slice_get net.leaves i) a) i flow link link.from refl lacks
-
--- on an input link nothing changes
-input_still : {X : Type 0} (net : Network X) (s next : State X) (grow l capacity m : ℕ) (link : Link) (flow : Flow) → Grows net grow s l capacity → HasGrown s next l capacity
-    → slice_get net.links m ≡ Some link → slice_get next.flows m ≡ Some flow → is_input link ≡ true → slice_get s.flows m ≡ Some flow
-input_still net s next grow l capacity m link flow grows to at here input = ⊎_elim
-    (λ other. other)
-    (λ same. let inner : is_input link ≡ false = stall_inside net s grows.leaf grows.action l link grows.stalled (ap (slice_get net.links) (sym same.0) ∙ at) in
-    let clash : true ≡ false = sym input ∙ inner in cc)
-    (set_is s.flows l (record to.flow { capacity = capacity }) m flow (ap (λ w. slice_get w.flows m) to.is ∙ here))
-
-pub grown_goes : {X : Type 0} (grow l capacity : ℕ) (held new : Held (Cell X)) (readings readings_new : List (Option Reading)) (numbers : Counts) (feeds feeds_new : Inputs)
-    → GrowsBy grow l capacity held readings feeds new readings_new feeds_new Grown
-    → GoesBy grow (Grow l capacity) (record { held = held; readings = readings; numbers = numbers; feeds = feeds }) (record { held = new; readings = readings_new; numbers = numbers; feeds = feeds_new })
-grown_goes {X} grow l capacity held new readings readings_new numbers feeds feeds_new grows t inputs opened s same wired lawful at =
+pub grown_goes : {X : Type 0} (grow l capacity : ℕ) (held new : Held (Cell X)) (taken taken_new : TakenBack) (readings readings_new : List (Option Reading)) (numbers : Counts) (feeds feeds_new : Inputs)
+    → GrowsBy grow l capacity held (stacked taken) readings feeds new (stacked taken_new) readings_new feeds_new Grown
+    → GoesBy grow (Grow l capacity) (record { held = held; taken = taken; readings = readings; numbers = numbers; feeds = feeds }) (record { held = new; taken = taken_new; readings = readings_new; numbers = numbers; feeds = feeds_new })
+grown_goes {X} grow l capacity held new taken taken_new readings readings_new numbers feeds feeds_new grows t inputs opened s same wired lawful at =
     let both = grows t.net inputs opened s at.stands wired lawful in
     next_of
-    ((next : State X) × Steps t opened s (Grow l capacity) next × IsAt t.net inputs (record { held = new; readings = readings_new; numbers = numbers; feeds = feeds_new }) opened next)
-    (grown s l capacity (slice_get s.flows l)) (λ next. StandsFed t.net inputs new readings_new feeds_new opened next)
+    ((next : State X) × Steps t opened s (Grow l capacity) next × IsAt t.net inputs (record { held = new; taken = taken_new; readings = readings_new; numbers = numbers; feeds = feeds_new }) opened next)
+    (grown s l capacity (slice_get s.flows l)) (λ next. StandsHeld t.net inputs new (stacked taken_new) readings_new feeds_new opened next)
     (λ u h stands.
     let to : HasGrown s u l capacity = grown_is s u l capacity (slice_get s.flows l) refl h in (
       u,
@@ -284,42 +268,27 @@ grown_goes {X} grow l capacity held new readings readings_new numbers feeds feed
     ))
     both.1
 
-pub untrue_fails : {X : Type 0} (grow l capacity : ℕ) (held new : Held (Cell X)) (readings readings_new : List (Option Reading)) (numbers : Counts) (feeds feeds_new : Inputs)
-    → GrowsBy grow l capacity held readings feeds new readings_new feeds_new Untrue
-    → FailsBy grow (Grow l capacity) (record { held = held; readings = readings; numbers = numbers; feeds = feeds }) EndIs
-untrue_fails grow l capacity held new readings readings_new numbers feeds feeds_new untrue = inl (λ t inputs opened s same wired lawful at.
-    (refl, λ h. untrue t.net inputs opened s at.stands wired lawful (subst (λ g. Grows t.net g s l capacity) same h)))
+pub untrue_fails : {X : Type 0} (grow l capacity : ℕ) (held new : Held (Cell X)) (taken taken_new : TakenBack) (readings readings_new : List (Option Reading)) (numbers : Counts) (feeds feeds_new : Inputs)
+    → GrowsBy grow l capacity held (stacked taken) readings feeds new (stacked taken_new) readings_new feeds_new Untrue
+    → FailsBy grow (Grow l capacity) (record { held = held; taken = taken; readings = readings; numbers = numbers; feeds = feeds }) EndIs
+untrue_fails grow l capacity held new taken taken_new readings readings_new numbers feeds feeds_new untrue t inputs opened s same wired lawful at =
+    (refl, λ h. untrue t.net inputs opened s at.stands wired lawful (subst (λ g. Grows t.net g s l capacity) same h))
 
-pub unfed_fails : {X : Type 0} (grow l capacity : ℕ) (held new : Held (Cell X)) (readings readings_new : List (Option Reading)) (numbers : Counts) (feeds feeds_new : Inputs)
-    → GrowsBy grow l capacity held readings feeds new readings_new feeds_new Unfed
-    → FailsBy grow (Grow l capacity) (record { held = held; readings = readings; numbers = numbers; feeds = feeds }) EndIs
-unfed_fails grow l capacity held new readings readings_new numbers feeds feeds_new unfed = inr (
-  refl,
-  λ t inputs opened s same wired lawful at.
-      let both = unfed t.net inputs opened s at.stands wired lawful in
-      record {
-        l = l;
-        capacity = capacity;
-        line_is = refl;
-        grows = subst (λ g. Grows t.net g s l capacity) (sym same) both.0;
-        unfed = both.1;
-      },
-)
-
-pub grown_counts : {X : Type 0} (grow l capacity : ℕ) (held : Held (Cell X)) (readings : List (Option Reading)) (numbers : Counts) (feeds : Inputs)
-    → CountsBy grow (Grow l capacity) (record { held = held; readings = readings; numbers = numbers; feeds = feeds }) numbers
-grown_counts grow l capacity held readings numbers feeds t inputs opened s same wired lawful at next h =
+pub grown_counts : {X : Type 0} (grow l capacity : ℕ) (held : Held (Cell X)) (taken : TakenBack) (readings : List (Option Reading)) (numbers : Counts) (feeds : Inputs)
+    → CountsBy grow (Grow l capacity) (record { held = held; taken = taken; readings = readings; numbers = numbers; feeds = feeds }) numbers
+grown_counts grow l capacity held taken readings numbers feeds t inputs opened s same wired lawful at next h =
     growth_counts t.net inputs held s next l capacity numbers wired lawful at.stands.stands.now h
 
-pub grown_ready : {X : Type 0} (grow : ℕ) (links : List Link) (came came_new : ℕ) (held new : Held (Cell X)) (readings readings_new : List (Option Reading)) (numbers : Counts) (feeds feeds_new : Inputs)
-    → came_new ≡ came → StillFits links held new readings_new feeds_new
-    → CanGoOn (record { held = held; readings = readings; numbers = numbers; feeds = feeds }) links came grow
-    → CanGoOn (record { held = new; readings = readings_new; numbers = numbers; feeds = feeds_new }) links came_new grow
-grown_ready grow links came came_new held new readings readings_new numbers feeds feeds_new same_came still ready = record {
+pub grown_ready : {X : Type 0} (grow : ℕ) (links : List Link) (came came_new : ℕ) (held new : Held (Cell X)) (taken taken_new : TakenBack) (readings readings_new : List (Option Reading)) (numbers : Counts) (feeds feeds_new : Inputs)
+    → came_new ≡ came → StillFits links held new taken_new readings_new feeds_new
+    → CanGoOn (record { held = held; taken = taken; readings = readings; numbers = numbers; feeds = feeds }) links came grow
+    → CanGoOn (record { held = new; taken = taken_new; readings = readings_new; numbers = numbers; feeds = feeds_new }) links came_new grow
+grown_ready grow links came came_new held new taken taken_new readings readings_new numbers feeds feeds_new same_came still ready = record {
   links_are = still.same_links ∙ ready.links_are;
   few = ready.few;
   few_held = still.few_held;
   work = untrapped_after held.cells new.cells still.actors still.marks ready.work;
+  taken_fits = still.taken_fits;
   readers = still.readers;
   came_for_each = same_came ∙ ready.came_for_each;
   numbers = ready.numbers;

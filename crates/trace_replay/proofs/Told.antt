@@ -1,5 +1,5 @@
 -- What is told of a whole trace.
-use Rattle.std.proofs.Common.{◌≡◌, ℕ, ◌+◌, List, length, sym, ap, subst, ◌∙◌, inl, inr, ⊎_elim, arith}
+use Rattle.std.proofs.Common.{◌≡◌, ℕ, ◌+◌, List, length, sym, ap, subst, ◌∙◌, arith}
 use Rattle.std.proofs.lemmas.List.{length-map}
 use Rattle.std.specs.Prelude.{Result, Ok, Err, IfOk, drop, flat_map, ◌++◌}
 use Rattle.std.specs.List.{concat}
@@ -14,7 +14,8 @@ use Rattle.trace_text.specs.Text.{line_text}
 use Rattle.std.proofs.Math.Seq.{drop-append_seam}
 use Rattle.net_model.specs.Counted.{IsCounted}
 use Rattle.net_model.specs.Trace.{head_text}
-use Rattle.trace_replay.specs.Events.{BeginsAt, BeginsFirst, IsEnded, IsJudgedOrNot}
+use Rattle.trace_replay.specs.Events.{BeginsAt, BeginsFirst, IsEnded}
+use Rattle.trace_replay.specs.Reading.{IsJudged}
 use Rattle.trace_replay.specs.Head.{PassesHead, name_of}
 use Rattle.trace_replay.specs.Judging.{IsTrace, Trial}
 use Rattle.trace_replay.specs.Laws.{LinesMakeTraces, NoTraceIsNotRun, StartFits}
@@ -29,7 +30,7 @@ use Rattle.trace_replay.proofs.Led.{at_pulled}
 pub begins_at : {X : Type 0} (t : Trial X) (text : List ℕ) (inputs : List (List ℕ)) (old new : Trace) (now : Between X) (feeds : Inputs) (grow : ℕ) (first : Line) (names : List (List ℕ)) (count : ℕ)
     → count ≡ length names → new.count ≡ old.count + 1 + count → PullsOnlyAt TRACE_FEED now.feeds feeds
     → PassesHead X first names old now.feeds new feeds → BeginsFirst t text inputs old now grow first names
-    → BeginsAt t text inputs new (record { held = now.held; readings = now.readings; numbers = now.numbers; feeds = feeds }) grow
+    → BeginsAt t text inputs new (record { held = now.held; taken = now.taken; readings = now.readings; numbers = now.numbers; feeds = feeds }) grow
 begins_at t text inputs old new now feeds grow first names count same more pulls passes begins = record {
   grow_is = begins.grow_is;
   wired = begins.wired;
@@ -67,9 +68,7 @@ replayed_is t text inputs end counts law tells fits ended =
     }
 
 -- what is judged so is no trace
-pub refused_is : {X : Type 0} (t : Trial X) (text : List ℕ) (fault : ReplayFault) → NoTraceIsNotRun X → IsWired t.net → AreLawful t.net → IsJudgedOrNot t text fault → IsRefused t text fault
-refused_is t text (NotRun line why) law wired lawful judged = ⊎_elim
-    (λ not_run. inl (not_run, λ lines end last within trace. law t text lines end last line why wired lawful within trace not_run))
-    (λ growth. inr growth) judged
+pub refused_is : {X : Type 0} (t : Trial X) (text : List ℕ) (fault : ReplayFault) → NoTraceIsNotRun X → IsWired t.net → AreLawful t.net → IsJudged t text fault → IsRefused t text fault
+refused_is t text (NotRun line why) law wired lawful not_run = (not_run, λ lines end last within trace. law t text lines end last line why wired lawful within trace not_run)
 refused_is t text (ReadFault feed) law wired lawful judged = tt
 refused_is t text Memory law wired lawful judged = tt

@@ -19,7 +19,7 @@ use Rattle.net_state.specs.Held.{Held, HoldFew, IsReader}
 use Rattle.net_state.specs.Moving.{IsWriter, SameActors}
 use Rattle.net_state.specs.Standing.{StandsIn, StandsSince}
 use Rattle.net_state.specs.Working.{AreFed, CanHold}
-use Rattle.trace_replay.specs.Ending.{CanGrow, HasQueuesFor, GrewAt, GrewNotAt, GrowsNotSo, GrowsSo, HoldEnough, IsInner}
+use Rattle.trace_replay.specs.Ending.{CanGrow, HasQueuesFor, GrewAt, GrewNotAt, GrowsNotSo, GrowsSo, HoldEnough, IsInner, SameOnInputs}
 use Rattle.trace_replay.proofs.Chained.{There, there}
 use Rattle.trace_replay.proofs.Ended.{capacity_is, stall_link}
 
@@ -202,3 +202,15 @@ can_hold grow links held_links cells l same can inner =
     of_link : (o : Option Link) → slice_get links l ≡ o → IsInner o → CanHold cells grow o
     of_link None at inner_o = absurd inner_o
     of_link (Some link) at inner_o = (can l link at inner_o.0 inner_o.1).holds
+
+-- where an inner link can hold more, input links can hold what they could
+pub same_on_inputs : (links : List Link) (capacities : List ℕ) (l capacity : ℕ) → IsInner (slice_get links l) → SameOnInputs links capacities (slice_set capacities l capacity)
+same_on_inputs links capacities l capacity inner m link at input =
+    set_other capacities l m capacity (λ same. not_inner (slice_get links l) inner (ap (slice_get links) (sym same) ∙ at))
+  where
+    not_inner : (o : Option Link) → IsInner o → o ≡ Some link → ⊥
+    not_inner None inside is = inside
+    not_inner (Some other) inside is =
+        let same : other ≡ link = cc in
+        let no : true ≡ false = sym input ∙ (ap is_input (sym same) ∙ inside.0) in
+        cc

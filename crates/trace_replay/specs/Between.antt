@@ -1,6 +1,6 @@
 -- A network between two lines of its trace, and what the next line does.
 -- Not trusted: no promise is read with it.
-use Rattle.std.specs.Prelude.{◌≡◌, ◌⊎◌, ℕ, ◌≤◌, Bool, true, false, List, [], length, Option, Some}
+use Rattle.std.specs.Prelude.{◌≡◌, ℕ, ◌≤◌, Bool, true, false, List, [], length, Option, Some}
 use Rattle.rvc_io.specs.Feeds.{Inputs}
 use Rattle.port_files.specs.Coming.{Reading}
 use Rattle.trace_text.specs.declared.line.Line.{Line}
@@ -19,27 +19,28 @@ use Rattle.net_state.specs.Held.{Held, HoldFew, seen}
 use Rattle.network_runner.specs.Filling.{ReadersFit}
 use Rattle.trace_replay.specs.Counting.{CountsAll, CountsOn, FitLinks}
 use Rattle.trace_replay.specs.Ending.{CanGrow, FitInputs, HoldEnough}
-use Rattle.trace_replay.specs.Feeding.{StandsFed}
-use Rattle.trace_replay.specs.Growing.{IsUnfed}
+use Rattle.trace_replay.specs.Holding.{FitTaken, StandsHeld, stacked}
 use Rattle.trace_replay.specs.Judging.{EventFails, TrapComes, Trial}
 use Rattle.trace_replay.specs.Trying.{AllWork}
 use Rattle.trace_replay.specs.declared.between.Replay.{Replay}
 use Rattle.trace_replay.specs.declared.came.Came.{Came}
 use Rattle.trace_replay.specs.declared.came.Came.TheVariants.{Goes, Ends, Fails, FeedFails}
+use Rattle.trace_replay.specs.declared.holding.TakenBack.{TakenBack}
 use Rattle.trace_replay.specs.declared.why.Why.{Why}
-use Rattle.trace_replay.specs.declared.why.Why.TheVariants.{End}
 
--- what is held, the readers of links, the numbers of the lines so far, and what is known of feeds
+-- what is held, what was taken back, the readers of links, the numbers of the lines so far, and what is known of feeds
 pub record Between (X : Type 0) : Type 0 where
   pub held : Held (Cell X)
+  pub taken : TakenBack
   pub readings : List (Option Reading)
   pub numbers : Counts
   pub feeds : Inputs
 
-abbrev pub between : {C X : Type 0} → (C → Cell X) → Held C → List (Option Reading) → Counts
-    → Inputs → Between X
-between cell held readings numbers feeds = record {
+abbrev pub between : {C X : Type 0} → (C → Cell X) → Held C → TakenBack → List (Option Reading)
+    → Counts → Inputs → Between X
+between cell held taken readings numbers feeds = record {
   held = seen cell held;
+  taken = taken;
   readings = readings;
   numbers = numbers;
   feeds = feeds;
@@ -48,7 +49,7 @@ between cell held readings numbers feeds = record {
 -- The network stands in the state s, which the last delivery `opened`. `inputs` are the bytes of its inputs from which
 -- the run began.
 pub record IsAt {X : Type 0} (net : Network X) (inputs : List (List ℕ)) (now : Between X) (opened s : State X) : Type 0 where
-  pub stands : StandsFed net inputs now.held now.readings now.feeds opened s
+  pub stands : StandsHeld net inputs now.held (stacked now.taken) now.readings now.feeds opened s
   pub fits : FitInputs net s
 
 -- what the code knows of it, whatever its state is
@@ -57,6 +58,7 @@ pub record CanGoOn {X : Type 0} (now : Between X) (links : List Link) (came grow
   pub few : length links ≤ max_links
   pub few_held : HoldFew now.held.capacities
   pub work : AllWork now.held.cells
+  pub taken_fits : FitTaken now.held now.taken
   pub readers : ReadersFit links now.readings now.feeds
   pub came_for_each : came ≡ length links
   pub numbers : FitLinks links now.numbers
@@ -120,10 +122,9 @@ is_still_end Deliver = false
 is_still_end (TrapLine i a c) = false
 is_still_end (Grow l capacity) = false
 
--- the line may not come for this cause; or it is a growth that is true, where more is to come from outside
+-- the line may not come for this cause
 abbrev pub FailsBy : {X : Type 0} → ℕ → Line → Between X → Why → Type 0
 FailsBy grow line old why = InEach grow old (λ t inputs opened s. EventFails t opened s line why)
-    ⊎ ((why ≡ End) × InEach grow old (λ t inputs opened s. IsUnfed t.net t.grow s line))
 
 -- Answers.
 
@@ -163,7 +164,7 @@ module _ {A X S : Type 0} (cell : A → Cell X) (feeds : S → Inputs) where
   -- where it stands
   abbrev pub stand : Replay A → S → Between X
   stand replay now =
-      between cell replay.state replay.readers.items replay.numbers (feeds now)
+      between cell replay.state replay.taken replay.readers.items replay.numbers (feeds now)
 
   abbrev pub IsReadyToGo : Replay A → S → Type 0
   IsReadyToGo replay now =

@@ -1,6 +1,6 @@
 -- What is asked of a network whose trace comes to an end line or to the growth of a link.
 -- Not trusted: no promise is read with it.
-use Rattle.std.specs.Prelude.{◌≡◌, ◌≢◌, ℕ, ◌*◌, ◌≤◌, ◌<◌, true, false, List, length, min, slice_get, slice_index_or, Option, None, Some}
+use Rattle.std.specs.Prelude.{◌≡◌, ◌≢◌, ℕ, ◌*◌, ◌≤◌, ◌<◌, true, false, List, ℤ, length, min, slice_get, slice_index_or, Option, None, Some}
 use Rattle.rvc_io.specs.Feeds.{Inputs}
 use Rattle.port_files.specs.Coming.{Reading}
 use Rattle.trace_text.specs.declared.line.Line.{Line}
@@ -17,7 +17,8 @@ use Rattle.net_state.specs.Held.{Held, IsReader, seen}
 use Rattle.net_state.specs.Moving.{IsWriter}
 use Rattle.net_state.specs.Standing.{IsTrueOfUnarrived, StandsIn, StandsSince}
 use Rattle.net_state.specs.Working.{AreFed, CanHold, GrewTo}
-use Rattle.trace_replay.specs.Feeding.{StandsFed}
+use Rattle.trace_replay.specs.Holding.{StandsHeld, stacked}
+use Rattle.trace_replay.specs.declared.holding.TakenBack.{TakenBack}
 
 -- an end line but that of a trap is true of a state
 abbrev pub IsTrueEnd : {X : Type 0} → Network X → ℕ → State X → Line → Type 0
@@ -50,15 +51,16 @@ IsEndOf {X} grow held line = (net : Network X) (s : State X) → StandsIn net he
     → AreLawful net → AreFed net s → IsSettled net s → IsTrueEnd net grow s line
 
 -- an end line is true of each state that stands, or of none
-abbrev pub EndsSo : {X : Type 0} → ℕ → Line → Held (Cell X) → List (Option Reading) → Inputs → Type 0
-EndsSo {X} grow line held readings feeds = (net : Network X) (inputs : List (List ℕ))
-    (opened s : State X) → StandsFed net inputs held readings feeds opened s → IsWired net → AreLawful net → FitInputs net s
+abbrev pub EndsSo : {X : Type 0} → ℕ → Line → Held (Cell X) → List (List ℤ) → List (Option Reading)
+    → Inputs → Type 0
+EndsSo {X} grow line held stacks readings feeds = (net : Network X) (inputs : List (List ℕ))
+    (opened s : State X) → StandsHeld net inputs held stacks readings feeds opened s → IsWired net → AreLawful net → FitInputs net s
     → IsTrueEnd net grow s line
 
-abbrev pub EndsNotSo : {X : Type 0} → ℕ → Line → Held (Cell X) → List (Option Reading) → Inputs
-    → Type 0
-EndsNotSo {X} grow line held readings feeds = (net : Network X) (inputs : List (List ℕ))
-    (opened s : State X) → StandsFed net inputs held readings feeds opened s → IsWired net → AreLawful net → FitInputs net s
+abbrev pub EndsNotSo : {X : Type 0} → ℕ → Line → Held (Cell X) → List (List ℤ)
+    → List (Option Reading) → Inputs → Type 0
+EndsNotSo {X} grow line held stacks readings feeds = (net : Network X) (inputs : List (List ℕ))
+    (opened s : State X) → StandsHeld net inputs held stacks readings feeds opened s → IsWired net → AreLawful net → FitInputs net s
     → IsTrueEnd net grow s line → ⊥
 
 -- link l may grow further
@@ -98,6 +100,11 @@ abbrev pub HoldEnough : List Link → List ℕ → Type 0
 HoldEnough links capacities = (l : ℕ) (link : Link) → slice_get links l ≡ Some link
     → link.capacity ≤ slice_index_or capacities l 0
 
+-- an input link can hold what it could
+abbrev pub SameOnInputs : List Link → List ℕ → List ℕ → Type 0
+SameOnInputs links old new = (l : ℕ) (link : Link) → slice_get links l ≡ Some link
+    → is_input link ≡ true → slice_index_or new l 0 ≡ slice_index_or old l 0
+
 -- link l grew to this capacity, which is twice what it could hold, at most the limit; or it may not
 pub record GrewAt {X : Type 0} (grow l capacity : ℕ) (old new : Held (Cell X)) : Type 0 where
   pub below : MayGrow grow old l
@@ -111,9 +118,10 @@ GrewNotAt grow l capacity held = IsInner (slice_get held.links l) → MayGrow gr
 -- The same of what the code holds.
 
 module _ {C X S : Type 0} (cell : C → Cell X) (feeds : S → Inputs) where
-  abbrev pub EndsOn : ℕ → Line → Held C → List (Option Reading) → S → Type 0
-  EndsOn grow line held readings now = EndsSo grow line (seen cell held) readings (feeds now)
+  abbrev pub EndsOn : ℕ → Line → Held C → TakenBack → List (Option Reading) → S → Type 0
+  EndsOn grow line held taken readings now =
+      EndsSo grow line (seen cell held) (stacked taken) readings (feeds now)
 
-  abbrev pub EndsNotOn : ℕ → Line → Held C → List (Option Reading) → S → Type 0
-  EndsNotOn grow line held readings now =
-      EndsNotSo grow line (seen cell held) readings (feeds now)
+  abbrev pub EndsNotOn : ℕ → Line → Held C → TakenBack → List (Option Reading) → S → Type 0
+  EndsNotOn grow line held taken readings now =
+      EndsNotSo grow line (seen cell held) (stacked taken) readings (feeds now)

@@ -1,5 +1,5 @@
 -- Lines of a run that are read one after another, up to an end line.
--- Trusted but for `BeginsAt` and what follows `IsJudgedOrNot`: part of what a promise means.
+-- Trusted are `IsTextOf` and `IsEnded`: part of what a promise means.
 use Rattle.std.specs.Prelude.{◌≡◌, ◌⊎◌, ℕ, suc, ◌+◌, true, List, [], ◌++◌, length, map, flat_map, Some, String, string_bytes}
 use Rattle.std.specs.List.{concat}
 use Rattle.std.specs.declared.alloc.Global.{Global as Heap}
@@ -17,11 +17,10 @@ use Rattle.net_model.specs.Wired.{IsWired}
 use Rattle.net_model.specs.Cell.{Cell}
 use Rattle.trace_replay.specs.Between.{Between, IsAt, stand}
 use Rattle.trace_replay.specs.Counting.{IsCountedTo}
-use Rattle.trace_replay.specs.Growing.{IsUnfed}
 use Rattle.trace_replay.specs.Head.{IsHeadOf, PassesEnd, StandsAt}
 use Rattle.trace_replay.specs.Judging.{AtEvents, AtFirst, IsNotRun, Lead, Trial, is_of_table}
 use Rattle.trace_replay.specs.Laws.{StartFits}
-use Rattle.trace_replay.specs.Reading.{IsWhole}
+use Rattle.trace_replay.specs.Reading.{IsJudged, IsWhole}
 use Rattle.trace_replay.specs.declared.between.Replay.{Replay}
 use Rattle.trace_replay.specs.declared.reading.Trace.{Trace}
 use Rattle.trace_replay.specs.declared.why.Why.{Why}
@@ -39,29 +38,6 @@ pub record BeginsAt {X : Type 0} (t : Trial X) (text : List ℕ) (inputs : List 
   pub counted : IsCountedTo t.net inputs t.start [] t.start now.numbers
   pub number : trace.count ≡ suc (length t.net.leaves)
   pub reached : StandsAt t text trace now.feeds (AtEvents t.start t.start)
-
--- Line n says that a link grows, and that is true of the state to which the lines before it lead. But a firing has
--- made room on an input link, and more of its feed is to come, so that replay doesn't go on there.
-pub record IsUnfedGrowth {X : Type 0} (t : Trial X) (text : List ℕ) (n : ℕ) (why : Why) : Type 0 where
-  pub texts : List (List ℕ)
-  pub front : List ℕ
-  pub more : List ℕ
-  pub line : Line
-  pub opened : State X
-  pub s : State X
-  pub is_text : text ≡ concat texts ++ (front ++ more)
-  pub lead : Lead t AtFirst texts (AtEvents opened s)
-  pub growth : IsUnfed t.net t.grow s line
-  pub spells : Spells line front
-  pub of_table : is_of_table t.grow line ≡ true
-  pub number : n ≡ length texts + 1
-  pub why_is : why ≡ End
-
--- what is told of a text that isn't replayed: no run has that line, or it is a growth where more is to come
-abbrev pub IsJudgedOrNot : {X : Type 0} → Trial X → List ℕ → ReplayFault → Type 0
-IsJudgedOrNot t text (NotRun line why) = IsNotRun t text line why ⊎ IsUnfedGrowth t text line why
-IsJudgedOrNot t text (ReadFault feed) = Unit {0}
-IsJudgedOrNot t text Memory = Unit {0}
 
 -- a text is that of the head and these lines of the run, which lead from its start to the state s
 pub record IsTextOf {X : Type 0} (t : Trial X) (text : List ℕ) (lines : List Line) (s : State X) :
@@ -84,7 +60,7 @@ EventsEnd {X} trace now grow end numbers = (t : Trial X) (text : List ℕ) (inpu
 
 abbrev pub EventsJudged : {X : Type 0} → Trace → Between X → ℕ → ReplayFault → Type 0
 EventsJudged {X} trace now grow fault = (t : Trial X) (text : List ℕ) (inputs : List (List ℕ))
-    → BeginsAt t text inputs trace now grow → IsJudgedOrNot t text fault
+    → BeginsAt t text inputs trace now grow → IsJudged t text fault
 
 -- the trace ends behind this end line
 abbrev pub EndsWhole : (X : Type 0) {S : Type 0} → (S → Inputs) → Line → Trace → S → Line → Type 0
@@ -114,7 +90,7 @@ abbrev pub TraceJudged : {X : Type 0} → Line → List (List ℕ) → Trace →
     → Type 0
 TraceJudged {X} first names trace now grow fault = (t : Trial X) (text : List ℕ)
     (inputs : List (List ℕ)) → BeginsFirst t text inputs trace now grow first names
-    → IsJudgedOrNot t text fault
+    → IsJudged t text fault
 
 -- The same of what the code holds.
 

@@ -1,16 +1,10 @@
 -- The feeds of input links: what is to come on a link, and what is pulled for it.
 -- Trusted but for `IsFeedRead`: part of what a promise means.
-use Rattle.std.specs.Prelude.{◌≡◌, ◌≤◌, ℕ, Bool, true, List, slice_get, Option, Some}
+use Rattle.std.specs.Prelude.{◌≡◌, ◌≤◌, ℕ, Bool, true, List, slice_get, Some}
 use Rattle.rvc_io.specs.Feeds.{Inputs}
-use Rattle.port_files.specs.Coming.{Reading}
 use Rattle.net_model.specs.declared.wiring.End.{End}
 use Rattle.net_model.specs.declared.wiring.Link.{Link}
-use Rattle.net_model.specs.Network.{Network}
-use Rattle.net_model.specs.State.{State}
-use Rattle.net_model.specs.Cell.{Cell}
-use Rattle.net_state.specs.Held.{Held}
-use Rattle.net_state.specs.Standing.{StandsSince}
-use Rattle.round_runner.specs.Running.{AreFedBy, count_inputs as inputs_among, feed_of as feed_of_link, has_feed as is_fed_end}
+use Rattle.round_runner.specs.Running.{count_inputs as inputs_among, feed_of as feed_of_link, has_feed as is_fed_end}
 use Rattle.trace_replay.specs.declared.bytes.TheConstants.{TRACE_FEED}
 
 -- how many of these links begin at an input of the network
@@ -34,12 +28,6 @@ IsFeedOf links opened feed = (l : ℕ) × (link : Link) × (slice_get links l �
 abbrev pub IsFeedRead : List Link → List Bool → ℕ → Type 0
 IsFeedRead links read feed = (l : ℕ) × (link : Link) × (slice_get links l ≡ Some link)
     × (slice_get read l ≡ Some true) × (feed ≡ feed_of links l)
-
--- The state stands in what is held, it was `opened` by the last delivery, and what is to come is what feeds have.
--- `inputs` are the bytes of the network's inputs from which the run began.
-pub record StandsFed {X : Type 0} (net : Network X) (inputs : List (List ℕ)) (held : Held (Cell X)) (readings : List (Option Reading)) (feeds : Inputs) (opened s : State X) : Type 0 where
-  pub stands : StandsSince net held opened s
-  pub fed : AreFedBy net inputs s readings feeds
 
 -- feeds were pulled, and none was opened or closed
 pub record OnlyPulls (old new : Inputs) : Type 0 where

@@ -9,6 +9,7 @@ pub mod Head
 pub mod Trying
 pub mod Feeding
 pub mod Counting
+pub mod Holding
 pub mod Ending
 pub mod Growing
 pub mod Between

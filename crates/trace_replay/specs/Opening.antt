@@ -1,12 +1,13 @@
 -- A network at the start of its trace.
 -- Not trusted: no promise is read with it.
-use Rattle.std.specs.Prelude.{◌≡◌, ℕ, List, length, map}
+use Rattle.std.specs.Prelude.{◌≡◌, ℕ, false, List, length, map}
 use Rattle.net_model.specs.declared.wiring.Wiring.{Wiring}
 use Rattle.net_model.specs.Cell.{Cell}
 use Rattle.net_state.specs.Beginning.{AreLawfulIn}
 use Rattle.net_state.specs.Held.{AreCounted, HoldFew, capacity_of, seen}
 use Rattle.net_state.specs.Standing.{StandAtStart}
 use Rattle.network_runner.specs.Making.{AreReadersOf, CountNothing}
+use Rattle.trace_replay.specs.Holding.{AreFresh}
 use Rattle.trace_replay.specs.declared.between.Replay.{Replay}
 
 -- it has these cells and this wiring, and the cells hold the state in which a run from them begins
@@ -25,3 +26,5 @@ pub record IsOpenedOn {C X : Type 0} (cell : C → Cell X) (cells : List C) (wir
   pub count : replay.count ≡ length cells
   pub grow_is : replay.grow ≡ grow
   pub noted : length replay.noted.items ≡ length wiring.links.items
+  pub taken : AreFresh wiring.links.items replay.taken
+  pub none_taken : replay.taken.any ≡ false

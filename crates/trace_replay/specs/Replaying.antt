@@ -1,6 +1,6 @@
 -- A trace that is replayed over cells, their wiring and feeds: what is asked of them, and what is told.
 -- Trusted but for `HaveInputPorts`: part of what a promise means.
-use Rattle.std.specs.Prelude.{◌≡◌, ◌⊎◌, ℕ, ◌≤◌, Bool, true, false, List, [], length, map, slice_get, slice_index_or, Some, String, string_bytes}
+use Rattle.std.specs.Prelude.{◌≡◌, ℕ, ◌≤◌, Bool, true, false, List, [], length, map, slice_get, slice_index_or, Some, String, string_bytes}
 use Rattle.std.specs.declared.alloc.Global.{Global as Heap}
 use Rattle.rvc_base.specs.Storing.{IsSize}
 use Rattle.rvc_io.specs.Feeds.{Inputs}
@@ -17,7 +17,6 @@ use Rattle.net_model.specs.Cell.{Cell}
 use Rattle.net_model.specs.Ready.{IsNetworkOf, IsReady, given_state}
 use Rattle.net_state.specs.Beginning.{HaveSizes, NoneUnlinked}
 use Rattle.network_runner.specs.Asking.{HavePortSizes}
-use Rattle.trace_replay.specs.Events.{IsUnfedGrowth}
 use Rattle.trace_replay.specs.Feeding.{feed_of, has_feed}
 use Rattle.trace_replay.specs.Head.{name_of}
 use Rattle.trace_replay.specs.Judging.{IsNotRun, IsTrace, Trial, max_trace_bytes}
@@ -85,11 +84,9 @@ abbrev pub IsNone : {X : Type 0} → Trial X → List ℕ → Type 0
 IsNone {X} t text = (lines : List Line) (end : Line) (last : State X) → length text ≤ max_trace_bytes
     → IsTrace t text lines end last → ⊥
 
--- No run has line n with the lines before it, and so the text is no trace; or the line is a growth that is true, behind a
--- firing that made room on an input link of whose feed more is to come.
+-- no run has line n with the lines before it, and so the text is no trace
 abbrev pub IsRefused : {X : Type 0} → Trial X → List ℕ → ReplayFault → Type 0
-IsRefused t text (NotRun line why) =
-    (IsNotRun t text line why × IsNone t text) ⊎ IsUnfedGrowth t text line why
+IsRefused t text (NotRun line why) = IsNotRun t text line why × IsNone t text
 IsRefused t text (ReadFault feed) = Unit {0}
 IsRefused t text Memory = Unit {0}
 

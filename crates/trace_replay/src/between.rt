@@ -19,11 +19,12 @@ use crate::counting::{catch_up, count_delivery, count_firing};
 use crate::ending::ends_so;
 use crate::growing::grow_fed;
 use crate::growth::Growth;
+use crate::holding::{TakenBack, deliver_held, nothing_taken};
 use crate::trying::{fire, traps};
 use crate::why::Why;
 use net_model::{Counts, Firing, Link, Wiring};
 use net_state::{Filled, NetState};
-use network_runner::{copy_of, deliver_all, no_counts, nothing_came, readers_of};
+use network_runner::{copy_of, no_counts, nothing_came, readers_of};
 use port_files::TokenFeed;
 use rvc_base::{Memory, Trap};
 use rvc_io::Feeds;
@@ -37,6 +38,8 @@ pub(crate) struct Replay<A: Firing> {
     links: Vec<Link>,
     /// For each link what reads its feed, if it has one.
     readers: Vec<Option<TokenFeed>>,
+    /// What was taken back from links that begin outside, until the next delivery.
+    taken: TakenBack,
     /// What came over each link at the last delivery.
     came: Vec<Filled>,
     /// The numbers of the lines so far. What was sent to outputs since the last delivery is still to be counted.
@@ -67,6 +70,7 @@ impl<A: Firing> Replay<A> {
     {
         let count = cells.len() as u32;
         let readers = readers_of(alloc, &wiring.links, &wiring.ins, &wiring.open_ins)?;
+        let taken = nothing_taken(alloc, &wiring.links)?;
         let came = nothing_came(alloc, wiring.links.len())?;
         let numbers = no_counts(alloc, wiring.links.len(), wiring.outs.len())?;
         let noted = vec![in alloc; 0u32; wiring.links.len()]?;
@@ -76,6 +80,7 @@ impl<A: Firing> Replay<A> {
             state,
             links,
             readers,
+            taken,
             came,
             numbers,
             count,
@@ -104,6 +109,7 @@ impl<A: Firing> Replay<A> {
             state: _,
             links: _,
             readers: _,
+            taken: _,
             came: _,
             numbers,
             count: _,
@@ -189,10 +195,11 @@ impl<A: Firing> Replay<A> {
         ensures elsewhere { PullsInputs (F.feeds feeds.old) (F.feeds feeds.new) }
     {
         catch_up(&self.state, &self.links, &mut self.numbers);
-        match deliver_all(
+        match deliver_held(
             &mut self.state,
             &self.links,
             &mut self.readers,
+            &mut self.taken,
             feeds,
             &mut self.came,
         ) {
@@ -205,8 +212,6 @@ impl<A: Firing> Replay<A> {
     }
 
     /// A line that says that a link grows.
-    ///
-    /// A growth that is true fails too where more is to come from outside: cells would see it before it arrives.
     fn grow<F: Feeds>(&mut self, link: u32, capacity: u32, feeds: &mut F) -> Came
         requires ready { IsReadyToGo A.cell F.feeds self.old feeds.old }
         requires count { self.old.count ≡ length self.old.state.cells }
@@ -233,6 +238,7 @@ impl<A: Firing> Replay<A> {
             &mut self.state,
             &self.links,
             &mut self.readers,
+            &mut self.taken,
             &mut self.came,
             &mut self.noted,
             self.grow,
@@ -242,7 +248,6 @@ impl<A: Firing> Replay<A> {
         ) {
             Growth::Grown => Came::Goes,
             Growth::Untrue => Came::Fails(Why::End),
-            Growth::Unfed => Came::Fails(Why::End),
             Growth::Unread(feed) => Came::FeedFails(feed),
         }
     }
@@ -265,6 +270,7 @@ impl<A: Firing> Replay<A> {
             &mut self.state,
             &self.links,
             &mut self.readers,
+            &mut self.taken,
             &mut self.came,
             self.grow,
             line,

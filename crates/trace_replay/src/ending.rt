@@ -5,18 +5,19 @@ ghost use Rattle.rvc_io.specs.Feeds.{ReadFails};
 ghost use Rattle.trace_text.specs.declared.line.Line.TheVariants.{Budget, Stall};
 ghost use Rattle.net_model.specs.Network.{is_input as begins_outside};
 ghost use Rattle.net_model.specs.Limits.{max_links};
-ghost use Rattle.net_state.specs.Held.{seen};
+ghost use Rattle.net_state.specs.Held.{HoldFew, seen};
 ghost use Rattle.net_state.specs.Surveyed.{AreSettled, AreUntrapped};
 ghost use Rattle.net_state.specs.Working.{IsAtRest};
 ghost use Rattle.trace_replay.specs.Ending.{AreUnsettled, EndsNotOn, EndsOn, IsEndOf, IsOut, MayGrow};
 ghost use Rattle.network_runner.specs.Filling.{ReadersFit};
+ghost use Rattle.trace_replay.specs.Holding.{FitTaken};
 ghost use Rattle.trace_replay.specs.Feeding.{PullsInputs, IsFeedRead};
 
 use crate::head::is_line;
+use crate::holding::{TakenBack, deliver_held};
 use crate::states::StatesOf;
 use net_model::{End, Firing, Link, stalled_in_one_place};
 use net_state::{Filled, NetState, Outlook};
-use network_runner::deliver_all;
 use port_files::TokenFeed;
 use rvc_base::{ActId, InstId, LinkId};
 use rvc_io::Feeds;
@@ -120,6 +121,7 @@ pub(crate) fn ends_so<A: Firing, F: Feeds>(
     state: &mut NetState<A>,
     links: &[Link],
     readers: &mut [Option<TokenFeed>],
+    taken: &mut TakenBack,
     came: &mut [Filled],
     grow: u32,
     line: &Line,
@@ -128,12 +130,14 @@ pub(crate) fn ends_so<A: Firing, F: Feeds>(
     requires links { state.old.links ≡ links.now }
     requires few { length links.now ≤ max_links }
     requires untrapped { AreUntrapped (map A.cell state.old.cells) }
+    requires few_held { HoldFew state.old.capacities }
     requires readers { ReadersFit links.now readers.old (F.feeds feeds.old) }
+    requires taken { FitTaken (seen A.cell state.old) taken.old }
     requires as_many { length came.old ≡ length links.now }
     ensures yes { IfOk result (λ so. so ≡ true
-        → EndsOn A.cell F.feeds grow line.now state.old readers.old feeds.old) }
+        → EndsOn A.cell F.feeds grow line.now state.old taken.old readers.old feeds.old) }
     ensures no { IfOk result (λ so. so ≡ false
-        → EndsNotOn A.cell F.feeds grow line.now state.old readers.old feeds.old) }
+        → EndsNotOn A.cell F.feeds grow line.now state.old taken.old readers.old feeds.old) }
     ensures failed { OnErr result (ReadFails F.feeds feeds.old feeds.new) }
     ensures feed { IfErr result (IsFeedRead links.now (map is_some readers.old)) }
     ensures elsewhere { PullsInputs (F.feeds feeds.old) (F.feeds feeds.new) }
@@ -141,7 +145,7 @@ pub(crate) fn ends_so<A: Firing, F: Feeds>(
     if !is_settled(state, links) {
         return Ok(false);
     }
-    match deliver_all(state, links, readers, feeds, came) {
+    match deliver_held(state, links, readers, taken, feeds, came) {
         Ok(()) => {}
         Err(fault) => return Err(fault.feed),
     }

@@ -8,16 +8,17 @@ ghost use Rattle.net_state.specs.Moving.{SameActors, SameMarks};
 ghost use Rattle.net_state.specs.Surveyed.{AreUntrapped};
 ghost use Rattle.net_state.specs.Working.{IsAtRest};
 ghost use Rattle.network_runner.specs.Filling.{ReadersFit};
-ghost use Rattle.trace_replay.specs.Ending.{CanGrow, GrewAt, GrewNotAt, GrowsNotSo, GrowsSo, HoldEnough, IsInner};
+ghost use Rattle.trace_replay.specs.Ending.{CanGrow, GrewAt, GrewNotAt, GrowsNotSo, GrowsSo, HoldEnough, IsInner, SameOnInputs};
 ghost use Rattle.trace_replay.specs.Feeding.{IsFeedRead, PullsInputs};
-ghost use Rattle.trace_replay.specs.Growing.{GrowsOn, IfUnread, NoTokenCame, SomeCame, StillFitsOn};
+ghost use Rattle.trace_replay.specs.Holding.{FitTaken};
+ghost use Rattle.trace_replay.specs.Growing.{GrowsOn, IfUnread, StillFitsOn};
 
 use crate::ending::{is_input, is_settled, may_grow};
 use crate::growth::Growth;
+use crate::holding::{TakenBack, deliver_held, take_back_all};
 use crate::states::StatesOf;
 use net_model::{End, Firing, Link, stalled_in_one_place};
 use net_state::{Filled, NetState, Outlook};
-use network_runner::deliver_all;
 use port_files::TokenFeed;
 use rvc_base::LinkId;
 use rvc_io::Feeds;
@@ -61,6 +62,7 @@ fn grow_at<A: Firing>(
     ensures yes { result ≡ true → GrewAt grow link.0 capacity (seen A.cell state.old) (seen A.cell state.new) }
     ensures no { result ≡ false → GrewNotAt grow link.0 capacity (seen A.cell state.old) }
     ensures enough { HoldEnough links.now state.old.capacities → HoldEnough links.now state.new.capacities }
+    ensures inputs { SameOnInputs links.now state.old.capacities state.new.capacities }
     ensures few { HoldFew state.old.capacities → HoldFew state.new.capacities }
     ensures cells { state.new.cells ≡ state.old.cells }
     ensures links { state.new.links ≡ state.old.links }
@@ -94,6 +96,7 @@ pub(crate) fn grow_so<A: Firing>(
         (seen A.cell state.new) }
     ensures no { result ≡ false → GrowsNotSo grow link capacity (seen A.cell state.old) }
     ensures enough { HoldEnough links.now state.new.capacities }
+    ensures inputs { SameOnInputs links.now state.old.capacities state.new.capacities }
     ensures few { HoldFew state.new.capacities }
     ensures rests { IsAtRest (seen A.cell state.new) }
     ensures same_actors { SameActors (map A.cell state.old.cells) (map A.cell state.new.cells) }
@@ -112,26 +115,14 @@ pub(crate) fn grow_so<A: Firing>(
     }
 }
 
-/// Whether a token came over some link.
-fn any_came(came: &[Filled]) -> bool
-    ensures some { result ≡ true → SomeCame came.now }
-    ensures none { result ≡ false → NoTokenCame came.now }
-{
-    for l in 0..came.len() {
-        if came[l].tokens != 0 {
-            return true;
-        }
-    }
-    false
-}
-
 /// Lets a link grow as a line says, if the network is stalled there and the link grows so, with all that is left of the
-/// feeds counted as arrived. So links are filled for it. If a token came so, the run can't go on, since cells would see
-/// it; else the rooms are those of the last delivery again, which `noted` holds meanwhile.
+/// feeds counted as arrived. So links are filled for it. What came so is taken back then, since the run goes on without
+/// it, and the rooms are those of the last delivery again, which `noted` holds meanwhile.
 pub(crate) fn grow_fed<A: Firing, F: Feeds>(
     state: &mut NetState<A>,
     links: &[Link],
     readers: &mut [Option<TokenFeed>],
+    taken: &mut TakenBack,
     came: &mut [Filled],
     noted: &mut [u32],
     grow: u32,
@@ -146,12 +137,13 @@ pub(crate) fn grow_fed<A: Firing, F: Feeds>(
     requires few_held { HoldFew state.old.capacities }
     requires untrapped { AreUntrapped (map A.cell state.old.cells) }
     requires readers { ReadersFit links.now readers.old (F.feeds feeds.old) }
+    requires taken { FitTaken (seen A.cell state.old) taken.old }
     requires as_many { length came.old ≡ length links.now }
     requires as_many_noted { length noted.old ≡ length links.now }
-    ensures growth { GrowsOn A.cell F.feeds grow link capacity state.old readers.old feeds.old
-        state.new readers.new feeds.new result }
-    ensures still_fits { StillFitsOn A.cell F.feeds links.now state.old state.new readers.new
-        feeds.new result }
+    ensures growth { GrowsOn A.cell F.feeds grow link capacity state.old taken.old readers.old
+        feeds.old state.new taken.new readers.new feeds.new result }
+    ensures still_fits { StillFitsOn A.cell F.feeds links.now state.old state.new taken.new
+        readers.new feeds.new result }
     ensures failed { IfUnread result (λ _. ReadFails F.feeds feeds.old feeds.new) }
     ensures feed { IfUnread result (IsFeedRead links.now (map is_some readers.old)) }
     ensures still_there { map is_some readers.new ≡ map is_some readers.old }
@@ -161,16 +153,14 @@ pub(crate) fn grow_fed<A: Firing, F: Feeds>(
         return Growth::Untrue;
     }
     state.note_waited(noted);
-    match deliver_all(state, links, readers, feeds, came) {
+    match deliver_held(state, links, readers, taken, feeds, came) {
         Ok(()) => {}
         Err(fault) => return Growth::Unread(fault.feed),
     }
     if !grow_so(state, links, grow, link, capacity) {
         return Growth::Untrue;
     }
-    if any_came(came) {
-        return Growth::Unfed;
-    }
+    take_back_all(state, links, came, taken);
     state.reopen(noted);
     Growth::Grown
 }

@@ -5,8 +5,6 @@
 pub(crate) enum Growth {
     /// It isn't true.
     Untrue,
-    /// It is true, and more is to come from outside.
-    Unfed,
     /// It is true, and the run goes on.
     Grown,
     /// It wasn't judged, since the feed with this number couldn't be read.

@@ -29,10 +29,8 @@ use trace_text::text_tells_lines;
 ///
 /// # Errors
 ///
-/// `NotRun` if no run has a line with the lines before it, with its number and why (`refused`); or, with `End`, if it says
-/// that a link grows, which is true, but stands behind a firing that made room on an input link, and more of its feed is
-/// to come. `ReadFault` if bytes couldn't be pulled from the trace or from the feed of an input link (`failed`, `feed`).
-/// `Memory` if memory runs out.
+/// `NotRun` if no run has a line with the lines before it, with its number and why (`refused`). `ReadFault` if bytes couldn't
+/// be pulled from the trace or from the feed of an input link (`failed`, `feed`). `Memory` if memory runs out.
 pub fn replay<A: Firing, F: Feeds>(
     alloc: Global,
     cells: Vec<A>,

@@ -3,6 +3,7 @@
 ghost use Rattle.std.specs.Prelude.{◌≡◌, ◌≢◌, true, false, IfNone, IfSome, length, map};
 ghost use Rattle.net_state.specs.Held.{seen};
 ghost use Rattle.net_state.specs.Moving.{SameActors};
+ghost use Rattle.net_state.specs.TakingBack.{NoMoreWait};
 ghost use Rattle.trace_replay.specs.Trying.{AllWork, FailsToFire, FiresOn, TrapsNotSo, TrapsSo};
 
 use crate::why::Why;
@@ -25,6 +26,7 @@ pub(crate) fn fire<A: Firing>(
     ensures still_work { IfNone result (AllWork (map A.cell state.new.cells)) }
     ensures same_actors { IfNone result (SameActors (map A.cell state.old.cells)
         (map A.cell state.new.cells)) }
+    ensures fewer { NoMoreWait (seen A.cell state.old) (seen A.cell state.new) }
     ensures links { state.new.links ≡ state.old.links }
     ensures capacities { state.new.capacities ≡ state.old.capacities }
     ensures waited { state.new.waited ≡ state.old.waited }

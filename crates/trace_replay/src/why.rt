@@ -13,8 +13,7 @@ pub enum Why {
     NoRoom,
     /// The action traps; or a trap that the line names doesn't come.
     Trap,
-    /// What the line says of the state isn't true; or it says that a link grows, which is true, but stands behind a firing
-    /// that made room on an input link, and more of its feed is to come.
+    /// What the line says of the state isn't true.
     End,
     /// It stands behind an end line.
     After,

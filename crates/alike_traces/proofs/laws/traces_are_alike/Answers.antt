@@ -1,4 +1,4 @@
-use Rattle.alike_traces.proofs.LikeTraces.{not_run_alike, trace_alike, unfed_growth_alike}
+use Rattle.alike_traces.proofs.LikeTraces.{not_run_alike, trace_alike}
 use Rattle.alike_traces.proofs.laws.traces_are_alike.Goals as goal
 
 pub returns-clause-traces : goal.returns-clause-traces
@@ -8,7 +8,3 @@ returns-clause-traces g c = λ net other grow s last that text lines end alike s
 pub returns-clause-no_runs : goal.returns-clause-no_runs
 returns-clause-no_runs g c = λ net other grow s that text line why alike states told.
     not_run_alike g.K.Likeness.related g.K.Likeness.allowed net other alike grow s that states text line why told
-
-pub returns-clause-unfed_growths : goal.returns-clause-unfed_growths
-returns-clause-unfed_growths g c = λ net other grow s that text line why alike states told.
-    unfed_growth_alike g.K.Likeness.related g.K.Likeness.allowed net other alike grow s that states text line why told

@@ -5,13 +5,14 @@ use Rattle.port_files.specs.Coming.{coming_on}
 use Rattle.trace_text.specs.Text.{line_feed}
 use Rattle.trace_text.specs.declared.line.Line.{Line}
 use Rattle.trace_replay.specs.Between.{stand}
-use Rattle.trace_replay.specs.Events.{IsEnded, IsJudgedOrNot, IsTextOf, IsUnfedGrowth}
+use Rattle.trace_replay.specs.Events.{IsEnded, IsTextOf}
+use Rattle.trace_replay.specs.Reading.{IsJudged}
 use Rattle.trace_replay.specs.Feeding.{IsFeedRead}
 use Rattle.trace_replay.specs.Judging.{AtEvents, IsNotRun}
 use Rattle.trace_replay.specs.declared.bytes.TheConstants.{TRACE_FEED}
 use Rattle.trace_replay.specs.declared.reading.Read.{Read}
 use Rattle.trace_replay.proofs.Heads.{err_after, fault_after, stops_judged}
-use Rattle.trace_replay.proofs.Led.{LedTo, names_too, fault_over, is_next, judged_or_not, led_end, led_fails, led_more, led_none}
+use Rattle.trace_replay.proofs.Led.{LedTo, names_too, fault_over, is_next, led_end, led_fails, led_more, led_none}
 use Rattle.trace_replay.proofs.Looped.{ready_pulled}
 use Rattle.trace_replay.proofs.Pulling.{only_line, only_none, only_then, only_at, risen_after}
 use Rattle.trace_replay.proofs.Told.{okay_after}
@@ -37,7 +38,7 @@ lines-init g c = record {
 pub come-requires-clause-ready : goal.come-requires-clause-ready
 come-requires-clause-ready g c =
     ready_pulled (stand g.A.Firing.cell g.F.Feeds.feeds c.lines.replay c.lines.feeds) (stand g.A.Firing.cell g.F.Feeds.feeds c.lines.replay c.next_line.new.feeds)
-    c.lines.replay.links.items (length c.lines.replay.came.items) c.lines.replay.grow refl refl refl c.next_line.ensures.elsewhere c.lines.invariant.ready
+    c.lines.replay.links.items (length c.lines.replay.came.items) c.lines.replay.grow refl refl refl refl c.next_line.ensures.elsewhere c.lines.invariant.ready
 
 pub lines-preserved : goal.lines-preserved
 lines-preserved g c = record {
@@ -66,7 +67,6 @@ lines-preserved g c = record {
 pub returns-in-Err-clause-judged : goal.returns-in-Err-clause-judged
 returns-in-Err-clause-judged g c = λ t text inputs begins.
     let led : LedTo t text inputs c.lines.trace (stand g.A.Firing.cell g.F.Feeds.feeds c.lines.replay c.lines.feeds) = c.lines.invariant.led t text inputs begins in
-    judged_or_not t text c.in-Err.fault
     (stops_judged t text line_feed c.lines.trace.grow c.lines.trace.count c.lines.trace.lines.passed (AtEvents led.opened led.s)
     (coming_on c.lines.trace.lines.bytes (g.F.Feeds.feeds c.lines.feeds) TRACE_FEED) (coming_on c.next_line.new.self.lines.bytes (g.F.Feeds.feeds c.next_line.new.feeds) TRACE_FEED)
     c.in-Err.fault (begins.grow_is ∙ sym c.lines.invariant.grow ∙ sym c.lines.invariant.trace_grow) led.reached (λ over. over) c.in-Err.ensures.stops)
@@ -107,7 +107,7 @@ returns-in-Ends-clause-judged g c =
     (is_next c.lines.trace c.next_line.new.self (stand g.A.Firing.cell g.F.Feeds.feeds c.lines.replay c.lines.feeds) (g.F.Feeds.feeds c.next_line.new.feeds)
     c.lines.replay.grow c.in-Ok.read.line c.in-Ok.read.same c.lines.invariant.trace_grow c.next_line.ensures.elsewhere c.in-Ok.ensures.read c.in-Ok.ensures.count)
     c.in-Ends.ensures.ends c.in-Ends.ensures.counts_all c.in-Ends.ensures.is_end c.come.ensures.elsewhere in
-    judged_or_not t text fault (judged t text c.in-Ok.read.line to.last to.has))
+    judged t text c.in-Ok.read.line to.last to.has)
     c.end_at.ensures.judged
 
 pub returns-in-Ends-clause-failed : goal.returns-in-Ends-clause-failed
@@ -119,8 +119,8 @@ returns-in-Ends-clause-failed g c =
 
 pub returns-in-Fails-clause-judged : goal.returns-in-Fails-clause-judged
 returns-in-Fails-clause-judged g c = λ t text inputs begins.
-    subst (IsJudgedOrNot t text) (sym c.not_run.ensures)
-    (subst (λ n. IsNotRun t text n c.in-Fails.why ⊎ IsUnfedGrowth t text n c.in-Fails.why) (sym c.number.ensures)
+    subst (IsJudged t text) (sym c.not_run.ensures)
+    (subst (λ n. IsNotRun t text n c.in-Fails.why) (sym c.number.ensures)
     (led_fails t text inputs c.lines.trace c.next_line.new.self (stand g.A.Firing.cell g.F.Feeds.feeds c.lines.replay c.lines.feeds) (g.F.Feeds.feeds c.next_line.new.feeds)
     c.lines.replay.grow c.in-Ok.read.line c.in-Ok.read.same c.in-Fails.why
     (begins.grow_is ∙ sym c.lines.invariant.grow) begins.wired begins.lawful (c.lines.invariant.led t text inputs begins)

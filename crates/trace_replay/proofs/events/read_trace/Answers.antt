@@ -4,7 +4,7 @@ use Rattle.std.specs.Prelude.{is_some, string_bytes}
 use Rattle.rvc_io.specs.Feeds.{ReadFails}
 use Rattle.trace_replay.specs.Between.{stand}
 use Rattle.trace_replay.proofs.Heads.{err_after, fault_after}
-use Rattle.trace_replay.proofs.Led.{names_too, judged_or_not}
+use Rattle.trace_replay.proofs.Led.{names_too}
 use Rattle.trace_replay.proofs.Looped.{ready_pulled}
 use Rattle.trace_replay.specs.declared.bytes.TheConstants.{TRACE_FEED}
 use Rattle.trace_replay.proofs.Pulling.{only_at, only_then, risen_after}
@@ -14,10 +14,10 @@ use Rattle.trace_replay.proofs.events.read_trace.Goals as goal
 pub read_events-requires-clause-ready : goal.read_events-requires-clause-ready
 read_events-requires-clause-ready g c =
     ready_pulled (stand g.A.Firing.cell g.F.Feeds.feeds c.args.replay.now c.args.feeds.now) (stand g.A.Firing.cell g.F.Feeds.feeds c.args.replay.now c.read_head.new.feeds)
-    c.args.replay.now.links.items (length c.args.replay.now.came.items) c.args.replay.now.grow refl refl refl c.read_head.ensures.elsewhere c.requires.ready
+    c.args.replay.now.links.items (length c.args.replay.now.came.items) c.args.replay.now.grow refl refl refl refl c.read_head.ensures.elsewhere c.requires.ready
 
 pub returns-in-Err-clause-judged : goal.returns-in-Err-clause-judged
-returns-in-Err-clause-judged g c = λ t text inputs begins. judged_or_not t text c.in-Err.fault (c.in-Err.ensures.judged t text begins.head begins.reached)
+returns-in-Err-clause-judged g c = λ t text inputs begins. (c.in-Err.ensures.judged t text begins.head begins.reached)
 
 pub returns-clause-ended : goal.returns-clause-ended
 returns-clause-ended g c =

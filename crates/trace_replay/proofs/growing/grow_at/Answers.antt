@@ -1,6 +1,6 @@
 use Rattle.std.proofs.Common.{map, sym, subst}
-use Rattle.trace_replay.specs.Ending.{HoldEnough}
-use Rattle.trace_replay.proofs.Widened.{can_hold, enough_after}
+use Rattle.trace_replay.specs.Ending.{HoldEnough, SameOnInputs}
+use Rattle.trace_replay.proofs.Widened.{can_hold, enough_after, same_on_inputs}
 use Rattle.trace_replay.proofs.growing.grow_at.Goals as goal
 
 pub returns-clause-enough : goal.returns-clause-enough
@@ -12,3 +12,8 @@ pub grow-requires-clause-queues : goal.grow-requires-clause-queues
 grow-requires-clause-queues g c =
     can_hold c.args.grow c.args.links.now c.args.state.now.links (map g.A.Firing.cell c.args.state.now.cells) c.args.link.0 c.requires.links c.requires.queues
     (c.is_inner_at.ensures.yes c.if-not-is_inner_at.false)
+
+pub returns-clause-inputs : goal.returns-clause-inputs
+returns-clause-inputs g c =
+    subst (SameOnInputs c.args.links.now c.args.state.now.capacities) (sym c.grow.ensures.capacities)
+    (same_on_inputs c.args.links.now c.args.state.now.capacities c.args.link.0 c.grow.result (c.is_inner_at.ensures.yes c.if-not-is_inner_at.false))
