@@ -10,7 +10,6 @@ use Rattle.cal_model.specs.Actor.{Actor, Fun, Local, Proc}
 use Rattle.cal_model.specs.Kinding.{Names}
 use Rattle.cal_model.specs.Sound.{Each, IsProc, IsSound, names_of}
 use Rattle.cal_model.specs.Statement.{proc_named}
-use Rattle.cal_model.proofs.Procedures.{named-proc}
 use Rattle.code_ir.specs.declared.instr.Instr.{Instr}
 use Rattle.code_ir.specs.declared.instr.Instr.TheVariants as op
 use Rattle.code_ir.specs.declared.instr.Routine.{Routine}
@@ -74,6 +73,15 @@ allowed-there a all base (x ∷ body) (i ∷ rest) here there inner h =
 
 -- ---- functions and procedures
 
+-- a procedure that has a name is one of a sound actor
+sound-proc : (all : List Proc) (known : Names) (name : List ℕ) (ps : List Proc) (p : Proc) → Each (IsProc all known) ps → proc_named name ps ≡ Some p → IsProc all known p
+sound-proc all known name [] p h e = cc
+sound-proc all known name (q ∷ ps) p h e = by (bytes_eq q.name name) e (sound-proc all known name ps p h.1)
+  where
+    by : (b : Bool) → (if b then Some q else proc_named name ps) ≡ Some p → (proc_named name ps ≡ Some p → IsProc all known p) → IsProc all known p
+    by true f more = let same : q ≡ p = cc in subst (IsProc all known) same h.0
+    by false f more = more f
+
 -- what is known of functions whose routines stand there, and of their cells
 pub record FunctionsAllowed (a : Allowed) (whole : Code) (low : ℕ) (fs : List Function) (n : ℕ) : Type 0 where
   pub up : low ≤ n
@@ -126,7 +134,7 @@ module _ (a : Allowed) (whole : Code) (globals : List Name) (read : AreRead a gl
         let le = h.functions.up in
         let grows = proc_grows is.body in
         let allows : AllowsRuns a (calling fs ps) globals n = record { inside = record { own = own-from n le; formals = h.functions.formals; read = read }; procedures = h.formals } in
-        let ok : AreAllowed a code = proc_allowed a (calling fs ps) procs globals p g base n m code known allows changes (named-proc (IsProc procs known) p.name procs p sound named).0 is in
+        let ok : AreAllowed a code = proc_allowed a (calling fs ps) procs globals p g base n m code known allows changes (sound-proc procs known p.name procs p sound named) is in
         let here : IsAllowedAt a whole g.routine = at-routine g.routine r base code there start stands (proc-ends is.body) ok in
         let formals : AreWritten a g.formals = row_written a n g.formals (own-from n le) is.row in
         record {

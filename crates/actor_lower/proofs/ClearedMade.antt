@@ -1,5 +1,5 @@
 -- Bodies of routines, and guards and firings that clear their cells first, in a draft.
-use Rattle.std.proofs.Common.{◌≡◌, ℕ, zero, suc, ◌+◌, ◌-◌, ◌<◌, ◌≤◌, ⊎_elim, Bool, true, List, [], ◌∷◌, ◌++◌, length, map, refl, sym, ap, subst, ◌∙◌, arith, Option, None, Some, append-nil, append_assoc, length-append}
+use Rattle.std.proofs.Common.{◌≡◌, ℕ, zero, suc, ◌+◌, ◌-◌, ◌<◌, ◌≤◌, ⊎_elim, Bool, true, false, List, [], ◌∷◌, ◌++◌, length, map, refl, sym, ap, subst, ◌∙◌, arith, Option, None, Some, append-nil, append_assoc, length-append}
 use Rattle.std.specs.Prelude.{slice_get}
 use Rattle.std.proofs.lemmas.List.{length-map}
 use Rattle.std.proofs.lemmas.Option.{slice_get_within}
@@ -208,7 +208,7 @@ module _ (b : Bound) (a : ℕ) (low : a < length b.actions.items) where
   guards-from rs clears es old new sound is served added k entry e =
       let there = action-there b a low in
       let one = (subst (λ c. AddsGuards c rs.functions (actor_of b) a es old new) is added) there.0 there.1 in
-      let found = guards-cleared one.has (omega arith) k entry e in (
+      let found = guards-cleared {low = old.cells} one.has (omega arith) k entry e in (
         found.0,
         record {
           below = found.1;
