@@ -14,6 +14,7 @@ bash "$top/bench/lowering/lowered.sh" "$top" "$work" "$here/actors" Inc.cal AddN
     Wheel.cal >"$work/lowered.txt"
 
 # The driver is a program over crates of the checkout. What the checkout has proved already isn't proved again.
+cp "$top/HANDLES" "$work/"
 below=(rvc_base rvc_io trace_text code_ir schedule_fsm priority_order action_machine token_ring lowered_actor guard_select
     net_model kept_facts actor_cell)
 for name in "${below[@]}"; do
@@ -27,6 +28,11 @@ for name in "${below[@]}"; do
 done
 mkdir -p "$work/crates/firing_bench/src"
 cp "$here/driver.rt.txt" "$work/crates/firing_bench/src/main.rt"
+for file in "$here"/proofs/*.txt; do
+    name=$(basename "$file" .txt)
+    mkdir -p "$work/crates/firing_bench/proofs/${name%.*}"
+    cp "$file" "$work/crates/firing_bench/proofs/${name%.*}/${name#*.}.antt"
+done
 {
     printf '//! The code and the tables of actors.\n\nuse code_ir::Instr;\nuse rvc_base::{Num, Scalar};\n\n'
     awk -f "$top/bench/lowering/tables.awk" "$work/lowered.txt"

@@ -14,6 +14,7 @@ bash "$here/lowered.sh" "$top" "$work" "$here/bodies" Sat.cal Idct.cal Crc.cal G
 cat "$work/lowered.txt" "$here/hand.txt" | awk -f "$here/tables.awk" >"$work/tables"
 
 # The driver is a program over crates of the checkout. What the checkout has proved already isn't proved again.
+cp "$top/HANDLES" "$work/"
 below=(rvc_base code_ir action_machine)
 for name in "${below[@]}"; do
     mkdir -p "$work/crates/$name"
@@ -26,6 +27,11 @@ for name in "${below[@]}"; do
 done
 mkdir -p "$work/crates/lowering_bench/src"
 cp "$here/driver.rt.txt" "$work/crates/lowering_bench/src/main.rt"
+for file in "$here"/proofs/*.txt; do
+    name=$(basename "$file" .txt)
+    mkdir -p "$work/crates/lowering_bench/proofs/${name%.*}"
+    cp "$file" "$work/crates/lowering_bench/proofs/${name%.*}/${name#*.}.antt"
+done
 {
     printf '//! The code of bodies.\n\nuse code_ir::Instr;\nuse rvc_base::{Num, Scalar};\n\n'
     cat "$work/tables"

@@ -4,6 +4,7 @@ pub mod Listing
 pub mod PartValues
 pub mod Rowed
 pub mod Truthful
+pub mod Bounded
 pub mod MeantIs
 pub mod Generated
 pub mod Effects
@@ -19,6 +20,8 @@ pub mod FittedRoutines
 pub mod Finding
 pub mod Grown
 pub mod Coded
+pub mod AllowedCode
+pub mod AllowedRoutines
 pub mod Fitted
 pub mod Whole
 pub mod Adding
@@ -33,3 +36,4 @@ pub mod Erased
 pub mod Seeing
 pub mod AddingRoutines
 pub mod Written
+pub mod BoundWhole

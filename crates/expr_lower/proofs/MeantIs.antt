@@ -1,22 +1,22 @@
 -- A type that is seen to be one of single values is that.
-use Rattle.std.proofs.Common.{◌≡◌, ℕ, pos, Bool, true, false, refl, ap, ◌∙◌, subst, List, [], ◌∷◌, ◌≤◌, length, Option, None, Some, arith}
+use Rattle.std.proofs.Common.{◌≡◌, ℕ, ℤ, pos, negsuc, Bool, true, false, refl, sym, ap, ◌∙◌, subst, List, [], ◌∷◌, ◌≤◌, length, Option, None, Some, arith}
 use Rattle.std.specs.Prelude.{if◌then◌else◌, codes, ◌&&◌, nat_le}
 use Rattle.std.specs.Str.{bytes_eq}
 use Rattle.std.proofs.lemmas.Bool.Decides.{nat_tests}
 use Rattle.rvc_base.specs.declared.scalar.Scalar.{Scalar}
 use Rattle.rvc_base.specs.declared.scalar.Scalar.TheVariants as scalar
-use Rattle.rvc_base.specs.declared.trap.Trap.TheVariants.{Overflow}
-use Rattle.rvc_base.specs.Arithmetic as arithmetic
 use Rattle.rvc_base.specs.Storing.{IsSize}
 use Rattle.rvc_base.specs.Turns.{max_turns}
-use Rattle.rvc_base.specs.Width.{is_num, max_size}
+use Rattle.rvc_base.specs.Width.{max_size}
 use Rattle.cal_ast.specs.Tree as tree
 use Rattle.cal_ast.specs.Tree.{Tree, listed}
-use Rattle.cal_model.specs.Value.{Shape, Single, Many}
+use Rattle.cal_model.specs.Value.{Shape, Single, Many, Value}
 use Rattle.cal_model.specs.Outcome.{Out, Gives, and_then, alone, needed}
 use Rattle.cal_model.specs.Env.{Env}
-use Rattle.cal_model.specs.Expression.{Calls, Given, args_given, bits, computed, size_of_value, type_meant, type_named}
-use Rattle.expr_lower.specs.Meant.{single_in, single_meant, size_of_arg, size_written}
+use Rattle.cal_model.specs.Expression.{Calls, Given, args_given, bits, size_of_value, type_meant, type_named}
+use Rattle.expr_lower.specs.Bounds.{bound_of}
+use Rattle.expr_lower.specs.Meant.{literal_size, single_in, single_meant, size_of, size_of_arg, size_written}
+use Rattle.expr_lower.proofs.Bounded.{bound_gives}
 
 abbrev given : Option ℕ → Given
 given size = record { items = None; size = size }
@@ -24,17 +24,26 @@ given size = record { items = None; size = size }
 none_some : (size : Option ℕ) → ◌≡◌ {A = Option (Option ℕ)} None (Some size) → ⊥
 none_some size e = cc
 
+-- a size that is written out is a number
+pub record IsSized (value : Tree) (size : Option ℕ) : Type 0 where
+  pub number : ℕ
+  pub is : size ≡ Some number
+  pub bound : bound_of value ≡ Some (pos number)
+
+pub sized_by : (value : Tree) (size : Option ℕ) → literal_size value ≡ Some size → IsSized value size
+sized_by value size e = go (bound_of value) refl e
+  where
+    go : (o : Option ℤ) → bound_of value ≡ o → size_of o ≡ Some size → IsSized value size
+    go None p h = cc
+    go (Some (pos n)) p h = let same : Some n ≡ size = cc in record { number = n; is = sym same; bound = p }
+    go (Some (negsuc n)) p h = cc
+
 -- what an argument gives
 pub arg_is : (arg : Tree) (size : Option ℕ) (calls : Calls) (env : Env) (left : ℕ) → size_of_arg arg ≡ Some size → args_given (tree.cons arg tree.nil) calls env left ≡ Gives (given size) left
-arg_is (tree.value_arg name (tree.number k at)) size calls env left e = go (is_num (pos k)) refl e
-  where
-    go : (b : Bool) → is_num (pos k) ≡ b → (if b then Some (Some k) else None) ≡ Some size
-        → and_then (alone (computed (if is_num (pos k) then arithmetic.Gives (pos k) else arithmetic.Traps Overflow) max_turns) left) (λ v m. Gives (given (size_of_value v)) m) ≡ Gives (given size) left
-    go true is h =
-        let same : Some k ≡ size = cc in
-        ap (λ b. and_then (alone (computed (if b then arithmetic.Gives (pos k) else arithmetic.Traps Overflow) max_turns) left) (λ v m. Gives (given (size_of_value v)) m)) is
-        ∙ ap (λ s. Gives (given s) left) same
-    go false is h = cc
+arg_is (tree.value_arg name value) size calls env left e =
+    let f : IsSized value size = sized_by value size e in
+    ap (λ (o : Out Value). and_then (alone o left) (λ v m. Gives (given (size_of_value v)) m)) (bound_gives value (pos f.number) calls env max_turns f.bound)
+    ∙ ap (λ s. Gives (given s) left) (sym f.is)
 arg_is other size calls env left e = absurd (none_some size e)
 
 -- what the arguments give

@@ -5,6 +5,7 @@ pub mod Held
 pub mod Placed
 pub mod Following
 pub mod Fitting
+pub mod Allowing
 pub mod Lowered
 pub mod Calling
 pub mod Single
@@ -19,6 +20,7 @@ pub mod Parted
 pub mod PartView
 pub mod Seen
 pub mod Meant
+pub mod Bounds
 pub mod Generators
 pub mod ItemsSeen
 pub mod Growing

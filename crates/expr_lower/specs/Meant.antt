@@ -1,24 +1,29 @@
 -- Types of single values as they are written.
 -- Trusted: part of what a promise means.
-use Rattle.std.specs.Prelude.{ℕ, pos, if◌then◌else◌, Option, None, Some}
+use Rattle.std.specs.Prelude.{ℕ, ℤ, pos, negsuc, Option, None, Some}
 use Rattle.rvc_base.specs.declared.scalar.Scalar.{Scalar}
-use Rattle.rvc_base.specs.Width.{is_num}
 use Rattle.cal_ast.specs.Tree as tree
 use Rattle.cal_ast.specs.Tree.{Tree}
 use Rattle.cal_model.specs.Value.{Shape}
 use Rattle.cal_model.specs.Expression.{Given, type_named}
+use Rattle.expr_lower.specs.Bounds.{bound_of}
 use Rattle.expr_lower.specs.Listed.{single_of}
 
--- the size that is written, if it is a literal
+-- the size that a number is, if it isn't below 0
+abbrev pub size_of : Option ℤ → Option (Option ℕ)
+size_of None = None
+size_of (Some (pos n)) = Some (Some n)
+size_of (Some (negsuc n)) = None
+
+-- the size that is written by literals and `-` alone
 abbrev pub literal_size : Tree → Option (Option ℕ)
-literal_size (tree.number k at) = if is_num (pos k) then Some (Some k) else None
-literal_size other = None
+literal_size e = size_of (bound_of e)
 
 abbrev pub size_of_arg : Tree → Option (Option ℕ)
 size_of_arg (tree.value_arg name value) = literal_size value
 size_of_arg other = None
 
--- the size of bits that is written: none, or a literal
+-- the size of bits that is written: none, or a number
 abbrev pub size_written : Tree → Option (Option ℕ)
 size_written tree.nil = Some None
 size_written (tree.cons arg tree.nil) = size_of_arg arg

@@ -5,21 +5,19 @@ use Rattle.std.specs.Str.{bytes_eq}
 use Rattle.std.proofs.lemmas.Bool.Decides.{nat_tests}
 use Rattle.std.proofs.lemmas.Slice.Eq.{bytes_eq-Decides}
 use Rattle.rvc_base.specs.declared.scalar.Scalar.{Scalar}
-use Rattle.rvc_base.specs.declared.trap.Trap.TheVariants.{Overflow}
-use Rattle.rvc_base.specs.Arithmetic as arithmetic
 use Rattle.rvc_base.specs.Turns.{max_turns}
-use Rattle.rvc_base.specs.Width.{is_num}
 use Rattle.cal_ast.specs.Tree as tree
 use Rattle.cal_ast.specs.Tree.{Tree, listed}
 use Rattle.cal_model.specs.Value.{Shape, Single, Many, Value, Num, IsType, max_list_scalars, scalars_of_type}
 use Rattle.cal_model.specs.Outcome.{Out, Gives, alone, and_then, needed}
 use Rattle.cal_model.specs.Env.{Env}
-use Rattle.cal_model.specs.Expression.{Calls, Given, args_given, computed, eval, size_of_value, type_meant, type_named}
+use Rattle.cal_model.specs.Expression.{Calls, Given, args_given, eval, size_of_value, type_meant, type_named}
 use Rattle.expr_lower.specs.Parted.{sized}
 use Rattle.expr_lower.proofs.PartValues.{sized_is}
 use Rattle.expr_lower.specs.Meant.{literal_size, single_meant, size_of_arg}
 use Rattle.list_lower.specs.ShapeMeant.{items_of_type, list_of_each, list_sized, many_meant, shape_meant}
-use Rattle.expr_lower.proofs.MeantIs.{arg_is, meant_is, meant_sized}
+use Rattle.expr_lower.proofs.Bounded.{bound_gives}
+use Rattle.expr_lower.proofs.MeantIs.{IsSized, arg_is, meant_is, meant_sized, sized_by}
 
 -- ---- lists that are allowed
 
@@ -74,19 +72,11 @@ many_found (Some (Some n)) (Some items) t e = record { n = n; items = items; cou
 list_named_so : (name : List ℕ) (n : ℕ) (items : Shape) → bytes_eq name (codes "List") ≡ true → type_named name (record { items = Some items; size = Some n }) ≡ Some (Many n items)
 list_named_so name n items e = subst (λ (text : List ℕ). type_named text (record { items = Some items; size = Some n }) ≡ Some (Many n items)) (sym ((bytes_eq-Decides name (codes "List")).0 e)) refl
 
-none_size : (n : ℕ) → ◌≡◌ {A = Option (Option ℕ)} None (Some (Some n)) → ⊥
-none_size n e = cc
-
 value_is : (value : Tree) (n : ℕ) (calls : Calls) (env : Env) (left : ℕ) → literal_size value ≡ Some (Some n) → alone (eval value calls env max_turns) left ≡ Gives (Num (pos n)) left
-value_is (tree.number k at) n calls env left e = go (is_num (pos k)) refl e
-  where
-    go : (b : Bool) → is_num (pos k) ≡ b → ◌≡◌ {A = Option (Option ℕ)} (if b then Some (Some k) else None) (Some (Some n))
-        → alone (computed (if is_num (pos k) then arithmetic.Gives (pos k) else arithmetic.Traps Overflow) max_turns) left ≡ Gives (Num (pos n)) left
-    go true is h =
-        let same : k ≡ n = cc in
-        ap (λ b. alone (computed (if b then arithmetic.Gives (pos k) else arithmetic.Traps Overflow) max_turns) left) is ∙ ap (λ j. Gives (Num (pos j)) left) same
-    go false is h = cc
-value_is other n calls env left e = absurd (none_size n e)
+value_is value n calls env left e =
+    let f : IsSized value (Some n) = sized_by value (Some n) e in
+    let same : n ≡ f.number = ap (λ (o : Option ℕ). elim o [ None ↦ 0 | Some k ↦ k ]) f.is in
+    ap (λ (o : Out Value). alone o left) (bound_gives value (pos f.number) calls env max_turns f.bound) ∙ ap (λ j. Gives (Num (pos j)) left) (sym same)
 
 none_found : (t : Shape) → ◌≡◌ {A = Option Shape} None (Some t) → ⊥
 none_found t e = cc

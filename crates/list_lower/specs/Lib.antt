@@ -10,3 +10,5 @@ pub mod FillWords
 pub mod ListStarting
 pub mod Telling
 pub mod StartWords
+pub mod Indexing
+pub mod FixedItems

@@ -1,16 +1,14 @@
 //! Generators of comprehensions as they are written.
 
-ghost use Rattle.std.specs.Prelude.{◌≡◌, map, option_map, pos};
+ghost use Rattle.std.specs.Prelude.{◌≡◌, map, option_map};
 ghost use Rattle.std.specs.Prelude.{None, Some};
-ghost use Rattle.rvc_base.specs.Arithmetic.{whole};
-ghost use Rattle.cal_ast.specs.View.{expr_tree, gen_tree};
+ghost use Rattle.cal_ast.specs.View.{gen_tree};
 ghost use Rattle.list_lower.specs.CounterView.{counter_view, gens_of};
-ghost use Rattle.expr_lower.specs.Generators.{bound_of, counted_by, difference_of, how_many};
-ghost use Rattle.expr_lower.specs.Generators.{made_by, makes_none, number_given, opposite_of, ranged_by, spanned};
+ghost use Rattle.expr_lower.specs.Generators.{counted_by, how_many, made_by, makes_none, ranged_by, spanned};
 
+use crate::bounds::bound_of;
 use crate::types::single_meant;
-use cal_ast::{BinOp, Expr, ExprForm, Gen, PrefixOp};
-use rvc_base::arithmetic::{neg, sub};
+use cal_ast::Gen;
 use rvc_base::{Num, Scalar};
 
 /// The variable of a generator, its type, and the numbers that it is: all from the first to the last.
@@ -70,52 +68,6 @@ pub(crate) fn made_by(gens: &[Gen]) -> Option<u32>
         return Some(0);
     }
     how_many(gens)
-}
-
-/// The number that a bound is, if it is written by literals and `-` alone.
-fn bound_of(e: &Expr) -> Option<Num>
-    ensures { result ≡ bound_of (expr_tree e.now) }
-{
-    match &e.form {
-        ExprForm::Number(value) => literal(*value),
-        ExprForm::Paren(inner) => bound_of(inner),
-        ExprForm::Prefix { op, of } => opposite(*op, bound_of(of)),
-        ExprForm::Binary { op, left, right } => difference(*op, bound_of(left), bound_of(right)),
-        _ => None,
-    }
-}
-
-/// The number that a literal is.
-fn literal(value: u128) -> Option<Num>
-    ensures { result ≡ number_given (whole (pos value)) }
-{
-    match Num::try_from(value) {
-        Ok(number) => Some(number),
-        Err(_) => None,
-    }
-}
-
-/// The number that a minus sign makes of another one.
-fn opposite(op: PrefixOp, number: Option<Num>) -> Option<Num>
-    ensures { result ≡ opposite_of op number }
-{
-    let number = number?;
-    if op != PrefixOp::Neg {
-        return None;
-    }
-    neg(number).ok()
-}
-
-/// The difference of two numbers.
-fn difference(op: BinOp, left: Option<Num>, right: Option<Num>) -> Option<Num>
-    ensures { result ≡ difference_of op left right }
-{
-    let left = left?;
-    let right = right?;
-    if op != BinOp::Sub {
-        return None;
-    }
-    sub(left, right).ok()
 }
 
 /// How many elements generators make, if 32 bits hold that and each of them counts.

@@ -5,9 +5,12 @@
 #![tactic(auto)]
 
 mod apart;
+mod bounds;
 mod counting;
 mod exprs;
+mod fixed;
 mod generators;
+mod indexes;
 pub mod laws;
 mod lists;
 mod meanings;
@@ -18,6 +21,7 @@ mod taking;
 mod truths;
 mod types;
 
+pub use bounds::bound_of;
 pub use exprs::{lower, lower_args, lower_calling, lower_expr, lower_test, offset};
 pub use lists::{fill, fill_all, lower_list};
 pub use meanings::shape_meant;

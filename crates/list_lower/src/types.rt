@@ -1,17 +1,17 @@
 //! Types of single values as they are written.
 
-ghost use Rattle.std.specs.Prelude.{◌≡◌, map, pos};
-ghost use Rattle.std.specs.Prelude.{None, Some, if◌then◌else◌};
-ghost use Rattle.rvc_base.specs.Width.{is_num};
+ghost use Rattle.std.specs.Prelude.{◌≡◌, map};
+ghost use Rattle.std.specs.Prelude.{None, Some};
 ghost use Rattle.cal_ast.specs.Tree.{listed};
 ghost use Rattle.cal_ast.specs.View.{expr_tree, type_arg_tree, type_tree};
 ghost use Rattle.cal_model.specs.Expression.{bits, type_named};
 ghost use Rattle.cal_model.specs.Value.{Single};
 ghost use Rattle.expr_lower.specs.Meant.{literal_size, only_size, single_in, single_meant};
-ghost use Rattle.expr_lower.specs.Meant.{size_of_arg, size_written};
+ghost use Rattle.expr_lower.specs.Meant.{size_of, size_of_arg, size_written};
 ghost use Rattle.rvc_base.specs.declared.scalar.Scalar.TheVariants as scalar;
 
-use cal_ast::{Expr, ExprForm, TypeArg, TypeExpr};
+use crate::bounds::bound_of;
+use cal_ast::{Expr, TypeArg, TypeExpr};
 use rvc_base::{DEFAULT_SIZE, MAX_SIZE, Num, Scalar};
 
 /// The type of single values that a type means whatever names mean, if it is seen to mean one.
@@ -22,7 +22,7 @@ pub fn single_meant(shape: &TypeExpr) -> Option<Scalar>
     scalar_named(shape.name.text.as_str(), size)
 }
 
-/// The size that is written: none, or a literal.
+/// The size that is written: none, or a number.
 fn size_written(args: &[TypeArg]) -> Option<Option<u128>>
     ensures { result ≡ size_written (listed (map type_arg_tree args.now)) }
 {
@@ -43,22 +43,19 @@ pub(crate) fn size_of_arg(arg: &TypeArg) -> Option<Option<u128>>
     }
 }
 
-/// The size that a literal is.
+/// The size that is written by literals and `-` alone.
 pub(crate) fn literal_size(e: &Expr) -> Option<Option<u128>>
     ensures { result ≡ literal_size (expr_tree e.now) }
 {
-    match &e.form {
-        ExprForm::Number(value) => number_size(*value),
-        _ => None,
-    }
+    size_of(bound_of(e))
 }
 
-/// The size that is a number, if it is none that is too great for one.
-fn number_size(value: u128) -> Option<Option<u128>>
-    ensures { result ≡ (if is_num (pos value) then Some (Some value) else None) }
+/// The size that a number is, if it isn't below 0.
+fn size_of(number: Option<Num>) -> Option<Option<u128>>
+    ensures { result ≡ size_of number }
 {
-    match Num::try_from(value) {
-        Ok(_) => Some(Some(value)),
+    match u128::try_from(number?) {
+        Ok(size) => Some(Some(size)),
         Err(_) => None,
     }
 }

@@ -14,6 +14,7 @@ mod growing;
 mod growth;
 mod head;
 mod holding;
+mod last_firing;
 mod laws;
 mod reading;
 mod replayed;
