@@ -18,7 +18,7 @@ use Rattle.net_model.specs.Trace.{FitFlows, PlaysFrom, TrapFits, counted_flows, 
 use Rattle.net_model.specs.Paced.{HasRoomIn, PassesLink, PassesOn, PassesRoom}
 use Rattle.net_model.specs.Alike.{Allowed, AreAlike, EffectsAlike, LeavesAlike, StatesAlike}
 use Rattle.net_model.proofs.Twins.{StepToo, TwinNets, Twins, each_same, twin, twin_effect, twin_give, twin_net}
-use Rattle.net_model.proofs.LikeLines.{between_back, goes_too, grows_too, line_too, plays_too, quiet_back, stalled_back, stuck_back}
+use Rattle.net_model.proofs.LikeLines.{between_back, goes_too, line_too, plays_too, quiet_back, stalled_back, stuck_back}
 use Rattle.network_cells.proofs.Lawlike.{carried, keep_alike, nets, texts_alike, twins_of}
 use Rattle.alike_traces.specs.Traces.{trial}
 use Rattle.trace_replay.specs.Judging.{AreOfTable, AtEnd, AtEvents, AtFirst, AtInstance, EventFails, FiringFails, IsNotRun, IsOver, IsTrace, LacksRoomIn, Lead, LeadsOn, LineFails, MayCome, Reached, RestFails, BeginsNone, IsOfNoTable, MayNotCome, IsBehindEnd, IsCutOff, GoesPast, EndsPast, TrapComes, Trial, after_line, due, first_line, instance_text, is_end}
