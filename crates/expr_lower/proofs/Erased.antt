@@ -152,10 +152,6 @@ under_erased names gens f h = h names
 under_made_erased : (names : List Name) (gens : Tree) (f : List Name → Bool) → ((inner : List Name) → f (map erase inner) ≡ f inner) → under_made (map erase names) gens f ≡ under_made names gens f
 under_made_erased names gens f h = ap (λ b. makes_none gens || b) (under_erased names gens f h)
 
-inside_erased : (o : Option ℕ) (f g : ℕ → Bool) → ((k : ℕ) → f k ≡ g k) → ◌≡◌ {A = Bool} (elim o [ None ↦ false | Some k ↦ f k ]) (elim o [ None ↦ false | Some k ↦ g k ])
-inside_erased None f g h = refl
-inside_erased (Some k) f g h = h k
-
 mutual
   pub gives_erased : (s : Sort) (d : ℕ) (fs : List Function) (names : List Name) (e : Tree) → gives_at s d fs (map erase names) e ≡ gives_at s d fs names e
   gives_erased s d fs names (tree.number k at) = refl
@@ -171,7 +167,7 @@ mutual
   gives_erased s d fs names (tree.comp item gens at) =
       with_one_same d (λ k. under_made (map erase names) gens (λ inner. gives_at s k fs inner item)) (λ k. under_made names gens (λ inner. gives_at s k fs inner item))
       (λ k. under_made_erased names gens (λ inner. gives_at s k fs inner item) (λ inner. gives_erased s k fs inner item))
-  gives_erased s d fs names (tree.index base place at) = inside_erased (few (d + 1)) (λ k. gives_at s k fs (map erase names) base) (λ k. gives_at s k fs names base) (λ k. gives_erased s k fs names base)
+  gives_erased s d fs names (tree.index base place at) = gives_erased s (suc d) fs names base
   gives_erased s d fs names other = refl
 
   all_erased : (s : Sort) (d : ℕ) (fs : List Function) (names : List Name) (es : Tree) → all_give s d fs (map erase names) es ≡ all_give s d fs names es
@@ -265,13 +261,6 @@ listed_same d n f g h = ap (λ o. if nat_eq d 0 then few n else o) (h (d - 1))
 made_same : (d : ℕ) (o : Option ℕ) (f g : ℕ → Option ℕ) → ((k : ℕ) → f k ≡ g k) → items_made d o f ≡ items_made d o g
 made_same d o f g h = ap (λ x. if nat_eq d 0 then o else x) (h (d - 1))
 
-abbrev deeper : Option ℕ → (ℕ → Option ℕ) → Option ℕ
-deeper o f = elim o [ None ↦ None | Some k ↦ f k ]
-
-deeper_same : (o : Option ℕ) (f g : ℕ → Option ℕ) → ((k : ℕ) → f k ≡ g k) → deeper o f ≡ deeper o g
-deeper_same None f g h = refl
-deeper_same (Some k) f g h = h k
-
 mutual
   items_erased_seen : (names : List Name) (e : Tree) (d : ℕ) → items_seen (map erase names) e d ≡ items_seen names e d
   items_erased_seen names (tree.variable text at) d = ap (seen_in d) (part_erased names (tree.variable text at)) ∙ go (part_named names (tree.variable text at))
@@ -283,7 +272,7 @@ mutual
   items_erased_seen names (tree.if_expr test first other at) d = items_erased_seen names first d
   items_erased_seen names (tree.list es at) d = listed_same d (number_of es) (λ k. first_seen (map erase names) es k) (λ k. first_seen names es k) (λ k. first_erased_seen names es k)
   items_erased_seen names (tree.comp item gens at) d = made_same d (made_by gens) (λ k. items_seen (map erase names) item k) (λ k. items_seen names item k) (λ k. items_erased_seen names item k)
-  items_erased_seen names (tree.index base place at) d = deeper_same (few (d + 1)) (λ k. items_seen (map erase names) base k) (λ k. items_seen names base k) (λ k. items_erased_seen names base k)
+  items_erased_seen names (tree.index base place at) d = items_erased_seen names base (suc d)
   items_erased_seen names rest d = refl
 
   first_erased_seen : (names : List Name) (es : Tree) (d : ℕ) → first_seen (map erase names) es d ≡ first_seen names es d

@@ -21,7 +21,6 @@ use Rattle.expr_lower.specs.Callees.{Function, function_for, function_named}
 use Rattle.expr_lower.specs.Following.{Follows}
 use Rattle.expr_lower.specs.Generators.{Counted, counted_by, makes_none}
 use Rattle.expr_lower.specs.Held.{Holds, HoldsName}
-use Rattle.expr_lower.specs.ItemsSeen.{few}
 use Rattle.expr_lower.specs.Names.{Name, local, named}
 use Rattle.expr_lower.specs.Parted.{number_of}
 use Rattle.expr_lower.specs.Truths.{all_give, binary_gives, call_gives, gives_at, is_any, is_of_sort, is_truth_binary, name_gives, prefix_gives, shape_gives, under_gens, under_made, with_none, with_one}
@@ -97,13 +96,6 @@ one_put d item h = go (nat_eq d 0) refl h
     go : (t : Bool) → nat_eq d 0 ≡ t → (if t then false else item (d - 1)) ≡ true → OnePut d item
     go true e g = cc
     go false e g = let some : 0 < d = grind (arith, nat_tests, e) in record { deeper = d - 1; is = omega (arith, some); gives = g }
-
-few_is : (n k : ℕ) → few n ≡ Some k → n ≡ k
-few_is n k e = go (nat_lt n (2 ^ 32)) e
-  where
-    go : (b : Bool) → ◌≡◌ {A = Option ℕ} (if b then Some n else None) (Some k) → n ≡ k
-    go true h = cc
-    go false h = cc
 
 -- ---- types
 
@@ -254,14 +246,10 @@ name_sort s d names env text left (Some x) e h known_names =
 
 -- ---- indexes
 
-index_sort : (s : Sort) (d : ℕ) (base_gives : ℕ → Bool) (base : Out Value) (place : ℕ → Out Value) (o : Option ℕ) → few (d + 1) ≡ o → ◌≡◌ {A = Bool} (elim o [ None ↦ false | Some k ↦ base_gives k ]) true
-    → ((k : ℕ) → base_gives k ≡ true → Only s k base) → Only s d (and_then base (λ v m. and_then (place m) (λ i j. indexed v i j)))
-index_sort s d base_gives base place None e g h = cc
-index_sort s d base_gives base place (Some k) e g h =
-    let same = few_is (d + 1) k e in
-    let deeper : k ≡ suc d = omega (arith, same) in
+index_sort : (s : Sort) (d : ℕ) (base : Out Value) (place : ℕ → Out Value) → Only s (suc d) base → Only s d (and_then base (λ v m. and_then (place m) (λ i j. indexed v i j)))
+index_sort s d base place h =
     follows_then base (λ v m. and_then (place m) (λ i j. indexed v i j)) (λ v m. AllAt s (suc d) v) (λ c. Unit {0}) (λ v m. AllAt s d v) (λ c. Unit {0})
-    (subst (λ j. Only s j base) deeper (h k g))
+    h
     (λ v m q. after_each (place m) (λ i j. indexed v i j) (λ u j. AllAt s d u) (λ i j. indexed_sort s d v i j q)) (λ c t. tt)
 
 -- ---- expressions
@@ -358,7 +346,7 @@ module _ (calls : Calls) (fs : List Function) where
         (follows_then (elements gens (λ inner k. eval item calls inner k) calls env left) (λ vs m. Gives (Items vs) m) (λ vs m. Each (λ v. AllAt s p.deeper v) vs) (λ c. Unit {0}) (λ v m. AllAt s (suc p.deeper) v) (λ c. Unit {0})
         (made_sort s p.deeper gens (λ inner. gives_at s p.deeper fs inner item) (λ inner k. eval item calls inner k) (λ inner now m g known_more more. gives s p.deeper item inner now m g known_more more) names env left p.gives known_names kinds) (λ vs m q. q) (λ c t. tt))
     gives s d (tree.index base place at) names env left h known_names kinds =
-        index_sort s d (λ k. gives_at s k fs names base) (eval base calls env left) (λ m. eval place calls env m) (few (d + 1)) refl h (λ k g. gives s k base names env left g known_names kinds)
+        index_sort s d (eval base calls env left) (λ m. eval place calls env m) (gives s (suc d) base names env left h known_names kinds)
     gives s d other names env left h known_names kinds = cc
 
     give : (s : Sort) (d : ℕ) (es : Tree) (names : List Name) (env : Env) (left : ℕ) → all_give s d fs names es ≡ true → Knows names env → KindsIn calls env.globals fs

@@ -1,6 +1,6 @@
 -- How many items lists are seen to have.
 -- Trusted: part of what a promise means.
-use Rattle.std.specs.Prelude.{ℕ, ◌+◌, ◌-◌, ◌^◌, nat_eq, nat_lt, if◌then◌else◌, List, Option, None, Some}
+use Rattle.std.specs.Prelude.{ℕ, suc, ◌-◌, ◌^◌, nat_eq, nat_lt, if◌then◌else◌, List, Option, None, Some}
 use Rattle.cal_ast.specs.Tree as tree
 use Rattle.cal_ast.specs.Tree.{Tree}
 use Rattle.cal_model.specs.Value.{Shape, Single, Many}
@@ -37,8 +37,7 @@ abbrev mutual
       items_listed d (number_of es) (λ k. first_seen names es k)
   items_seen names (tree.comp item gens at) d =
       items_made d (made_by gens) (λ k. items_seen names item k)
-  items_seen names (tree.index base place at) d =
-      elim (few (d + 1)) [ None ↦ None | Some k ↦ items_seen names base k ]
+  items_seen names (tree.index base place at) d = items_seen names base (suc d)
   items_seen names other d = None
 
   -- .. that the first of expressions gives

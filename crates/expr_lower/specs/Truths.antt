@@ -1,6 +1,6 @@
 -- Expressions that are seen to give truth values.
 -- Trusted: part of what a promise means.
-use Rattle.std.specs.Prelude.{ℕ, ◌+◌, ◌-◌, nat_eq, if◌then◌else◌, List, ◌∷◌, Bool, true, false, ◌&&◌, ◌||◌, Option, None, Some}
+use Rattle.std.specs.Prelude.{ℕ, suc, ◌-◌, nat_eq, if◌then◌else◌, List, ◌∷◌, Bool, true, false, ◌&&◌, ◌||◌, Option, None, Some}
 use Rattle.rvc_base.specs.declared.scalar.Scalar.{Scalar}
 use Rattle.rvc_base.specs.declared.scalar.Scalar.TheVariants as scalar
 use Rattle.cal_ast.specs.declared.expr.PrefixOp.{PrefixOp}
@@ -14,7 +14,6 @@ use Rattle.expr_lower.specs.declared.sorts.Sort.{Sort}
 use Rattle.expr_lower.specs.declared.sorts.Sort.TheVariants as sort
 use Rattle.expr_lower.specs.Callees.{Function, function_for}
 use Rattle.expr_lower.specs.Generators.{counted_by, makes_none}
-use Rattle.expr_lower.specs.ItemsSeen.{few}
 use Rattle.expr_lower.specs.Names.{Name, local, shape_named}
 use Rattle.expr_lower.specs.Parted.{number_of}
 
@@ -110,8 +109,7 @@ abbrev mutual
   gives_at s d fs names (tree.list es at) = with_one d (λ k. all_give s k fs names es)
   gives_at s d fs names (tree.comp item gens at) =
       with_one d (λ k. under_made names gens (λ inner. gives_at s k fs inner item))
-  gives_at s d fs names (tree.index base place at) =
-      elim (few (d + 1)) [ None ↦ false | Some k ↦ gives_at s k fs names base ]
+  gives_at s d fs names (tree.index base place at) = gives_at s (suc d) fs names base
   gives_at s d fs names other = false
 
   -- .. and so each of these

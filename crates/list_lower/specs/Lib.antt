@@ -10,3 +10,4 @@ pub mod FillWords
 pub mod ListStarting
 pub mod Telling
 pub mod StartWords
+pub mod Indexing

@@ -11,8 +11,10 @@ ghost use Rattle.expr_lower.specs.ItemsSeen.{few, first_seen, items_at, items_se
 ghost use Rattle.expr_lower.specs.PartView.{places_of};
 ghost use Rattle.expr_lower.specs.Seen.{seen};
 ghost use Rattle.list_lower.specs.FillWords.{comp_of, list_of};
+ghost use Rattle.list_lower.specs.Indexing.{number_of};
 
 use crate::generators::made_by;
+use crate::indexes::Indexes;
 use cal_ast::{Expr, ExprForm, Gen};
 use cal_model::Shape;
 use expr_lower::{LowerFault, Scope, whole_called};
@@ -66,8 +68,8 @@ pub(crate) fn one_type() -> Shape
 
 /// How many items the list has that an expression gives, once so many indexes are put on it, if that is seen.
 #[cycle(items_seen)]
-pub(crate) fn items_seen(scope: &Scope, e: &Expr, depth: u32) -> Option<u32>
-    ensures { result ≡ items_seen (seen scope.now) (expr_tree e.now) depth }
+pub(crate) fn items_seen(scope: &Scope, e: &Expr, depth: &Indexes) -> Option<u32>
+    ensures { result ≡ items_seen (seen scope.now) (expr_tree e.now) (number_of depth.now) }
 {
     match &e.form {
         ExprForm::Number(_) => None,
@@ -93,38 +95,34 @@ pub(crate) fn items_seen(scope: &Scope, e: &Expr, depth: u32) -> Option<u32>
 }
 
 /// How many items a list has that is named.
-fn items_named(scope: &Scope, text: &str, depth: u32) -> Option<u32>
-    ensures { result ≡ items_seen (seen scope.now) (tree.variable text.now 0) depth }
+fn items_named(scope: &Scope, text: &str, depth: &Indexes) -> Option<u32>
+    ensures { result ≡ items_seen (seen scope.now) (tree.variable text.now 0) (number_of depth.now) }
 {
     let part = whole_called(scope, text)?;
     items_at(part.shape, depth)
 }
 
 /// How many items a type has, once so many indexes are put on it.
-fn items_at(shape: &Shape, depth: u32) -> Option<u32>
-    ensures { result ≡ items_at depth (shape_view shape.now) }
+fn items_at(shape: &Shape, depth: &Indexes) -> Option<u32>
+    ensures { result ≡ items_at (number_of depth.now) (shape_view shape.now) }
 {
     match shape {
         Shape::Scalar(_) => None,
-        Shape::List(count, items) => {
-            if depth == 0 {
-                Some(*count)
-            } else {
-                items_at(items, depth - 1)
-            }
-        }
+        Shape::List(count, items) => match depth {
+            Indexes::None => Some(*count),
+            Indexes::OneMore(less) => items_at(items, *less),
+        },
     }
 }
 
 /// How many items a list has that is written out, or its first item.
 #[cycle(items_seen)]
-fn items_listed(scope: &Scope, items: &[Expr], depth: u32) -> Option<u32>
-    ensures { result ≡ items_seen (seen scope.now) (list_of items.now 0) depth }
+fn items_listed(scope: &Scope, items: &[Expr], depth: &Indexes) -> Option<u32>
+    ensures { result ≡ items_seen (seen scope.now) (list_of items.now 0) (number_of depth.now) }
 {
-    if depth == 0 {
-        few(items.len())
-    } else {
-        first_seen(scope, items, depth - 1)
+    match depth {
+        Indexes::None => few(items.len()),
+        Indexes::OneMore(less) => first_seen(scope, items, *less),
     }
 }
 
@@ -140,8 +138,8 @@ fn few(count: usize) -> Option<u32>
 
 /// How many items the first of some lists has.
 #[cycle(items_seen)]
-fn first_seen(scope: &Scope, items: &[Expr], depth: u32) -> Option<u32>
-    ensures { result ≡ first_seen (seen scope.now) (places_of items.now) depth }
+fn first_seen(scope: &Scope, items: &[Expr], depth: &Indexes) -> Option<u32>
+    ensures { result ≡ first_seen (seen scope.now) (places_of items.now) (number_of depth.now) }
 {
     let (first, _) = items.split_first()?;
     items_seen(scope, first, depth)
@@ -149,22 +147,21 @@ fn first_seen(scope: &Scope, items: &[Expr], depth: u32) -> Option<u32>
 
 /// How many items a list has that generators make, or its elements.
 #[cycle(items_seen)]
-fn items_made(scope: &Scope, item: &Expr, gens: &[Gen], depth: u32) -> Option<u32>
-    ensures { result ≡ items_seen (seen scope.now) (comp_of item.now gens.now 0) depth }
+fn items_made(scope: &Scope, item: &Expr, gens: &[Gen], depth: &Indexes) -> Option<u32>
+    ensures { result ≡ items_seen (seen scope.now) (comp_of item.now gens.now 0) (number_of depth.now) }
 {
-    if depth == 0 {
-        made_by(gens)
-    } else {
-        items_seen(scope, item, depth - 1)
+    match depth {
+        Indexes::None => made_by(gens),
+        Indexes::OneMore(less) => items_seen(scope, item, *less),
     }
 }
 
 /// How many items an item of a list has.
 #[cycle(items_seen)]
-fn items_inside(scope: &Scope, base: &Expr, depth: u32) -> Option<u32>
+fn items_inside<'d>(scope: &Scope, base: &Expr, depth: &'d Indexes<'d>) -> Option<u32>
     ensures { result ≡ items_seen (seen scope.now)
-        (tree.index (expr_tree base.now) tree.nil 0) depth }
+        (tree.index (expr_tree base.now) tree.nil 0) (number_of depth.entry.now) }
 {
-    let more = depth.checked_add(1)?;
-    items_seen(scope, base, more)
+    let more = Indexes::OneMore(depth);
+    items_seen(scope, base, &more)
 }

@@ -15,6 +15,7 @@ ghost use Rattle.expr_lower.specs.Words.{AddsLowered, AddsLoweredWith, IsFaultOf
 ghost use Rattle.expr_lower.specs.Words.{and_of, binary_of, call_of, if_of, index_of, or_of};
 
 use crate::apart::{items_seen, list_type, one_type};
+use crate::indexes::Indexes;
 use crate::lists::fill;
 use crate::taking::{one_at_least, take_row};
 use crate::truths::is_truth;
@@ -119,7 +120,7 @@ fn apart_item(
     ensures whole { OnOk result (IsAll scope.now (index_of base.now place.now at)) }
     ensures fault { IfErr result (IsWhy scope.now (index_of base.now place.now at) draft.new) }
 {
-    let Some(count) = items_seen(scope, base, 0) else {
+    let Some(count) = items_seen(scope, base, &Indexes::None) else {
         return Err(LowerFault::NotLowered { at });
     };
     let list = list_type(*draft.instrs.allocator(), count, one_type())?;

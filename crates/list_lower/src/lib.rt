@@ -9,6 +9,7 @@ mod bounds;
 mod counting;
 mod exprs;
 mod generators;
+mod indexes;
 pub mod laws;
 mod lists;
 mod meanings;

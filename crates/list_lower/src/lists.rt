@@ -30,6 +30,7 @@ use crate::apart::{items_seen, list_like};
 use crate::counting::{put_first, put_more, put_next};
 use crate::exprs::{lower, lower_test, offset};
 use crate::generators::{Counter, counted_by, how_many, makes_none};
+use crate::indexes::Indexes;
 use crate::sizes::{alike, has_no_items};
 use crate::taking::{fitting, take_counters, take_row};
 use cal_ast::{Expr, ExprForm, Gen};
@@ -261,7 +262,7 @@ fn apart_list(
     ensures fault { IfErr result (IsFault
         (left_out_item_apart (called scope.now) (seen scope.now) (shape_view shape.now) (expr_tree base.now) (expr_tree place.now) at) draft.new) }
 {
-    let Some(count) = items_seen(scope, base, 0) else {
+    let Some(count) = items_seen(scope, base, &Indexes::None) else {
         return Err(LowerFault::NotLowered { at });
     };
     let list = list_like(*draft.instrs.allocator(), count, shape)?;

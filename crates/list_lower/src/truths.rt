@@ -14,9 +14,11 @@ ghost use Rattle.expr_lower.specs.Truths.{name_gives, shape_gives};
 ghost use Rattle.expr_lower.specs.Words.{binary_of, call_of};
 ghost use Rattle.list_lower.specs.CounterView.{counter_view, gens_of};
 ghost use Rattle.list_lower.specs.FillWords.{comp_of, list_of};
+ghost use Rattle.list_lower.specs.Indexing.{number_of};
 ghost use Rattle.list_lower.specs.Telling.{both_single, behind_counter, of_elements};
 
 use crate::generators::{Counter, counted_by, makes_none};
+use crate::indexes::{Indexes, is_none};
 use cal_ast::{BinOp, Expr, ExprForm, Gen, PrefixOp};
 use cal_model::Shape;
 use expr_lower::{Frame, Scope, Sort, function_for, shape_called};
@@ -26,17 +28,17 @@ use rvc_base::Scalar;
 pub(crate) fn is_truth(scope: &Scope, e: &Expr) -> bool
     ensures { result ≡ is_truth (called scope.now) (seen scope.now) (expr_tree e.now) }
 {
-    gives(scope, e, 0, Sort::Truths)
+    gives(scope, e, &Indexes::None, Sort::Truths)
 }
 
 /// Whether what an expression gives is seen to be of a sort, once so many indexes are put on it.
 #[cycle(gives)]
-fn gives(scope: &Scope, e: &Expr, depth: u32, sort: Sort) -> bool
-    ensures { result ≡ gives_at sort depth (called scope.now) (seen scope.now) (expr_tree e.now) }
+fn gives(scope: &Scope, e: &Expr, depth: &Indexes, sort: Sort) -> bool
+    ensures { result ≡ gives_at sort (number_of depth.now) (called scope.now) (seen scope.now) (expr_tree e.now) }
 {
     match &e.form {
-        ExprForm::Number(_) => depth == 0 && sort == Sort::Any,
-        ExprForm::Bool(_) => depth == 0,
+        ExprForm::Number(_) => is_none(depth) && sort == Sort::Any,
+        ExprForm::Bool(_) => is_none(depth),
         ExprForm::Name(text) => name_gives(scope, text.as_str(), depth, sort),
         ExprForm::Paren(inner) => gives(scope, inner, depth, sort),
         ExprForm::If { test: _, yes, no } => {
@@ -55,8 +57,8 @@ fn gives(scope: &Scope, e: &Expr, depth: u32, sort: Sort) -> bool
 
 /// Whether each of some expressions is seen to give such values.
 #[cycle(gives)]
-fn all_give(scope: &Scope, items: &[Expr], depth: u32, sort: Sort) -> bool
-    ensures { result ≡ all_give sort depth (called scope.now) (seen scope.now) (places_of items.now) }
+fn all_give(scope: &Scope, items: &[Expr], depth: &Indexes, sort: Sort) -> bool
+    ensures { result ≡ all_give sort (number_of depth.now) (called scope.now) (seen scope.now) (places_of items.now) }
 {
     let Some((first, rest)) = items.split_first() else {
         return true;
@@ -65,8 +67,8 @@ fn all_give(scope: &Scope, items: &[Expr], depth: u32, sort: Sort) -> bool
 }
 
 /// Whether a name is that of such values.
-fn name_gives(scope: &Scope, text: &str, depth: u32, sort: Sort) -> bool
-    ensures { result ≡ name_gives sort depth (shape_named (seen scope.now) text.now) }
+fn name_gives(scope: &Scope, text: &str, depth: &Indexes, sort: Sort) -> bool
+    ensures { result ≡ name_gives sort (number_of depth.now) (shape_named (seen scope.now) text.now) }
 {
     match shape_called(scope, text) {
         Some(shape) => shape_gives(shape, depth, sort),
@@ -75,18 +77,15 @@ fn name_gives(scope: &Scope, text: &str, depth: u32, sort: Sort) -> bool
 }
 
 /// Whether so many indexes choose values of a sort of a type.
-fn shape_gives(shape: &Shape, depth: u32, sort: Sort) -> bool
-    ensures { result ≡ shape_gives sort depth (shape_view shape.now) }
+fn shape_gives(shape: &Shape, depth: &Indexes, sort: Sort) -> bool
+    ensures { result ≡ shape_gives sort (number_of depth.now) (shape_view shape.now) }
 {
     match shape {
-        Shape::Scalar(kind) => depth == 0 && is_of_sort(*kind, sort),
-        Shape::List(_, items) => {
-            if depth == 0 {
-                false
-            } else {
-                shape_gives(items, depth - 1, sort)
-            }
-        }
+        Shape::Scalar(kind) => is_none(depth) && is_of_sort(*kind, sort),
+        Shape::List(_, items) => match depth {
+            Indexes::None => false,
+            Indexes::OneMore(less) => shape_gives(items, *less, sort),
+        },
     }
 }
 
@@ -102,23 +101,23 @@ fn is_of_sort(kind: Scalar, sort: Sort) -> bool
 
 /// Whether an operator before an operand gives such values.
 #[cycle(gives)]
-fn prefix_gives(scope: &Scope, op: PrefixOp, of: &Expr, depth: u32, sort: Sort) -> bool
-    ensures { result ≡ gives_at sort depth (called scope.now) (seen scope.now)
+fn prefix_gives(scope: &Scope, op: PrefixOp, of: &Expr, depth: &Indexes, sort: Sort) -> bool
+    ensures { result ≡ gives_at sort (number_of depth.now) (called scope.now) (seen scope.now)
         (tree.prefix op (expr_tree of.now) 0) }
 {
     match sort {
-        Sort::Any => depth == 0 && gives(scope, of, 0, Sort::Any),
-        Sort::Truths => depth == 0 && op == PrefixOp::Not,
+        Sort::Any => is_none(depth) && gives(scope, of, &Indexes::None, Sort::Any),
+        Sort::Truths => is_none(depth) && op == PrefixOp::Not,
     }
 }
 
 /// Whether an operator between two operands gives such values.
 #[cycle(gives)]
-fn binary_gives(scope: &Scope, op: BinOp, left: &Expr, right: &Expr, depth: u32, sort: Sort) -> bool
-    ensures { result ≡ gives_at sort depth (called scope.now) (seen scope.now)
+fn binary_gives(scope: &Scope, op: BinOp, left: &Expr, right: &Expr, depth: &Indexes, sort: Sort) -> bool
+    ensures { result ≡ gives_at sort (number_of depth.now) (called scope.now) (seen scope.now)
         (binary_of op left.now right.now 0) }
 {
-    if depth != 0 {
+    if !is_none(depth) {
         return false;
     }
     match sort {
@@ -133,7 +132,8 @@ fn both_give(scope: &Scope, left: &Expr, right: &Expr) -> bool
     ensures { result ≡ both_single (called scope.now) (seen scope.now)
         (expr_tree left.now) (expr_tree right.now) }
 {
-    gives(scope, left, 0, Sort::Any) && gives(scope, right, 0, Sort::Any)
+    gives(scope, left, &Indexes::None, Sort::Any)
+        && gives(scope, right, &Indexes::None, Sort::Any)
 }
 
 /// Whether an operator gives truth values.
@@ -155,48 +155,46 @@ fn is_truth_binary(op: BinOp) -> bool
 
 /// Whether a call gives such values: its function is one of a type of them, and its arguments are single values.
 #[cycle(gives)]
-fn call_gives(scope: &Scope, name: &str, args: &[Expr], depth: u32, sort: Sort) -> bool
-    ensures { result ≡ gives_at sort depth (called scope.now) (seen scope.now)
+fn call_gives(scope: &Scope, name: &str, args: &[Expr], depth: &Indexes, sort: Sort) -> bool
+    ensures { result ≡ gives_at sort (number_of depth.now) (called scope.now) (seen scope.now)
         (call_of name.now args.now 0) }
 {
-    if depth != 0 {
+    if !is_none(depth) {
         return false;
     }
     let Some(callee) = function_for(scope.callees, name, args) else {
         return false;
     };
-    is_of_sort(callee.result, sort) && all_give(scope, args, 0, Sort::Any)
+    is_of_sort(callee.result, sort) && all_give(scope, args, &Indexes::None, Sort::Any)
 }
 
 /// Whether each item of a list that is written out gives such values, with one index less put on it.
 #[cycle(gives)]
-fn list_gives(scope: &Scope, items: &[Expr], depth: u32, sort: Sort) -> bool
-    ensures { result ≡ gives_at sort depth (called scope.now) (seen scope.now) (list_of items.now 0) }
+fn list_gives(scope: &Scope, items: &[Expr], depth: &Indexes, sort: Sort) -> bool
+    ensures { result ≡ gives_at sort (number_of depth.now) (called scope.now) (seen scope.now) (list_of items.now 0) }
 {
-    if depth == 0 {
-        false
-    } else {
-        all_give(scope, items, depth - 1, sort)
+    match depth {
+        Indexes::None => false,
+        Indexes::OneMore(less) => all_give(scope, items, *less, sort),
     }
 }
 
 /// Whether the elements that generators make are such values, with one index less put on them.
 #[cycle(gives)]
-fn comp_gives(scope: &Scope, item: &Expr, gens: &[Gen], depth: u32, sort: Sort) -> bool
-    ensures { result ≡ gives_at sort depth (called scope.now) (seen scope.now)
+fn comp_gives(scope: &Scope, item: &Expr, gens: &[Gen], depth: &Indexes, sort: Sort) -> bool
+    ensures { result ≡ gives_at sort (number_of depth.now) (called scope.now) (seen scope.now)
         (comp_of item.now gens.now 0) }
 {
-    if depth == 0 {
-        false
-    } else {
-        makes_none(gens) || under_gens(scope, item, gens, depth - 1, sort)
+    match depth {
+        Indexes::None => false,
+        Indexes::OneMore(less) => makes_none(gens) || under_gens(scope, item, gens, *less, sort),
     }
 }
 
 /// Whether an element is such a value, which sees the variables of generators.
 #[cycle(gives)]
-fn under_gens(scope: &Scope, item: &Expr, gens: &[Gen], depth: u32, sort: Sort) -> bool
-    ensures { result ≡ of_elements sort depth (called scope.now) (seen scope.now)
+fn under_gens(scope: &Scope, item: &Expr, gens: &[Gen], depth: &Indexes, sort: Sort) -> bool
+    ensures { result ≡ of_elements sort (number_of depth.now) (called scope.now) (seen scope.now)
         (gens_of gens.now) (expr_tree item.now) }
 {
     match gens.split_first() {
@@ -207,8 +205,8 @@ fn under_gens(scope: &Scope, item: &Expr, gens: &[Gen], depth: u32, sort: Sort) 
 
 /// .. and first that of this one, if it counts.
 #[cycle(gives)]
-fn under_gen(scope: &Scope, item: &Expr, first: &Gen, rest: &[Gen], depth: u32, sort: Sort) -> bool
-    ensures { result ≡ of_elements sort depth (called scope.now) (seen scope.now)
+fn under_gen(scope: &Scope, item: &Expr, first: &Gen, rest: &[Gen], depth: &Indexes, sort: Sort) -> bool
+    ensures { result ≡ of_elements sort (number_of depth.now) (called scope.now) (seen scope.now)
         (gens_of (first.now ∷ rest.now)) (expr_tree item.now) }
 {
     match counted_by(first) {
@@ -224,10 +222,10 @@ fn under_counter(
     item: &Expr,
     x: Counter,
     rest: &[Gen],
-    depth: u32,
+    depth: &Indexes,
     sort: Sort,
 ) -> bool
-    ensures { result ≡ behind_counter sort depth (called scope.now) (seen scope.now)
+    ensures { result ≡ behind_counter sort (number_of depth.now) (called scope.now) (seen scope.now)
         (counter_view x.entry) (gens_of rest.now) (expr_tree item.now) }
 {
     let shape = Shape::Scalar(x.kind);
@@ -243,12 +241,10 @@ fn under_counter(
 
 /// Whether the items of a list are such values, with one index more put on the list.
 #[cycle(gives)]
-fn item_gives(scope: &Scope, base: &Expr, depth: u32, sort: Sort) -> bool
-    ensures { result ≡ gives_at sort depth (called scope.now) (seen scope.now)
+fn item_gives<'d>(scope: &Scope, base: &Expr, depth: &'d Indexes<'d>, sort: Sort) -> bool
+    ensures { result ≡ gives_at sort (number_of depth.entry.now) (called scope.now) (seen scope.now)
         (tree.index (expr_tree base.now) tree.nil 0) }
 {
-    let Some(more) = depth.checked_add(1) else {
-        return false;
-    };
-    gives(scope, base, more, sort)
+    let more = Indexes::OneMore(depth);
+    gives(scope, base, &more, sort)
 }
