@@ -215,6 +215,31 @@ turns-added fs names es times shape kind area old d1 d2 new any taken f p =
           (subst (λ is. AreFills fs names (listed es) (items_of_any times) area.rows (length is) d1.cells a.code d2.cells) taken.instrs a.has)));
     }
 
+-- no lists send nothing
+no-turns : (kind : Scalar) (each times to from : ℕ) → turn_stores kind each 0 times to from ≡ []
+no-turns kind each zero to from = refl
+no-turns kind each (suc times) to from = no-turns kind each times (to + 0) (from + 1)
+
+pub none-repeated : (fs : List Function) (names : List Name) (times : ℕ) (kind : Scalar) (draft : Draft) → Adds (IsRepeated fs names kind times []) draft draft
+none-repeated fs names times kind draft =
+    let rows : draft.cells ≡ draft.cells + 0 * times = omega arith in
+    let base : ℕ = length draft.instrs.items in
+    let code : [] ++ turn_stores kind times 0 times draft.cells draft.cells ≡ [] = no-turns kind times times draft.cells draft.cells in
+    let filled : AreFills fs names (listed []) (items_of_any times) draft.cells base (draft.cells + 0 * times) [] (draft.cells + 0 * times) = no_item names (items_of_any times) draft.cells base (draft.cells + 0 * times) in
+    record {
+      code = [];
+      is = simp append_nil;
+      routines = refl;
+      has = subst (λ cs. IsRepeated fs names kind times [] base draft.cells cs draft.cells) code
+          (in_turns [] base draft.cells draft.cells draft.cells [] rows
+          (subst (λ m. AreFills fs names (listed []) (items_of_any times) draft.cells base (draft.cells + 0 * times) [] m) (sym rows) filled));
+    }
+
+-- an empty list
+pub none-is : {X : Type 0} (xs : List X) → length xs < 1 → xs ≡ []
+none-is [] low = refl
+none-is (x ∷ xs) low = absurd (omega arith)
+
 -- a list of one
 pub one-is : {X : Type 0} (xs : List X) (x : X) → 1 ≤ length xs → length xs < 2 → x ≡ get_or xs 0 x → xs ≡ x ∷ []
 one-is [] x low high is = absurd (omega arith)
