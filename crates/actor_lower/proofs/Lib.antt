@@ -13,3 +13,5 @@ pub mod Inside
 pub mod ClearedStand
 pub mod ClearedMade
 pub mod Together
+pub mod WholeRoutines
+pub mod WholeActors

@@ -29,7 +29,7 @@ use Rattle.action_lower.specs.GuardWords.{left_out_action, left_out_guards}
 use Rattle.action_lower.specs.LocalCode.{left_out_locals}
 use Rattle.action_lower.specs.Seats.{seen_seats}
 use Rattle.action_lower.specs.SendWords.{left_out_output, left_out_outputs, left_out_repeated, left_out_values}
-use Rattle.whole_forms.specs.Lowerable.{HasRoutine}
+use Rattle.whole_forms.specs.Lowerable.{CallsRoutines, HasRoutine}
 use Rattle.whole_bodies.specs.NoneLeft.{AllHaveRoutines}
 use Rattle.whole_bodies.specs.Standing.{AreReady, CallsAll, HasProcRoutine}
 use Rattle.whole_bodies.proofs.Calls.{calls_any, locals_any}
@@ -47,15 +47,18 @@ values_none fs names (e ∷ es) h =
     (values_none fs names es (none_second (left_out_in fs names e) (left_out_fills fs names one (listed es)) h))
 
 module _ (laws : Laws) (actor : Actor) (rs : Routines) (have : AllHaveRoutines actor rs) where
-  calls : (e : Tree) → CallsAll actor.funs actor.procs rs e
-  calls e = calls_any {P = HasRoutine actor.funs rs.functions} {Q = HasProcRoutine actor.procs rs.procedures} have.functions have.procedures e
+  calls : (e : Tree) → CallsRoutines actor.funs rs.functions e
+  calls e = calls_any {P = HasRoutine actor.funs rs.functions} {Q = λ name. Unit {0}} have.functions (λ name. tt) e
+
+  all_calls : (e : Tree) → CallsAll actor.funs actor.procs rs e
+  all_calls e = calls_any {P = HasRoutine actor.funs rs.functions} {Q = HasProcRoutine actor.procs rs.procedures} have.functions have.procedures e
 
   -- ---- guards
 
   guards_none : (guards : List Tree) (known : Names) (names : List Name) → AreReady actor.funs known names → Each (λ g. (kind g known ≡ Fine BoolKind) × IsPlain g) guards → left_out_guards rs.functions names guards ≡ None
   guards_none [] known names r are = refl
   guards_none (g ∷ guards) known names r are =
-      none_both (left_out_in rs.functions names g) (left_out_guards rs.functions names guards) (none_of_one laws actor.funs actor.procs rs known names g scalar.Bool r (calls g) are.0.1 are.0.0)
+      none_both (left_out_in rs.functions names g) (left_out_guards rs.functions names guards) (none_of_one laws actor.funs rs.functions known names g scalar.Bool r (calls g) are.0.1 are.0.0)
       (guards_none guards known names r are.1)
 
   -- ---- outputs
@@ -65,9 +68,9 @@ module _ (laws : Laws) (actor : Actor) (rs : Routines) (have : AllHaveRoutines a
       → elim repeat [ None ↦ left_out_values rs.functions names (map expr_tree values) | Some times ↦ left_out_repeated rs.functions names times values ] ≡ None
   sent_none values t None found known names r are all plain =
       values_none rs.functions names (map expr_tree values)
-      (none_of_each laws actor.funs actor.procs rs known names (listed (map expr_tree values)) found (kind_of_scalar t) one r (calls (listed (map expr_tree values))) plain are all (like_one t))
+      (none_of_each laws actor.funs rs.functions known names (listed (map expr_tree values)) found (kind_of_scalar t) one r (calls (listed (map expr_tree values))) plain are all (like_one t))
   sent_none values t (Some n) found known names r are all plain =
-      none_of_each laws actor.funs actor.procs rs known names (listed (map expr_tree values)) found (kind_of_tokens t (Some n)) (Many n one) r (calls (listed (map expr_tree values))) plain are all (refl, like_one t)
+      none_of_each laws actor.funs rs.functions known names (listed (map expr_tree values)) found (kind_of_tokens t (Some n)) (Many n one) r (calls (listed (map expr_tree values))) plain are all (refl, like_one t)
 
   outputs_none : (outputs : List BoundOutput) (known : Names) (names : List Name) → AreReady actor.funs known names → Each (IsOutput actor known) (map output_view outputs) → left_out_outputs rs.functions names outputs ≡ None
   outputs_none [] known names r are = refl
@@ -84,10 +87,10 @@ module _ (laws : Laws) (actor : Actor) (rs : Routines) (have : AllHaveRoutines a
       let behind : AreReady actor.funs (with_locals (action_view act).locals (with_patterns actor (action_view act).patterns (names_of actor))) (behind_locals names (action_view act).locals) =
           ready_locals actor.funs (action_view act).locals (with_patterns actor (action_view act).patterns (names_of actor)) names is.locals r in
       none_both (left_out_locals rs.functions names (action_view act).locals) (left_out_behind rs (behind_locals names (action_view act).locals) act)
-      (locals_none laws actor.funs actor.procs rs (action_view act).locals (with_patterns actor (action_view act).patterns (names_of actor)) names r is.locals
-      (locals_any {P = HasRoutine actor.funs rs.functions} {Q = HasProcRoutine actor.procs rs.procedures} have.functions have.procedures (action_view act).locals))
+      (locals_none laws actor.funs rs.functions (action_view act).locals (with_patterns actor (action_view act).patterns (names_of actor)) names r is.locals
+      (locals_any {P = HasRoutine actor.funs rs.functions} {Q = λ name. Unit {0}} have.functions (λ name. tt) (action_view act).locals))
       (none_both (left_out_all rs (behind_locals names (action_view act).locals) (body_of act.body.items)) (left_out_outputs rs.functions (behind_locals names (action_view act).locals) act.outputs.items)
-      (all_none laws actor.funs actor.procs rs (body_of act.body.items) (with_locals (action_view act).locals (with_patterns actor (action_view act).patterns (names_of actor))) (behind_locals names (action_view act).locals) behind (calls (body_of act.body.items)) is.plain is.body)
+      (all_none laws actor.funs actor.procs rs (body_of act.body.items) (with_locals (action_view act).locals (with_patterns actor (action_view act).patterns (names_of actor))) (behind_locals names (action_view act).locals) behind (all_calls (body_of act.body.items)) is.plain is.body)
       (outputs_none act.outputs.items (with_locals (action_view act).locals (with_patterns actor (action_view act).patterns (names_of actor))) (behind_locals names (action_view act).locals) behind is.outputs))
 
 -- ---- the actions of an actor

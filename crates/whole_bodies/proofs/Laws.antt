@@ -7,7 +7,7 @@ use Rattle.rvc_base.specs.declared.scalar.Scalar.TheVariants as scalar
 use Rattle.cal_ast.specs.Tree as tree
 use Rattle.cal_ast.specs.Tree.{Tree}
 use Rattle.cal_model.specs.Value.{Kind, NumKind, Shape, Single, Many, IsType, kind_of_scalar, kind_of_type}
-use Rattle.cal_model.specs.Actor.{Fun, Local, Proc}
+use Rattle.cal_model.specs.Actor.{Fun, Local}
 use Rattle.cal_model.specs.Kinding.{Judged, Fine, Names, arguments_fit, counts, kind, kinds, type_judged}
 use Rattle.cal_model.specs.Sound.{AreAll, Each, EachCall, IsFormal, IsPlain}
 use Rattle.expr_lower.specs.Callees.{Function}
@@ -17,13 +17,11 @@ use Rattle.expr_lower.specs.Names.{Name}
 use Rattle.expr_lower.specs.Parted.{number_of}
 use Rattle.list_lower.specs.ShapeMeant.{items_of_type, shape_meant}
 use Rattle.list_lower.proofs.ShapeIs.{shape_typed}
-use Rattle.stmt_lower.specs.Procedures.{Routines}
 use Rattle.stmt_lower.specs.StmtGrowing.{left_out_each}
-use Rattle.whole_forms.specs.Lowerable.{CallsRoutines, HasRoutine, IsLike, IsLowerable}
+use Rattle.whole_forms.specs.Lowerable.{CallsRoutines, IsLike, IsLowerable}
 use Rattle.whole_forms.specs.NoneLeft.{NothingLeft, NothingLeftOfArguments, NothingLeftOfEach, ScalarsAreSeen, TypesAreSeen}
-use Rattle.whole_bodies.specs.Standing.{AreReady, CallsAll, HasProcRoutine}
+use Rattle.whole_bodies.specs.Standing.{AreReady}
 use Rattle.whole_bodies.proofs.Assigned.{NoneOf, each_none}
-use Rattle.whole_bodies.proofs.Calls.{calls_as}
 use Rattle.whole_bodies.proofs.Types.{like_one}
 
 -- the laws of expressions and of types
@@ -69,35 +67,34 @@ count_of (Single (scalar.Int n)) at e = record { scalar = scalar.Int n; is = ref
 count_of (Single (scalar.Uint n)) at e = record { scalar = scalar.Uint n; is = refl; number = refl }
 count_of (Many n items) at e = cc
 
-module _ (laws : Laws) (funs : List Fun) (procs : List Proc) (rs : Routines) where
-  lowerable : (known : Names) (names : List Name) (e : Tree) → AreReady funs known names → CallsAll funs procs rs e → IsPlain e → IsLowerable known rs.functions names e
+module _ (laws : Laws) (funs : List Fun) (fs : List Function) where
+  lowerable : (known : Names) (names : List Name) (e : Tree) → AreReady funs known names → CallsRoutines funs fs e → IsPlain e → IsLowerable known fs names e
   lowerable known names e r calls plain = record {
     names = r.seen;
-    calls = subst (λ (fs : List Fun). CallsRoutines fs rs.functions e) (sym r.calls)
-        (calls_as {P = HasRoutine funs rs.functions} {Q = HasProcRoutine procs rs.procedures} {R = HasRoutine funs rs.functions} {S = λ text. Unit {0}} (λ text h. h) (λ text h. tt) e calls);
+    calls = subst (λ (all : List Fun). CallsRoutines all fs e) (sym r.calls) calls;
     plain = plain;
   }
 
   -- nothing is left out of an expression of a kind
-  pub none_of : (known : Names) (names : List Name) (e : Tree) (k : Kind) → AreReady funs known names → CallsAll funs procs rs e → IsPlain e → kind e known ≡ Fine k → NoneOf rs.functions names e k
-  none_of known names e k r calls plain is t like = laws.whole known rs.functions names e k t (lowerable known names e r calls plain) is like
+  pub none_of : (known : Names) (names : List Name) (e : Tree) (k : Kind) → AreReady funs known names → CallsRoutines funs fs e → IsPlain e → kind e known ≡ Fine k → NoneOf fs names e k
+  none_of known names e k r calls plain is t like = laws.whole known fs names e k t (lowerable known names e r calls plain) is like
 
   -- .. of several of one kind
-  pub none_of_each : (known : Names) (names : List Name) (es : Tree) (ks : List Kind) (k : Kind) (t : Shape) → AreReady funs known names → CallsAll funs procs rs es → IsPlain es → kinds es known ≡ Fine ks → AreAll k ks → IsLike t k → left_out_fills rs.functions names t es ≡ None
-  none_of_each known names es ks k t r calls plain are all like = laws.each known rs.functions names es ks k t (lowerable known names es r calls plain) are all like
+  pub none_of_each : (known : Names) (names : List Name) (es : Tree) (ks : List Kind) (k : Kind) (t : Shape) → AreReady funs known names → CallsRoutines funs fs es → IsPlain es → kinds es known ≡ Fine ks → AreAll k ks → IsLike t k → left_out_fills fs names t es ≡ None
+  none_of_each known names es ks k t r calls plain are all like = laws.each known fs names es ks k t (lowerable known names es r calls plain) are all like
 
   -- .. of arguments
-  pub none_of_arguments : (known : Names) (names : List Name) (args : Tree) (formals : List Local) → AreReady funs known names → CallsAll funs procs rs args → IsPlain args → arguments_fit args formals known ≡ Fine true → Each IsFormal formals
-      → (left_out_args rs.functions names args ≡ None) × (number_of args ≡ length formals)
-  none_of_arguments known names args formals r calls plain fit are = laws.arguments known rs.functions names args formals (lowerable known names args r calls plain) fit are
+  pub none_of_arguments : (known : Names) (names : List Name) (args : Tree) (formals : List Local) → AreReady funs known names → CallsRoutines funs fs args → IsPlain args → arguments_fit args formals known ≡ Fine true → Each IsFormal formals
+      → (left_out_args fs names args ≡ None) × (number_of args ≡ length formals)
+  none_of_arguments known names args formals r calls plain fit are = laws.arguments known fs names args formals (lowerable known names args r calls plain) fit are
 
   -- .. of a number or a truth value
-  pub none_of_one : (known : Names) (names : List Name) (e : Tree) (t : Scalar) → AreReady funs known names → CallsAll funs procs rs e → IsPlain e → kind e known ≡ Fine (kind_of_scalar t) → left_out_in rs.functions names e ≡ None
+  pub none_of_one : (known : Names) (names : List Name) (e : Tree) (t : Scalar) → AreReady funs known names → CallsRoutines funs fs e → IsPlain e → kind e known ≡ Fine (kind_of_scalar t) → left_out_in fs names e ≡ None
   none_of_one known names e t r calls plain is = none_of known names e (kind_of_scalar t) r calls plain is one (like_one t)
 
   -- .. of places
-  pub none_of_places : (known : Names) (names : List Name) (places : Tree) (ks : List Kind) → AreReady funs known names → CallsAll funs procs rs places → IsPlain places → kinds places known ≡ Fine ks → AreAll NumKind ks → left_out_each rs.functions names places ≡ None
-  none_of_places known names places ks r calls plain are all = each_none rs.functions names places (none_of_each known names places ks NumKind one r calls plain are all tt)
+  pub none_of_places : (known : Names) (names : List Name) (places : Tree) (ks : List Kind) → AreReady funs known names → CallsRoutines funs fs places → IsPlain places → kinds places known ≡ Fine ks → AreAll NumKind ks → left_out_each fs names places ≡ None
+  none_of_places known names places ks r calls plain are all = each_none fs names places (none_of_each known names places ks NumKind one r calls plain are all tt)
 
   -- types as the code sees them
   pub meant_of : (known : Names) (shape : Tree) (t : Shape) → IsPlain shape → type_judged shape known ≡ Fine t → IsMeant shape t

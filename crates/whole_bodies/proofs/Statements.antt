@@ -13,6 +13,7 @@ use Rattle.cal_model.specs.Kinding.{Judged, Fine, Known, Names, arguments_fit, c
 use Rattle.cal_model.specs.Sound.{AreStatements, AreVars, IsPlain, IsStatement, IsVarStart, MayBeAssigned, kind_inside, kind_of_judged, with_vars_known}
 use Rattle.expr_lower.specs.declared.names.Seat.{Seat}
 use Rattle.expr_lower.specs.declared.names.Seat.TheVariants.{Cell}
+use Rattle.expr_lower.specs.Callees.{Function}
 use Rattle.expr_lower.specs.Growing.{left_out_args, left_out_in, ◌or_else◌}
 use Rattle.expr_lower.specs.Meant.{single_meant}
 use Rattle.expr_lower.specs.Names.{Name, local, local_of, named}
@@ -21,9 +22,10 @@ use Rattle.expr_lower.specs.Starting.{left_out_list_start, left_out_start}
 use Rattle.list_lower.specs.ShapeMeant.{shape_meant}
 use Rattle.stmt_lower.specs.Procedures.{Procedure, Routines, procedure_for, procedure_named}
 use Rattle.stmt_lower.specs.StmtGrowing.{left_out_all, left_out_set, left_out_stmt, left_out_vars}
-use Rattle.whole_forms.specs.Lowerable.{IsSeen}
-use Rattle.whole_bodies.specs.Standing.{AreReady, CallsAll, IsRoutineOfProc}
+use Rattle.whole_forms.specs.Lowerable.{CallsRoutines, HasRoutine, IsSeen}
+use Rattle.whole_bodies.specs.Standing.{AreReady, CallsAll, HasProcRoutine, IsRoutineOfProc}
 use Rattle.whole_bodies.proofs.Assigned.{IsPartOf, NoneOf, all_numbers, part_of, set_none}
+use Rattle.whole_bodies.proofs.Calls.{calls_as}
 use Rattle.whole_bodies.proofs.Laws.{IsCount, IsMeant, Laws, count_of, many_meant_so, meant_of, none_of, none_of_arguments, none_of_one, none_of_places}
 use Rattle.whole_bodies.proofs.Names.{ready_local}
 use Rattle.whole_bodies.proofs.Types.{like_own, none_both}
@@ -34,18 +36,23 @@ found_proc ps text n r is size =
     let same : nat_eq (length r.formals) n ≡ true = grind (arith, nat_tests, size) in
     ap (λ (o : Option Procedure). elim o [ None ↦ None | Some p ↦ if nat_eq (length p.formals) n then Some p else None ]) is ∙ ap (λ b. if b then Some r else None) same
 
-module _ (laws : Laws) (funs : List Fun) (procs : List Proc) (rs : Routines) where
-  -- ---- starts
+-- ---- starts
 
-  pub one_start : (known : Names) (names : List Name) (s : Scalar) (start : Tree) → AreReady funs known names → CallsAll funs procs rs start → IsPlain start → IsVarStart (kind_of_type (Single s)) start known → left_out_start rs.functions names start ≡ None
+module _ (laws : Laws) (funs : List Fun) (fs : List Function) where
+  pub one_start : (known : Names) (names : List Name) (s : Scalar) (start : Tree) → AreReady funs known names → CallsRoutines funs fs start → IsPlain start → IsVarStart (kind_of_type (Single s)) start known → left_out_start fs names start ≡ None
   one_start known names s tree.absent r calls plain is = refl
-  one_start known names s (tree.present e) r calls plain is = none_of_one laws funs procs rs known names e s r calls plain is
+  one_start known names s (tree.present e) r calls plain is = none_of_one laws funs fs known names e s r calls plain is
   one_start known names s other r calls plain is = absurd is
 
-  pub list_start : (known : Names) (names : List Name) (t : Shape) (start : Tree) → AreReady funs known names → CallsAll funs procs rs start → IsPlain start → IsVarStart (kind_of_type t) start known → left_out_list_start rs.functions names t start ≡ None
+  pub list_start : (known : Names) (names : List Name) (t : Shape) (start : Tree) → AreReady funs known names → CallsRoutines funs fs start → IsPlain start → IsVarStart (kind_of_type t) start known → left_out_list_start fs names t start ≡ None
   list_start known names t tree.absent r calls plain is = refl
-  list_start known names t (tree.present e) r calls plain is = none_of laws funs procs rs known names e (kind_of_type t) r calls plain is t (like_own t)
+  list_start known names t (tree.present e) r calls plain is = none_of laws funs fs known names e (kind_of_type t) r calls plain is t (like_own t)
   list_start known names t other r calls plain is = absurd is
+
+module _ (laws : Laws) (funs : List Fun) (procs : List Proc) (rs : Routines) where
+  -- the functions that are called
+  called : (e : Tree) → CallsAll funs procs rs e → CallsRoutines funs rs.functions e
+  called e h = calls_as {P = HasRoutine funs rs.functions} {Q = HasProcRoutine procs rs.procedures} {R = HasRoutine funs rs.functions} {S = λ text. Unit {0}} (λ text g. g) (λ text g. tt) e h
 
   -- ---- variables of a block
 
@@ -79,9 +86,9 @@ module _ (laws : Laws) (funs : List Fun) (procs : List Proc) (rs : Routines) whe
         ]
         | Some u ↦ left_out_start rs.functions names start or_else left_out_vars rs (local text u 0 ∷ names) vars inside
       ]) (laws.scalars known shape s plain judged)
-      ∙ none_both (left_out_start rs.functions names start) (left_out_vars rs (local text s 0 ∷ names) vars inside) (one_start known names s start r calls plain_start is) rest
+      ∙ none_both (left_out_start rs.functions names start) (left_out_vars rs (local text s 0 ∷ names) vars inside) (one_start laws funs rs.functions known names s start r (called start calls) plain_start is) rest
   var_none shape start vars text at (Many n items) known names inside r calls plain plain_start judged is rest =
-      let m : IsMeant shape (Many n items) = meant_of laws funs procs rs known shape (Many n items) plain judged in
+      let m : IsMeant shape (Many n items) = meant_of laws funs rs.functions known shape (Many n items) plain judged in
       ap (λ (o : Option Scalar). elim o [
         | None ↦ elim (shape_meant shape) [
           | None ↦ Some at
@@ -93,12 +100,12 @@ module _ (laws : Laws) (funs : List Fun) (procs : List Proc) (rs : Routines) whe
         | None ↦ Some at
         | Some u ↦ left_out_list_start rs.functions names u start or_else left_out_vars rs (local_of text u 0 ∷ names) vars inside
       ]) m.meant
-      ∙ none_both (left_out_list_start rs.functions names (Many n items) start) (left_out_vars rs (local_of text (Many n items) 0 ∷ names) vars inside) (list_start known names (Many n items) start r calls plain_start is) rest
+      ∙ none_both (left_out_list_start rs.functions names (Many n items) start) (left_out_vars rs (local_of text (Many n items) 0 ∷ names) vars inside) (list_start laws funs rs.functions known names (Many n items) start r (called start calls) plain_start is) rest
 
   vars_none : (vars : Tree) (known : Names) (names : List Name) (inside : List Name → Option ℕ) → AreReady funs known names → CallsAll funs procs rs vars → IsPlain vars → AreVars vars known → Behind vars known inside → left_out_vars rs names vars inside ≡ None
   vars_none tree.nil known names inside r calls plain are behind = behind names r
   vars_none (tree.cons (tree.var shape (tree.ident text place) start changes at) vars) known names inside r calls plain are behind =
-      let m : IsMeant shape are.0 = meant_of laws funs procs rs known shape are.0 plain.0.0 are.1 in
+      let m : IsMeant shape are.0 = meant_of laws funs rs.functions known shape are.0 plain.0.0 are.1 in
       var_none shape start vars text at are.0 known names inside r calls.0.1 plain.0.0 plain.0.1 are.1 are.2
       (vars_none vars (with_known (known_var text are.0 changes) known) (local_of text are.0 0 ∷ names) inside (ready_local funs known names (known_var text are.0 changes) are.0 0 m.typed refl r) calls.1 plain.1 are.3
       (behind_one shape vars text are.0 changes known inside are.1 behind))
@@ -116,21 +123,21 @@ module _ (laws : Laws) (funs : List Fun) (procs : List Proc) (rs : Routines) whe
       let inside : kind_inside (kind_of_type s.name.shape) ks ≡ Some k = subst (λ (l : Kind). kind_inside l ks ≡ Some k) (sym s.kind) may.inside in
       let p : IsPartOf s.name.shape places k = part_of s.name.shape places known ks k are inside in
       set_none rs.functions names text s.name.text cell.0 s.name.shape p.shape places value at stands s.typed p.is
-      (none_of_places laws funs procs rs known names places ks r calls plain are (all_numbers (kind_of_type s.name.shape) ks k inside))
-      (subst (λ (l : Kind). NoneOf rs.functions names value l) (sym p.kind) (none_of laws funs procs rs known names value k r calls_value plain_value is))
+      (none_of_places laws funs rs.functions known names places ks r (called places calls) plain are (all_numbers (kind_of_type s.name.shape) ks k inside))
+      (subst (λ (l : Kind). NoneOf rs.functions names value l) (sym p.kind) (none_of laws funs rs.functions known names value k r (called value calls_value) plain_value is))
 
   -- ---- statements
 
   truth_none : (known : Names) (names : List Name) (e : Tree) → AreReady funs known names → CallsAll funs procs rs e → IsPlain e → kind e known ≡ Fine BoolKind → left_out_in rs.functions names e ≡ None
-  truth_none known names e r calls plain is = none_of_one laws funs procs rs known names e scalar.Bool r calls plain is
+  truth_none known names e r calls plain is = none_of_one laws funs rs.functions known names e scalar.Bool r (called e calls) plain is
 
   number_none : (known : Names) (names : List Name) (e : Tree) → AreReady funs known names → CallsAll funs procs rs e → IsPlain e → kind e known ≡ Fine NumKind → left_out_in rs.functions names e ≡ None
-  number_none known names e r calls plain is = none_of_one laws funs procs rs known names e (scalar.Int 32) r calls plain is
+  number_none known names e r calls plain is = none_of_one laws funs rs.functions known names e (scalar.Int 32) r (called e calls) plain is
 
   call_none : (known : Names) (names : List Name) (text : List ℕ) (args : Tree) (at : ℕ) (p : Proc) → AreReady funs known names → CallsAll funs procs rs args → IsPlain args → IsRoutineOfProc rs.procedures text p → arguments_fit args p.formals known ≡ Fine true
       → elim (procedure_for text (number_of args) rs.procedures) [ None ↦ Some at | Some g ↦ left_out_args rs.functions names args ] ≡ None
   call_none known names text args at p r calls plain f fit =
-      let found = none_of_arguments laws funs procs rs known names args p.formals r calls plain fit f.formals in
+      let found = none_of_arguments laws funs rs.functions known names args p.formals r (called args calls) plain fit f.formals in
       ap (λ (o : Option Procedure). elim o [ None ↦ Some at | Some g ↦ left_out_args rs.functions names args ]) (found_proc rs.procedures text (number_of args) f.routine f.found (f.as_many ∙ sym found.1))
       ∙ found.0
 
@@ -148,7 +155,7 @@ module _ (laws : Laws) (funs : List Fun) (procs : List Proc) (rs : Routines) whe
     stmt_none (tree.foreach_stmt shape (tree.ident text place) from to body at) known names r calls plain is =
         let c : IsCount is.0 = count_of is.0 (begins shape) is.2 in
         let judged : type_judged shape known ≡ Fine (Single c.scalar) = is.1 ∙ ap (λ (t : Shape). Fine t) c.is in
-        let m : IsMeant shape (Single c.scalar) = meant_of laws funs procs rs known shape (Single c.scalar) plain.0 judged in
+        let m : IsMeant shape (Single c.scalar) = meant_of laws funs rs.functions known shape (Single c.scalar) plain.0 judged in
         ap (λ (o : Option Scalar). elim o [
           | None ↦ Some at
           | Some t ↦ left_out_in rs.functions names from or_else (left_out_in rs.functions names to or_else left_out_all rs (local text t 0 ∷ names) body)

@@ -7,6 +7,7 @@ use Rattle.cal_model.specs.Actor.{Action, Actor, Fun, Proc}
 use Rattle.cal_model.specs.Kinding.{Names}
 use Rattle.cal_model.specs.Sound.{AreStatements, IsFun, IsPlain, IsProc, IsSound}
 use Rattle.cal_model.specs.View.{actor_of}
+use Rattle.expr_lower.specs.Callees.{Function}
 use Rattle.expr_lower.specs.Names.{Name}
 use Rattle.expr_lower.specs.Routining.{left_out_fun}
 use Rattle.stmt_lower.specs.Proceeding.{left_out_proc}
@@ -15,7 +16,7 @@ use Rattle.stmt_lower.specs.StmtGrowing.{left_out_all}
 use Rattle.action_lower.specs.FiringWords.{left_out_of}
 use Rattle.action_lower.specs.GuardWords.{left_out_action}
 use Rattle.whole_bodies.specs.Standing.{AreReady, CallsAll, HasProcRoutine, StartsCallAll}
-use Rattle.whole_forms.specs.Lowerable.{HasRoutine}
+use Rattle.whole_forms.specs.Lowerable.{CallsRoutines, HasRoutine}
 
 -- nothing is left out of statements that are ones
 abbrev pub NothingLeftOfStatements : Type 0
@@ -25,14 +26,14 @@ NothingLeftOfStatements = (funs : List Fun) (procs : List Proc) (rs : Routines) 
 
 -- .. of a function
 abbrev pub NothingLeftOfFunction : Type 0
-NothingLeftOfFunction = (procs : List Proc) (rs : Routines) (known : Names) (names : List Name)
-    (f : Fun) → AreReady known.funs known names → StartsCallAll known.funs procs rs f.locals
-    → CallsAll known.funs procs rs f.body → IsFun known f → left_out_fun rs.functions names f ≡ None
+NothingLeftOfFunction = (fs : List Function) (known : Names) (names : List Name) (f : Fun)
+    → AreReady known.funs known names → StartsCallAll known.funs fs f.locals
+    → CallsRoutines known.funs fs f.body → IsFun known f → left_out_fun fs names f ≡ None
 
 -- .. of a procedure
 abbrev pub NothingLeftOfProcedure : Type 0
 NothingLeftOfProcedure = (procs : List Proc) (rs : Routines) (known : Names) (names : List Name)
-    (p : Proc) → AreReady known.funs known names → StartsCallAll known.funs procs rs p.locals
+    (p : Proc) → AreReady known.funs known names → StartsCallAll known.funs rs.functions p.locals
     → CallsAll known.funs procs rs p.body → IsProc procs known p → left_out_proc rs names p ≡ None
 
 -- each function and each procedure of an actor has a routine

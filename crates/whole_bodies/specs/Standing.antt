@@ -8,6 +8,7 @@ use Rattle.cal_model.specs.Sound.{Each, EachCall, IsFormal, StartCalls}
 use Rattle.cal_model.specs.Statement.{proc_named}
 use Rattle.expr_lower.specs.declared.names.Seat.{Seat}
 use Rattle.expr_lower.specs.declared.names.Seat.TheVariants.{Cell}
+use Rattle.expr_lower.specs.Callees.{Function}
 use Rattle.expr_lower.specs.Names.{Name, named}
 use Rattle.stmt_lower.specs.Procedures.{Procedure, Routines, procedure_named}
 use Rattle.whole_forms.specs.Lowerable.{AreSeen, HasRoutine}
@@ -46,7 +47,6 @@ abbrev pub CallsAll : List Fun → List Proc → Routines → Tree → Type 0
 CallsAll funs procs rs t =
     EachCall (HasRoutine funs rs.functions) (HasProcRoutine procs rs.procedures) t
 
--- .. by the starts of locals
-abbrev pub StartsCallAll : List Fun → List Proc → Routines → List Local → Type 0
-StartsCallAll funs procs rs xs =
-    Each (StartCalls (HasRoutine funs rs.functions) (HasProcRoutine procs rs.procedures)) xs
+-- .. each function by the starts of locals
+abbrev pub StartsCallAll : List Fun → List Function → List Local → Type 0
+StartsCallAll funs fs xs = Each (StartCalls (HasRoutine funs fs) (λ name. Unit {0})) xs
