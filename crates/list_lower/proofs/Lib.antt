@@ -29,3 +29,4 @@ pub mod ApartItems
 pub mod Whole
 pub mod StartingLists
 pub mod AddingFunctions
+pub mod Deeper

@@ -90,7 +90,7 @@ pub(crate) fn items_seen(scope: &Scope, e: &Expr, depth: &Indexes) -> Option<u32
         ExprForm::Call { name: _, args: _ } => None,
         ExprForm::List(items) => items_listed(scope, items, depth),
         ExprForm::Comp { item, gens } => items_made(scope, item, gens, depth),
-        ExprForm::Index { base, place: _ } => items_inside(scope, base, depth),
+        ExprForm::Index { base, place: _ } => items_inside(scope, base, &*depth),
     }
 }
 

@@ -51,7 +51,7 @@ fn gives(scope: &Scope, e: &Expr, depth: &Indexes, sort: Sort) -> bool
         ExprForm::Call { name, args } => call_gives(scope, name.as_str(), args, depth, sort),
         ExprForm::List(items) => list_gives(scope, items, depth, sort),
         ExprForm::Comp { item, gens } => comp_gives(scope, item, gens, depth, sort),
-        ExprForm::Index { base, place: _ } => item_gives(scope, base, depth, sort),
+        ExprForm::Index { base, place: _ } => item_gives(scope, base, &*depth, sort),
     }
 }
 
