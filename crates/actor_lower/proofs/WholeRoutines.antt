@@ -17,7 +17,6 @@ use Rattle.whole_forms.specs.Lowerable.{CallsRoutines, HasRoutine, IsRoutineOf}
 use Rattle.whole_bodies.specs.NoneLeft.{AllHaveRoutines}
 use Rattle.whole_bodies.specs.Standing.{AreReady, CallsAll, HasProcRoutine, IsRoutineOfProc, StartsCallAll}
 use Rattle.whole_bodies.proofs.Calls.{calls_as, locals_any, locals_as}
-use Rattle.whole_bodies.proofs.Laws.{Laws}
 use Rattle.whole_bodies.proofs.Names.{ready_vars}
 use Rattle.whole_bodies.proofs.Routines.{fun_none, proc_none}
 use Rattle.actor_lower.specs.Settled.{AreFunctions, AreProcedures, AreSettled, HasFunction, HasProcedure, IsFunction, IsProcedure, no_function, function_more, no_procedure, procedure_more}
@@ -69,7 +68,7 @@ module _ {A : Type 0} (name : A → List ℕ) (named : List ℕ → List A → O
           let r = found-first P text xs j x h.1 f same in
           (r.0, more text z xs ∙ ap (λ b. if b then Some z else named text xs) is ∙ r.1, r.2, r.3)
 
-module _ (laws : Laws) (actor : Actor) (sound : IsSound actor) (rs : Routines) (settled : AreSettled actor rs) where
+module _ (actor : Actor) (sound : IsSound actor) (rs : Routines) (settled : AreSettled actor rs) where
   ready : AreReady actor.funs (names_of actor) (globals_of actor)
   ready = ready_vars actor.funs actor.vars sound.vars
 
@@ -122,7 +121,7 @@ module _ (laws : Laws) (actor : Actor) (sound : IsSound actor) (rs : Routines) (
 
       not-left : (at : ℕ) → left_out_fun rs.functions (globals_of actor) f ≡ Some at → ⊥
       not-left at e =
-          let none : left_out_fun rs.functions (globals_of actor) f ≡ None = fun_none laws actor.funs rs.functions f (names_of actor) (globals_of actor) ready starts calls (each-at (IsFun (names_of actor)) actor.funs k f sound.funs there) in
+          let none : left_out_fun rs.functions (globals_of actor) f ≡ None = fun_none actor.funs rs.functions f (names_of actor) (globals_of actor) ready starts calls (each-at (IsFun (names_of actor)) actor.funs k f sound.funs there) in
           cc
 
   have-functions : (text : List ℕ) → HasRoutine actor.funs rs.functions text
@@ -178,7 +177,7 @@ module _ (laws : Laws) (actor : Actor) (sound : IsSound actor) (rs : Routines) (
 
       not-left : (at : ℕ) → left_out_proc rs (globals_of actor) q ≡ Some at → ⊥
       not-left at e =
-          let none : left_out_proc rs (globals_of actor) q ≡ None = proc_none laws actor.funs actor.procs rs q (names_of actor) (globals_of actor) ready starts calls (each-at (IsProc actor.procs (names_of actor)) actor.procs k q sound.procs there) in
+          let none : left_out_proc rs (globals_of actor) q ≡ None = proc_none actor.funs actor.procs rs q (names_of actor) (globals_of actor) ready starts calls (each-at (IsProc actor.procs (names_of actor)) actor.procs k q sound.procs there) in
           cc
 
   have-procedures : (text : List ℕ) → HasProcRoutine actor.procs rs.procedures text

@@ -7,7 +7,7 @@ use Rattle.cal_ast.specs.Tree.{Tree}
 use Rattle.cal_model.specs.Value.{Shape, Single, Many, Value, Num, Truth, Items, Values, Nil, Cons, count, scalars_of_type}
 use Rattle.cal_model.specs.Outcome.{Out, Gives, and_then, known}
 use Rattle.cal_model.specs.Env.{Env}
-use Rattle.cal_model.specs.Expression.{elements, eval, eval_all, chosen}
+use Rattle.cal_model.specs.Expression.{eval, eval_all, chosen}
 use Rattle.code_ir.specs.declared.instr.Instr.{Instr}
 use Rattle.code_ir.specs.declared.instr.Instr.TheVariants as op
 use Rattle.code_ir.specs.Running.{State, Reaches, here, after}

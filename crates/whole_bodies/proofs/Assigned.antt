@@ -22,7 +22,8 @@ use Rattle.stmt_lower.specs.declared.targets.ListCells.{ListCells}
 use Rattle.stmt_lower.specs.StmtGrowing.{left_out_chosen, left_out_copy, left_out_deep, left_out_each, left_out_filled, left_out_list, left_out_part, left_out_put, left_out_set, left_out_whole}
 use Rattle.stmt_lower.specs.Targets.{cell_of, cells_of, part_in}
 use Rattle.whole_forms.specs.Lowerable.{IsLike}
-use Rattle.whole_bodies.proofs.Types.{like_one, like_own, none_both, none_first, none_second, sized_of_type}
+use Rattle.whole_forms.proofs.Like.{like_own, sized_type}
+use Rattle.whole_bodies.proofs.Types.{none_both, none_first, none_second, one_like}
 
 -- nothing is left out of an expression, wherever a type of its kind is meant
 abbrev pub NoneOf : List Function → List Name → Tree → Kind → Type 0
@@ -132,17 +133,17 @@ module _ (fs : List Function) (names : List Name) where
     filled_none : (n : ℕ) (items : Shape) (value : Tree) (at : ℕ) → Named (Many n items) → IsType (Many n items) → NoneOf fs names value (kind_of_type (Many n items)) → left_out_filled fs names text value at ≡ None
     filled_none n items value at is typed none =
         ap (λ (o : Option Name). left_out_part fs names (elim o [ None ↦ None | Some x ↦ whole_of x ]) value at) is
-        ∙ ap (λ (o : Option ℕ). left_out_part fs names (elim o [ None ↦ None | Some k ↦ Some (part_at (Cell c) (Many n items) k) ]) value at) (sized_of_type (Many n items) typed)
+        ∙ ap (λ (o : Option ℕ). left_out_part fs names (elim o [ None ↦ None | Some k ↦ Some (part_at (Cell c) (Many n items) k) ]) value at) (sized_type (Many n items) typed)
         ∙ none (Many n items) (like_own (Many n items))
 
     -- .. of single values
     whole_none : (n : ℕ) (s : Scalar) (value : Tree) (at : ℕ) → Named (Many n (Single s)) → IsType (Many n (Single s)) → NoneOf fs names value (kind_of_type (Many n (Single s)))
         → left_out_whole fs names (record { cell = c; size = n; kind = s }) text value at ≡ None
     whole_none n s (tree.list items list) at is typed none =
-        let found = items_none items n list (none (Many n one) (refl, like_one s)) in
+        let found = items_none items n list (none (Many n one) (refl, one_like s)) in
         ap (λ b. if b then left_out_each fs names items else Some at) found.0 ∙ each_none items found.1
     whole_none n s (tree.variable from place) at is typed none =
-        copy_none (record { cell = c; size = n; kind = s }) n from place at refl (none (Many n one) (refl, like_one s))
+        copy_none (record { cell = c; size = n; kind = s }) n from place at refl (none (Many n one) (refl, one_like s))
     whole_none n s other at is typed none = filled_none n (Single s) other at is typed none
 
     list_none : (n : ℕ) (items : Shape) (value : Tree) (at : ℕ) → Named (Many n items) → IsType (Many n items) → NoneOf fs names value (kind_of_type (Many n items)) → left_out_list fs names text value at ≡ None
@@ -158,7 +159,7 @@ module _ (fs : List Function) (names : List Name) where
         → left_out_deep fs names text places value at ≡ None
     deep_none n items u places value at is typed part each none =
         ap (λ (o : Option Name). chosen (elim o [ None ↦ None | Some x ↦ whole_of x ])) is
-        ∙ ap (λ (o : Option ℕ). chosen (elim o [ None ↦ None | Some k ↦ Some (part_at (Cell c) (Many n items) k) ])) (sized_of_type (Many n items) typed)
+        ∙ ap (λ (o : Option ℕ). chosen (elim o [ None ↦ None | Some k ↦ Some (part_at (Cell c) (Many n items) k) ])) (sized_type (Many n items) typed)
         ∙ ap (λ o. left_out_put fs names o places value at) part
         ∙ none_both (left_out_each fs names places) (left_out_fill fs names u value) each (none u (like_own u))
       where
@@ -170,7 +171,7 @@ module _ (fs : List Function) (names : List Name) where
         → NoneOf fs names value (kind_of_type u) → left_out_set fs names text (tree.cons spot tree.nil) value at ≡ None
     spot_none n (Single s) u spot value at is typed part each none =
         let same : Single s ≡ u = cc in
-        let single : left_out_in fs names value ≡ None = none one (subst (λ (t : Shape). IsLike one (kind_of_type t)) same (like_one s)) in
+        let single : left_out_in fs names value ≡ None = none one (subst (λ (t : Shape). IsLike one (kind_of_type t)) same (one_like s)) in
         ap (λ (o : Option Name). elim (elim (elim o [ None ↦ None | Some x ↦ items_of x ]) [ None ↦ None | Some l ↦ cells_of l ]) [ None ↦ left_out_deep fs names text (tree.cons spot tree.nil) value at | Some d ↦ left_out_in fs names spot or_else left_out_in fs names value ]) is
         ∙ none_both (left_out_in fs names spot) (left_out_in fs names value) (none_first (left_out_in fs names spot) None each) single
     spot_none n (Many m items) u spot value at is typed part each none =
@@ -190,7 +191,7 @@ module _ (fs : List Function) (names : List Name) where
     one_none : (s : Scalar) (u : Shape) (places value : Tree) (at : ℕ) → Named (Single s) → part_in (Single s) places ≡ Some u → NoneOf fs names value (kind_of_type u) → left_out_set fs names text places value at ≡ None
     one_none s u tree.nil value at is part none =
         let same : Single s ≡ u = cc in
-        let single : left_out_in fs names value ≡ None = none one (subst (λ (t : Shape). IsLike one (kind_of_type t)) same (like_one s)) in
+        let single : left_out_in fs names value ≡ None = none one (subst (λ (t : Shape). IsLike one (kind_of_type t)) same (one_like s)) in
         ap (λ (o : Option Name). elim (elim o [ None ↦ None | Some x ↦ cell_of x.seat x.shape ]) [ None ↦ left_out_list fs names text value at | Some d ↦ left_out_in fs names value ]) is
         ∙ single
     one_none s u other value at is part none = cc

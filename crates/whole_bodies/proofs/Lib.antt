@@ -2,7 +2,7 @@ pub mod Calls
 pub mod Types
 pub mod Names
 pub mod Assigned
-pub mod Laws
+pub mod Values
 pub mod Statements
 pub mod Routines
 pub mod Patterns

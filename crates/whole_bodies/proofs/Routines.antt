@@ -21,7 +21,7 @@ use Rattle.stmt_lower.specs.StmtGrowing.{left_out_all}
 use Rattle.action_lower.specs.LocalCode.{left_out_locals}
 use Rattle.whole_bodies.specs.Standing.{AreReady, CallsAll, StartsCallAll}
 use Rattle.whole_forms.specs.Lowerable.{CallsRoutines}
-use Rattle.whole_bodies.proofs.Laws.{Laws, none_of_one}
+use Rattle.whole_bodies.proofs.Values.{none_of_one}
 use Rattle.whole_bodies.proofs.Names.{formals_none, ready_formals, ready_local}
 use Rattle.whole_bodies.proofs.Statements.{all_none, list_start, one_start}
 use Rattle.whole_bodies.proofs.Types.{none_both, type_size_of}
@@ -31,7 +31,7 @@ start_of : (k : Kind) (start : Option Tree) (known : Names) → StartHasKind k s
 start_of k None known h = (tt, tt)
 start_of k (Some e) known h = (h.0, h.1)
 
-module _ (laws : Laws) (funs : List Fun) (fs : List Function) where
+module _ (funs : List Fun) (fs : List Function) where
   calls_of_start : (start : Option Tree) → elim start [ None ↦ Unit {0} | Some e ↦ CallsRoutines funs fs e ] → CallsRoutines funs fs (optional start)
   calls_of_start None h = tt
   calls_of_start (Some e) h = h
@@ -43,10 +43,10 @@ module _ (laws : Laws) (funs : List Fun) (fs : List Function) where
         | None ↦ elim (type_size t) [ None ↦ Some 0 | Some size ↦ left_out_list_start fs names t start ]
         | Some s ↦ left_out_start fs names start
       ] ≡ None
-  shape_none (Single s) start known names r typed calls plain is = one_start laws funs fs known names s start r calls plain is
+  shape_none (Single s) start known names r typed calls plain is = one_start funs fs known names s start r calls plain is
   shape_none (Many n items) start known names r typed calls plain is =
       ap (λ (o : Option ℕ). elim o [ None ↦ Some 0 | Some size ↦ left_out_list_start fs names (Many n items) start ]) (type_size_of (Many n items) typed)
-      ∙ list_start laws funs fs known names (Many n items) start r calls plain is
+      ∙ list_start funs fs known names (Many n items) start r calls plain is
 
   local_none : (x : Local) (known : Names) (names : List Name) → AreReady funs known names → IsType x.shape → StartHasKind (kind_of_type x.shape) x.start known → elim x.start [ None ↦ Unit {0} | Some e ↦ CallsRoutines funs fs e ] → left_out_local fs names x ≡ None
   local_none x known names r typed start calls =
@@ -63,7 +63,7 @@ module _ (laws : Laws) (funs : List Fun) (fs : List Function) where
 
   body_none : (xs : List Local) (e : Tree) (t : Scalar) (known : Names) (names : List Name) → AreReady funs known names → AreLocals xs known → StartsCallAll funs fs xs → CallsRoutines funs fs e → IsPlain e → kind e (with_locals xs known) ≡ Fine (kind_of_scalar t)
       → left_out_body fs names xs e ≡ None
-  body_none [] e t known names r are calls called plain is = none_of_one laws funs fs known names e t r called plain is
+  body_none [] e t known names r are calls called plain is = none_of_one funs fs known names e t r called plain is
   body_none (x ∷ xs) e t known names r are calls called plain is =
       none_both (left_out_local fs names x) (left_out_body fs (local_of x.name x.shape 0 ∷ names) xs e) (local_none x known names r are.0 are.1 calls.0)
       (body_none xs e t (with_known (known_local x) known) (local_of x.name x.shape 0 ∷ names) (ready_local funs known names (known_local x) x.shape 0 are.0 refl r) are.2 calls.1 called plain is)
@@ -75,12 +75,12 @@ module _ (laws : Laws) (funs : List Fun) (fs : List Function) where
 
 -- ---- procedures
 
-module _ (laws : Laws) (funs : List Fun) (procs : List Proc) (rs : Routines) where
+module _ (funs : List Fun) (procs : List Proc) (rs : Routines) where
   proc_body_none : (xs : List Local) (body : Tree) (known : Names) (names : List Name) → AreReady funs known names → AreLocals xs known → StartsCallAll funs rs.functions xs → CallsAll funs procs rs body → IsPlain body → AreStatements body procs (with_locals xs known)
       → left_out_proc_body rs names xs body ≡ None
-  proc_body_none [] body known names r are calls called plain is = all_none laws funs procs rs body known names r called plain is
+  proc_body_none [] body known names r are calls called plain is = all_none funs procs rs body known names r called plain is
   proc_body_none (x ∷ xs) body known names r are calls called plain is =
-      none_both (left_out_local rs.functions names x) (left_out_proc_body rs (local_of x.name x.shape 0 ∷ names) xs body) (local_none laws funs rs.functions x known names r are.0 are.1 calls.0)
+      none_both (left_out_local rs.functions names x) (left_out_proc_body rs (local_of x.name x.shape 0 ∷ names) xs body) (local_none funs rs.functions x known names r are.0 are.1 calls.0)
       (proc_body_none xs body (with_known (known_local x) known) (local_of x.name x.shape 0 ∷ names) (ready_local funs known names (known_local x) x.shape 0 are.0 refl r) are.2 calls.1 called plain is)
 
   pub proc_none : (p : Proc) (known : Names) (names : List Name) → AreReady funs known names → StartsCallAll funs rs.functions p.locals → CallsAll funs procs rs p.body → IsProc procs known p → left_out_proc rs names p ≡ None

@@ -26,9 +26,11 @@ use Rattle.whole_forms.specs.Lowerable.{CallsRoutines, HasRoutine, IsSeen}
 use Rattle.whole_bodies.specs.Standing.{AreReady, CallsAll, HasProcRoutine, IsRoutineOfProc}
 use Rattle.whole_bodies.proofs.Assigned.{IsPartOf, NoneOf, all_numbers, part_of, set_none}
 use Rattle.whole_bodies.proofs.Calls.{calls_as}
-use Rattle.whole_bodies.proofs.Laws.{IsCount, IsMeant, Laws, count_of, many_meant_so, meant_of, none_of, none_of_arguments, none_of_one, none_of_places}
+use Rattle.whole_bodies.proofs.Values.{IsCount, count_of, none_of, none_of_arguments, none_of_one, none_of_places}
 use Rattle.whole_bodies.proofs.Names.{ready_local}
-use Rattle.whole_bodies.proofs.Types.{like_own, none_both}
+use Rattle.whole_forms.proofs.Like.{like_own}
+use Rattle.whole_forms.proofs.SeenTypes.{many_seen, scalar_seen, type_seen}
+use Rattle.whole_bodies.proofs.Types.{none_both}
 
 -- a procedure for so many arguments
 found_proc : (ps : List Procedure) (text : List ℕ) (n : ℕ) (r : Procedure) → procedure_named text ps ≡ Some r → length r.formals ≡ n → procedure_for text n ps ≡ Some r
@@ -38,18 +40,18 @@ found_proc ps text n r is size =
 
 -- ---- starts
 
-module _ (laws : Laws) (funs : List Fun) (fs : List Function) where
+module _ (funs : List Fun) (fs : List Function) where
   pub one_start : (known : Names) (names : List Name) (s : Scalar) (start : Tree) → AreReady funs known names → CallsRoutines funs fs start → IsPlain start → IsVarStart (kind_of_type (Single s)) start known → left_out_start fs names start ≡ None
   one_start known names s tree.absent r calls plain is = refl
-  one_start known names s (tree.present e) r calls plain is = none_of_one laws funs fs known names e s r calls plain is
+  one_start known names s (tree.present e) r calls plain is = none_of_one funs fs known names e s r calls plain is
   one_start known names s other r calls plain is = absurd is
 
   pub list_start : (known : Names) (names : List Name) (t : Shape) (start : Tree) → AreReady funs known names → CallsRoutines funs fs start → IsPlain start → IsVarStart (kind_of_type t) start known → left_out_list_start fs names t start ≡ None
   list_start known names t tree.absent r calls plain is = refl
-  list_start known names t (tree.present e) r calls plain is = none_of laws funs fs known names e (kind_of_type t) r calls plain is t (like_own t)
+  list_start known names t (tree.present e) r calls plain is = none_of funs fs known names e (kind_of_type t) r calls plain is t (like_own t)
   list_start known names t other r calls plain is = absurd is
 
-module _ (laws : Laws) (funs : List Fun) (procs : List Proc) (rs : Routines) where
+module _ (funs : List Fun) (procs : List Proc) (rs : Routines) where
   -- the functions that are called
   called : (e : Tree) → CallsAll funs procs rs e → CallsRoutines funs rs.functions e
   called e h = calls_as {P = HasRoutine funs rs.functions} {Q = HasProcRoutine procs rs.procedures} {R = HasRoutine funs rs.functions} {S = λ text. Unit {0}} (λ text g. g) (λ text g. tt) e h
@@ -85,29 +87,27 @@ module _ (laws : Laws) (funs : List Fun) (procs : List Proc) (rs : Routines) whe
           | Some u ↦ left_out_list_start rs.functions names u start or_else left_out_vars rs (local_of text u 0 ∷ names) vars inside
         ]
         | Some u ↦ left_out_start rs.functions names start or_else left_out_vars rs (local text u 0 ∷ names) vars inside
-      ]) (laws.scalars known shape s plain judged)
-      ∙ none_both (left_out_start rs.functions names start) (left_out_vars rs (local text s 0 ∷ names) vars inside) (one_start laws funs rs.functions known names s start r (called start calls) plain_start is) rest
+      ]) (scalar_seen shape known s plain judged).0
+      ∙ none_both (left_out_start rs.functions names start) (left_out_vars rs (local text s 0 ∷ names) vars inside) (one_start funs rs.functions known names s start r (called start calls) plain_start is) rest
   var_none shape start vars text at (Many n items) known names inside r calls plain plain_start judged is rest =
-      let m : IsMeant shape (Many n items) = meant_of laws funs rs.functions known shape (Many n items) plain judged in
       ap (λ (o : Option Scalar). elim o [
         | None ↦ elim (shape_meant shape) [
           | None ↦ Some at
           | Some u ↦ left_out_list_start rs.functions names u start or_else left_out_vars rs (local_of text u 0 ∷ names) vars inside
         ]
         | Some u ↦ left_out_start rs.functions names start or_else left_out_vars rs (local text u 0 ∷ names) vars inside
-      ]) (many_meant_so shape n items m.meant)
+      ]) (many_seen shape known n items plain judged)
       ∙ ap (λ (o : Option Shape). elim o [
         | None ↦ Some at
         | Some u ↦ left_out_list_start rs.functions names u start or_else left_out_vars rs (local_of text u 0 ∷ names) vars inside
-      ]) m.meant
-      ∙ none_both (left_out_list_start rs.functions names (Many n items) start) (left_out_vars rs (local_of text (Many n items) 0 ∷ names) vars inside) (list_start laws funs rs.functions known names (Many n items) start r (called start calls) plain_start is) rest
+      ]) (type_seen shape known (Many n items) plain judged).0
+      ∙ none_both (left_out_list_start rs.functions names (Many n items) start) (left_out_vars rs (local_of text (Many n items) 0 ∷ names) vars inside) (list_start funs rs.functions known names (Many n items) start r (called start calls) plain_start is) rest
 
   vars_none : (vars : Tree) (known : Names) (names : List Name) (inside : List Name → Option ℕ) → AreReady funs known names → CallsAll funs procs rs vars → IsPlain vars → AreVars vars known → Behind vars known inside → left_out_vars rs names vars inside ≡ None
   vars_none tree.nil known names inside r calls plain are behind = behind names r
   vars_none (tree.cons (tree.var shape (tree.ident text place) start changes at) vars) known names inside r calls plain are behind =
-      let m : IsMeant shape are.0 = meant_of laws funs rs.functions known shape are.0 plain.0.0 are.1 in
       var_none shape start vars text at are.0 known names inside r calls.0.1 plain.0.0 plain.0.1 are.1 are.2
-      (vars_none vars (with_known (known_var text are.0 changes) known) (local_of text are.0 0 ∷ names) inside (ready_local funs known names (known_var text are.0 changes) are.0 0 m.typed refl r) calls.1 plain.1 are.3
+      (vars_none vars (with_known (known_var text are.0 changes) known) (local_of text are.0 0 ∷ names) inside (ready_local funs known names (known_var text are.0 changes) are.0 0 (type_seen shape known are.0 plain.0.0 are.1).1 refl r) calls.1 plain.1 are.3
       (behind_one shape vars text are.0 changes known inside are.1 behind))
   vars_none other known names inside r calls plain are behind = absurd are
 
@@ -123,21 +123,21 @@ module _ (laws : Laws) (funs : List Fun) (procs : List Proc) (rs : Routines) whe
       let inside : kind_inside (kind_of_type s.name.shape) ks ≡ Some k = subst (λ (l : Kind). kind_inside l ks ≡ Some k) (sym s.kind) may.inside in
       let p : IsPartOf s.name.shape places k = part_of s.name.shape places known ks k are inside in
       set_none rs.functions names text s.name.text cell.0 s.name.shape p.shape places value at stands s.typed p.is
-      (none_of_places laws funs rs.functions known names places ks r (called places calls) plain are (all_numbers (kind_of_type s.name.shape) ks k inside))
-      (subst (λ (l : Kind). NoneOf rs.functions names value l) (sym p.kind) (none_of laws funs rs.functions known names value k r (called value calls_value) plain_value is))
+      (none_of_places funs rs.functions known names places ks r (called places calls) plain are (all_numbers (kind_of_type s.name.shape) ks k inside))
+      (subst (λ (l : Kind). NoneOf rs.functions names value l) (sym p.kind) (none_of funs rs.functions known names value k r (called value calls_value) plain_value is))
 
   -- ---- statements
 
   truth_none : (known : Names) (names : List Name) (e : Tree) → AreReady funs known names → CallsAll funs procs rs e → IsPlain e → kind e known ≡ Fine BoolKind → left_out_in rs.functions names e ≡ None
-  truth_none known names e r calls plain is = none_of_one laws funs rs.functions known names e scalar.Bool r (called e calls) plain is
+  truth_none known names e r calls plain is = none_of_one funs rs.functions known names e scalar.Bool r (called e calls) plain is
 
   number_none : (known : Names) (names : List Name) (e : Tree) → AreReady funs known names → CallsAll funs procs rs e → IsPlain e → kind e known ≡ Fine NumKind → left_out_in rs.functions names e ≡ None
-  number_none known names e r calls plain is = none_of_one laws funs rs.functions known names e (scalar.Int 32) r (called e calls) plain is
+  number_none known names e r calls plain is = none_of_one funs rs.functions known names e (scalar.Int 32) r (called e calls) plain is
 
   call_none : (known : Names) (names : List Name) (text : List ℕ) (args : Tree) (at : ℕ) (p : Proc) → AreReady funs known names → CallsAll funs procs rs args → IsPlain args → IsRoutineOfProc rs.procedures text p → arguments_fit args p.formals known ≡ Fine true
       → elim (procedure_for text (number_of args) rs.procedures) [ None ↦ Some at | Some g ↦ left_out_args rs.functions names args ] ≡ None
   call_none known names text args at p r calls plain f fit =
-      let found = none_of_arguments laws funs rs.functions known names args p.formals r (called args calls) plain fit f.formals in
+      let found = none_of_arguments funs rs.functions known names args p.formals r (called args calls) plain fit f.formals in
       ap (λ (o : Option Procedure). elim o [ None ↦ Some at | Some g ↦ left_out_args rs.functions names args ]) (found_proc rs.procedures text (number_of args) f.routine f.found (f.as_many ∙ sym found.1))
       ∙ found.0
 
@@ -155,14 +155,13 @@ module _ (laws : Laws) (funs : List Fun) (procs : List Proc) (rs : Routines) whe
     stmt_none (tree.foreach_stmt shape (tree.ident text place) from to body at) known names r calls plain is =
         let c : IsCount is.0 = count_of is.0 (begins shape) is.2 in
         let judged : type_judged shape known ≡ Fine (Single c.scalar) = is.1 ∙ ap (λ (t : Shape). Fine t) c.is in
-        let m : IsMeant shape (Single c.scalar) = meant_of laws funs rs.functions known shape (Single c.scalar) plain.0 judged in
         ap (λ (o : Option Scalar). elim o [
           | None ↦ Some at
           | Some t ↦ left_out_in rs.functions names from or_else (left_out_in rs.functions names to or_else left_out_all rs (local text t 0 ∷ names) body)
-        ]) (laws.scalars known shape c.scalar plain.0 judged)
+        ]) (scalar_seen shape known c.scalar plain.0 judged).0
         ∙ none_both (left_out_in rs.functions names from) (left_out_in rs.functions names to or_else left_out_all rs (local text c.scalar 0 ∷ names) body) (number_none known names from r calls.1 plain.1 is.3)
         (none_both (left_out_in rs.functions names to) (left_out_all rs (local text c.scalar 0 ∷ names) body) (number_none known names to r calls.2 plain.2 is.4)
-        (all_none body (with_known (counter text) known) (local text c.scalar 0 ∷ names) (ready_local funs known names (counter text) (Single c.scalar) 0 m.typed c.number r) calls.3 plain.3 is.5))
+        (all_none body (with_known (counter text) known) (local text c.scalar 0 ∷ names) (ready_local funs known names (counter text) (Single c.scalar) 0 (scalar_seen shape known c.scalar plain.0 judged).1 c.number r) calls.3 plain.3 is.5))
     stmt_none (tree.block vars body at) known names r calls plain is =
         vars_none vars known names (λ inner. left_out_all rs inner body) r calls.0 plain.0 is.0
         (λ inner ready. all_none body (with_vars_known vars known) inner ready calls.1 plain.1 is.2)

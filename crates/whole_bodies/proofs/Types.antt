@@ -8,7 +8,6 @@ use Rattle.rvc_base.specs.Storing.{IsSize}
 use Rattle.rvc_base.specs.Width.{max_size}
 use Rattle.cal_model.specs.Value.{Kind, NumKind, BoolKind, ListKind, Shape, Single, Many, IsType, kind_of_scalar, kind_of_type, max_list_scalars, scalars_of_type}
 use Rattle.expr_lower.specs.Growing.{one, ◌or_else◌}
-use Rattle.expr_lower.specs.Parted.{sized}
 use Rattle.expr_lower.specs.Types.{is_size, numbers_of_items, type_size}
 use Rattle.whole_forms.specs.Lowerable.{IsLike}
 
@@ -27,39 +26,15 @@ none_second (Some a) y e = cc
 
 -- ---- kinds
 
-pub like_one : (t : Scalar) → IsLike one (kind_of_scalar t)
-like_one scalar.Bool = tt
-like_one (scalar.Int n) = tt
-like_one (scalar.Uint n) = tt
-
-pub like_own : (t : Shape) → IsLike t (kind_of_type t)
-like_own (Single scalar.Bool) = tt
-like_own (Single (scalar.Int n)) = tt
-like_own (Single (scalar.Uint n)) = tt
-like_own (Many n items) = (refl, like_own items)
-
--- single values alone are of a single kind
-pub single_of_kind : (t : Shape) (s : Scalar) → kind_of_type t ≡ kind_of_scalar s → (u : Scalar) × (t ≡ Single u)
-single_of_kind (Single u) s e = (u, refl)
-single_of_kind (Many n items) scalar.Bool e = cc
-single_of_kind (Many n items) (scalar.Int m) e = cc
-single_of_kind (Many n items) (scalar.Uint m) e = cc
+pub one_like : (t : Scalar) → IsLike one (kind_of_scalar t)
+one_like scalar.Bool = tt
+one_like (scalar.Int n) = tt
+one_like (scalar.Uint n) = tt
 
 -- ---- sizes
 
 within : (a b c d : ℕ) → a ≤ b → c ≤ d → (nat_le a b && nat_le c d) ≡ true
 within a b c d p q = grind (arith, nat_tests)
-
-below : (n m : ℕ) → n < m → nat_lt n m ≡ true
-below n m p = grind (arith, nat_tests)
-
-pub sized_of_type : (t : Shape) → IsType t → sized t ≡ Some (scalars_of_type t)
-sized_of_type (Single s) h = refl
-sized_of_type (Many n items) h =
-    let few : scalars_of_type (Many n items) ≤ 16384 = h.1 in
-    let low : n * scalars_of_type items < 2 ^ 32 = omega (arith, few) in
-    ap (λ (o : Option ℕ). elim o [ None ↦ None | Some k ↦ if nat_lt (n * k) (2 ^ 32) then Some (n * k) else None ]) (sized_of_type items h.2)
-    ∙ ap (λ b. if b then Some (n * scalars_of_type items) else None) (below (n * scalars_of_type items) (2 ^ 32) low)
 
 size_is : (t : Scalar) → IsSize t → is_size t ≡ true
 size_is scalar.Bool h = refl

@@ -1,7 +1,6 @@
 -- Expressions whose names and functions the code has, and whose sizes and bounds are written out.
 -- Trusted: part of what a promise means.
-use Rattle.std.specs.Prelude.{◌≡◌, ℕ, List, length, Option, None, Some}
-use Rattle.cal_ast.specs.Tree as tree
+use Rattle.std.specs.Prelude.{◌≡◌, ℕ, List, length, Some}
 use Rattle.cal_ast.specs.Tree.{Tree}
 use Rattle.cal_model.specs.Value.{Kind, NumKind, BoolKind, ListKind, Shape, Single, Many, IsType, kind_of_type}
 use Rattle.cal_model.specs.Actor.{Fun}
@@ -46,7 +45,7 @@ AreSeen known names = (text : List ℕ) (x : Known) → meant_by text known ≡ 
 
 -- ---- functions
 
--- a function is called by its routine, with as many formals, which are single values, and a result of its type
+-- a function has a routine, with as many formals, which are single values, and a result of its type
 pub record IsRoutineOf (fs : List Function) (text : List ℕ) (fun : Fun) : Type 0 where
   pub routine : Function
   pub found : function_named text fs ≡ Some routine
@@ -54,7 +53,7 @@ pub record IsRoutineOf (fs : List Function) (text : List ℕ) (fun : Fun) : Type
   pub as_many : length routine.formals ≡ length fun.formals
   pub result : routine.result ≡ fun.result
 
--- a function of this name has one
+-- .. if there is a function of this name
 abbrev pub HasRoutine : List Fun → List Function → List ℕ → Type 0
 HasRoutine funs fs text = (fun : Fun) → fun_named text funs ≡ Some fun → IsRoutineOf fs text fun
 
@@ -67,6 +66,6 @@ CallsRoutines funs fs e = EachCall (HasRoutine funs fs) (λ text. Unit {0}) e
 -- an expression of which code can be made
 pub record IsLowerable (known : Names) (fs : List Function) (names : List Name) (e : Tree) :
     Type 0 where
-  pub names : AreSeen known names
+  pub seen : AreSeen known names
   pub calls : CallsRoutines known.funs fs e
   pub plain : IsPlain e

@@ -1,6 +1,6 @@
 -- Nothing is left out of an expression that has a kind.
 -- Trusted: part of what a promise means.
-use Rattle.std.specs.Prelude.{◌≡◌, ℕ, List, length, true, Option, None, Some}
+use Rattle.std.specs.Prelude.{◌≡◌, List, length, true, None, Some}
 use Rattle.rvc_base.specs.declared.scalar.Scalar.{Scalar}
 use Rattle.cal_ast.specs.Tree.{Tree}
 use Rattle.cal_model.specs.Value.{Kind, BoolKind, Shape, Single}

@@ -27,13 +27,13 @@ use Rattle.expr_lower.specs.Growing.{IsFault, left_out_in}
 use Rattle.expr_lower.specs.Parted.{number_of, sized}
 use Rattle.list_lower.specs.declared.lists.Target.{Target}
 use Rattle.list_lower.specs.CounterView.{counter_view, gens_of}
-use Rattle.list_lower.specs.FillWords.{BeginsAt, left_out_elements, left_out_some}
+use Rattle.list_lower.specs.FillWords.{BeginsAt, left_out_elements}
 use Rattle.list_lower.specs.Reserving.{HasMore}
 use Rattle.list_lower.specs.Filling.{AreFills, IsFill, in_parens, one_cell}
 use Rattle.expr_lower.specs.Generators.{how_many}
 use Rattle.list_lower.specs.LeftOut.{left_out_element, left_out_fill, left_out_fills, left_out_gens, left_out_many}
 use Rattle.list_lower.proofs.Adding.{all_count, choice_adds, comp_adds, each_adds, items_add, list_element_adds, more_add, none_add, nothing_adds, one_many, one_adds, part_adds}
-use Rattle.list_lower.proofs.Erased.{each_left, index_left, many_left, many_not, none_left, not_none_left, some_left}
+use Rattle.list_lower.proofs.Erased.{each_left, index_left, many_left, many_not}
 use Rattle.list_lower.proofs.Weights.{weight}
 use Rattle.expr_lower.proofs.Coded.{grows_test}
 use Rattle.list_lower.proofs.Filled.{grows_fill}
