@@ -11,8 +11,7 @@ use Rattle.expr_lower.specs.Growing.{left_out_in}
 use Rattle.expr_lower.specs.Names.{Name, local}
 use Rattle.expr_lower.proofs.Erased.{element_same, erase, gens_erased, inside_gens, out_erased}
 pub use Rattle.expr_lower.proofs.Erased.{fill_erased, fills_erased}
-use Rattle.expr_lower.specs.Generators.{Counted, counted_by, how_many, makes_none}
-use Rattle.list_lower.specs.FillWords.{has_no_items}
+use Rattle.expr_lower.specs.Generators.{Counted, counted_by}
 use Rattle.list_lower.specs.LeftOut.{left_out_element, left_out_fill, left_out_gens, left_out_many, left_out_part}
 
 -- in any cell the variable of a generator leaves out the same
@@ -43,28 +42,6 @@ pub many_not : (n k at : ℕ) (items : Shape) (f : Shape → Option ℕ) → k �
 many_not n k at items f other =
     let differ : nat_eq k n ≡ false = grind (arith, nat_tests, other) in
     ap (λ b. if b then f items else Some at) differ
-
--- nothing is left out of a comprehension that makes no element, where a list without items is meant
-pub none_left : (fs : List Function) (names : List Name) (t : Shape) (item gens : Tree) (at : ℕ) → makes_none gens ≡ true → has_no_items t ≡ true → left_out_fill fs names t (tree.comp item gens at) ≡ None
-none_left fs names (Single s) item gens at e h = cc
-none_left fs names (Many n items) item gens at e h =
-    let f : Shape → Option ℕ = λ items. left_out_gens names gens (λ inner. left_out_element items (left_out_in fs inner item) (left_out_fill fs inner items item)) in
-    ap (λ b. left_out_many (Many n items) at (if b then Some 0 else how_many gens) (λ items. if b then None else f items)) e
-    ∙ ap (λ b. if b then None else Some at) (let same : nat_eq 0 n ≡ true = grind (arith, nat_tests, h) in same)
-
-pub not_none_left : (fs : List Function) (names : List Name) (t : Shape) (item gens : Tree) (at : ℕ) → makes_none gens ≡ true → has_no_items t ≡ false → left_out_fill fs names t (tree.comp item gens at) ≡ Some at
-not_none_left fs names (Single s) item gens at e h = refl
-not_none_left fs names (Many n items) item gens at e h =
-    let f : Shape → Option ℕ = λ items. left_out_gens names gens (λ inner. left_out_element items (left_out_in fs inner item) (left_out_fill fs inner items item)) in
-    ap (λ b. left_out_many (Many n items) at (if b then Some 0 else how_many gens) (λ items. if b then None else f items)) e
-    ∙ ap (λ b. if b then None else Some at) (let differ : nat_eq 0 n ≡ false = grind (arith, nat_tests, h) in differ)
-
--- .. and of one that makes some what is left out of them
-pub some_left : (fs : List Function) (names : List Name) (t : Shape) (item gens : Tree) (at : ℕ) → makes_none gens ≡ false
-    → left_out_many t at (how_many gens) (λ items. left_out_gens names gens (λ inner. left_out_element items (left_out_in fs inner item) (left_out_fill fs inner items item))) ≡ left_out_fill fs names t (tree.comp item gens at)
-some_left fs names t item gens at e =
-    let f : Shape → Option ℕ = λ items. left_out_gens names gens (λ inner. left_out_element items (left_out_in fs inner item) (left_out_fill fs inner items item)) in
-    sym (ap (λ b. left_out_many t at (if b then Some 0 else how_many gens) (λ items. if b then None else f items)) e)
 
 -- what is left out of an index, where a list is meant
 pub index_left : (fs : List Function) (names : List Name) (t items : Shape) (n : ℕ) (base place : Tree) (at : ℕ) → t ≡ Many n items

@@ -1,5 +1,5 @@
 -- A list of a kind is seen to have the items of that kind.
-use Rattle.std.proofs.Common.{◌≡◌, ℕ, zero, suc, ◌+◌, ◌-◌, ◌<◌, ◌≤◌, ◌^◌, Bool, true, false, List, [], ◌∷◌, length, max, refl, sym, ap, ◌∙◌, subst, Option, None, Some, arith}
+use Rattle.std.proofs.Common.{◌≡◌, ℕ, zero, suc, ◌-◌, ◌<◌, ◌≤◌, ◌^◌, true, false, List, [], ◌∷◌, length, sym, ap, ◌∙◌, subst, Option, None, Some, arith}
 use Rattle.std.specs.Prelude.{if◌then◌else◌, nat_eq, nat_lt}
 use Rattle.std.proofs.lemmas.Bool.Decides.{nat_tests}
 use Rattle.rvc_base.specs.declared.scalar.Scalar.{Scalar}
@@ -8,17 +8,17 @@ use Rattle.rvc_base.specs.Rules.{wrong_kind}
 use Rattle.cal_ast.specs.Tree as tree
 use Rattle.cal_ast.specs.Tree.{Tree}
 use Rattle.cal_model.specs.Value.{Kind, NumKind, BoolKind, ListKind, Shape, Single, Many, kind_of_scalar, kind_of_type, max_list_scalars}
-use Rattle.cal_model.specs.Kinding.{Fine, Known, Names, arguments_fit, branch_kind, elements_in, item_kind, kind, kinds, list_kind, list_of_kind, meant_by, prefix_kind, binary_kind, with_counters}
+use Rattle.cal_model.specs.Kinding.{Fine, Names, arguments_fit, elements_in, kind, kinds, meant_by, with_counters}
 use Rattle.cal_model.specs.Call.{fun_named}
 use Rattle.cal_model.specs.Sound.{IsPlain}
 use Rattle.cal_model.proofs.KindValues.{fine-is, list-of-kind, not-fine, split, tested}
 use Rattle.expr_lower.specs.ItemsSeen.{few, first_seen, items_at, items_listed, items_made, items_seen}
 use Rattle.expr_lower.specs.Generators.{made_by}
 use Rattle.expr_lower.specs.Names.{Name}
-use Rattle.expr_lower.specs.Parted.{Part, number_of, part_named}
+use Rattle.expr_lower.specs.Parted.{Part, number_of}
 use Rattle.whole_forms.specs.Lowerable.{IsSeen}
 use Rattle.whole_forms.proofs.Like.{IsOne, list_few}
-use Rattle.whole_forms.proofs.Made.{Made, made_by_is, made_seen}
+use Rattle.whole_forms.proofs.Made.{made_by_is, made_seen}
 use Rattle.whole_forms.proofs.Ones.{IsItem, IsListed, binary_one, branch_parts, called, item_parts, known_kind, listed_kinds, prefix_one}
 use Rattle.whole_forms.proofs.SeenNames.{IsListKind, ListsSeen, lists_counters, whole_seen}
 

@@ -1,13 +1,13 @@
 -- A worked case: an item of a list meets all that the laws ask.
-use Rattle.std.proofs.Common.{◌≡◌, ℕ, List, [], ◌∷◌, codes, false, refl, Option, None, Some, arith}
+use Rattle.std.proofs.Common.{◌≡◌, List, [], ◌∷◌, codes, false, refl, Option, None, Some, arith}
 use Rattle.rvc_base.specs.declared.scalar.Scalar.TheVariants as scalar
 use Rattle.cal_ast.specs.Tree as tree
 use Rattle.cal_ast.specs.Tree.{Tree}
 use Rattle.cal_model.specs.Value.{NumKind, ListKind, Shape, Single, Many}
-use Rattle.cal_model.specs.Kinding.{Fine, Known, Names, kind, meant_by, with_known}
+use Rattle.cal_model.specs.Kinding.{Fine, Known, Names, kind, with_known}
 use Rattle.expr_lower.specs.Growing.{left_out_in, one}
 use Rattle.expr_lower.specs.Names.{Name, local_of}
-use Rattle.whole_forms.specs.Lowerable.{AreSeen, IsLowerable, IsSeen}
+use Rattle.whole_forms.specs.Lowerable.{AreSeen, IsLowerable}
 use Rattle.whole_forms.proofs.SeenNames.{seen_more}
 use Rattle.whole_forms.proofs.Whole.{filled}
 

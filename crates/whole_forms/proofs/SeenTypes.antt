@@ -17,7 +17,7 @@ use Rattle.cal_model.specs.Sound.{IsPlain}
 use Rattle.cal_model.proofs.KindValues.{both, fine-is, not-fine, split, tested}
 use Rattle.expr_lower.specs.Bounds.{bound_of}
 use Rattle.expr_lower.specs.Meant.{only_size, single_in, single_meant, size_of, size_written}
-use Rattle.list_lower.specs.ShapeMeant.{items_of_type, list_of_each, many_meant, shape_meant}
+use Rattle.list_lower.specs.ShapeMeant.{items_of_type, list_of_each, list_sized, many_meant, shape_meant}
 use Rattle.whole_forms.proofs.Like.{few_items, sized_type}
 use Rattle.whole_forms.proofs.WrittenOut.{constant_bound}
 
@@ -104,7 +104,21 @@ numbers_seen f (OfSize w z ∷ []) args p at t sizes d h =
 numbers_seen f (OfSize w z ∷ a ∷ g) args p at t sizes d h = absurd (not-fine _ at t h)
 numbers_seen f (OfShape w u ∷ g) args p at t sizes d h = absurd (not-fine _ at t h)
 
--- so many items of a type
+all_three : (a b c : Bool) → a ≡ true → b ≡ true → c ≡ true → (a && b) && c ≡ true
+all_three a b c p q r = ap (λ x. (x && b) && c) p ∙ ap (λ x. x && c) q ∙ r
+
+-- so many items of a type, if that is allowed
+meant_list : (n : ℕ) (u : Shape) → IsType (Many n u) → list_sized n u ≡ Some (Many n u)
+meant_list n u typed =
+    let some : 1 ≤ n = typed.0 in
+    let low : n * scalars_of_type u ≤ max_list_scalars = typed.1 in
+    let few : n ≤ max_list_scalars = few_items n u typed in
+    let one : nat_le 1 n ≡ true = grind (arith, nat_tests, some) in
+    let two : nat_le n max_list_scalars ≡ true = grind (arith, nat_tests, few) in
+    let three : nat_le (n * scalars_of_type u) max_list_scalars ≡ true = grind (arith, nat_tests, low) in
+    ap (λ (x : Option ℕ). elim x [ None ↦ None | Some each ↦ list_of_each n u each ]) (sized_type u typed.2)
+    ∙ ap (λ b. if b then Some (Many n u) else None) (all_three (nat_le 1 n) (nat_le n max_list_scalars) (nat_le (n * scalars_of_type u) max_list_scalars) one two three)
+
 list_seen : (u : Shape) (z : ℤ) (at : ℕ) (t : Shape) (o : Option Scalar) (p : Option Shape) → list_type_of u z at ≡ Fine t → IsType u → o ≡ None → p ≡ many_meant (size_of (Some z)) (Some u) → IsSeenAs o p t
 list_seen u (pos zero) at t o p h typed e f = absurd (not-fine _ at t h)
 list_seen u (negsuc n) at t o p h typed e f = absurd (not-fine _ at t h)
@@ -112,20 +126,7 @@ list_seen u (pos (suc n)) at t o p h typed e f =
     let test = tested (nat_le (scalars_of_type (Many (suc n) u)) max_list_scalars) (Fine (Many (suc n) u)) _ at t h in
     let low : nat_le (suc n * scalars_of_type u) max_list_scalars ≡ true = test.0 in
     let all : IsType (Many (suc n) u) = (omega arith, grind (arith, nat_tests, low), typed) in
-    let few : suc n ≤ max_list_scalars = few_items (suc n) u all in
-    let one : nat_le 1 (suc n) ≡ true = grind (arith, nat_tests) in
-    let two : nat_le (suc n) max_list_scalars ≡ true = grind (arith, nat_tests, few) in
-    subst (IsSeenAs o p) (fine-is (Many (suc n) u) t test.1) (
-      (
-        e,
-        f
-            ∙ ap (λ (x : Option ℕ). elim x [ None ↦ None | Some each ↦ list_of_each (suc n) u each ]) (sized_type u typed)
-            ∙ ap (λ b. if (b && nat_le (suc n) max_list_scalars) && nat_le (suc n * scalars_of_type u) max_list_scalars then Some (Many (suc n) u) else None) one
-            ∙ ap (λ b. if b && nat_le (suc n * scalars_of_type u) max_list_scalars then Some (Many (suc n) u) else None) two
-            ∙ ap (λ b. if b then Some (Many (suc n) u) else None) low,
-      ),
-      all,
-    )
+    subst (IsSeenAs o p) (fine-is (Many (suc n) u) t test.1) ((e, f ∙ meant_list (suc n) u all), all)
 
 lists_seen : (g : List Argument) (args : Tree) (at : ℕ) (t : Shape) (f : Option ℕ → Option Scalar) → AreGiven g args → list_type g at ≡ Fine t
     → IsSeenAs (elim (size_written args) [ None ↦ None | Some size ↦ f size ]) (items_of_type args) t

@@ -1,5 +1,5 @@
 -- An expression of the kind of truth values is seen to give one, and one of a single kind a single value.
-use Rattle.std.proofs.Common.{◌≡◌, ℕ, zero, suc, ◌+◌, ◌-◌, ◌<◌, ◌^◌, Bool, true, false, List, [], ◌∷◌, length, max, refl, sym, ap, ◌∙◌, subst, Option, None, Some, arith}
+use Rattle.std.proofs.Common.{◌≡◌, ℕ, zero, suc, ◌-◌, Bool, true, false, List, [], ◌∷◌, length, refl, sym, ap, ◌∙◌, subst, Option, None, Some}
 use Rattle.std.specs.Prelude.{◌&&◌, ◌||◌, if◌then◌else◌}
 use Rattle.rvc_base.specs.declared.scalar.Scalar.{Scalar}
 use Rattle.rvc_base.specs.declared.scalar.Scalar.TheVariants as scalar
@@ -12,16 +12,16 @@ use Rattle.cal_ast.specs.Tree.{Tree}
 use Rattle.cal_model.specs.Value.{Kind, NumKind, BoolKind, ListKind, Shape, Single, Many, kind_of_scalar, kind_of_type}
 use Rattle.cal_model.specs.Actor.{Fun, Local}
 use Rattle.cal_model.specs.Call.{fun_named}
-use Rattle.cal_model.specs.Kinding.{Fine, Known, Names, arguments_fit, binary_kind, elements_in, kind, kinds, meant_by, one_kind, prefix_kind, with_counters}
+use Rattle.cal_model.specs.Kinding.{Fine, Names, arguments_fit, binary_kind, elements_in, kind, kinds, meant_by, one_kind, prefix_kind, with_counters}
 use Rattle.cal_model.specs.Sound.{AreAll, Each, EachCall, IsFormal, IsPlain}
 use Rattle.cal_model.proofs.KindValues.{fine-is, list-of-kind, not-fine, one-kind, split, tested}
 use Rattle.expr_lower.specs.declared.sorts.Sort.{Sort}
 use Rattle.expr_lower.specs.declared.sorts.Sort.TheVariants as sort
-use Rattle.expr_lower.specs.Callees.{Function, function_for, function_named}
+use Rattle.expr_lower.specs.Callees.{Function, function_for}
 use Rattle.expr_lower.specs.Generators.{makes_none}
-use Rattle.expr_lower.specs.Names.{Name, named}
+use Rattle.expr_lower.specs.Names.{Name}
 use Rattle.expr_lower.specs.Parted.{number_of}
-use Rattle.expr_lower.specs.Truths.{all_give, binary_gives, call_gives, gives_at, is_any, is_of_sort, is_truth_binary, is_truth_prefix, name_gives, prefix_gives, shape_gives, under_gens, with_none, with_one}
+use Rattle.expr_lower.specs.Truths.{all_give, binary_gives, call_gives, gives_at, is_any, is_of_sort, is_truth_binary, name_gives, prefix_gives, shape_gives, under_gens, with_none, with_one}
 use Rattle.expr_lower.proofs.Finding.{found_for}
 use Rattle.whole_forms.specs.Lowerable.{AreSeen, HasRoutine, IsRoutineOf, IsSeen}
 use Rattle.whole_forms.proofs.ItemsAre.{not_zero, one_less}

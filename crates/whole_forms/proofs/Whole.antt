@@ -1,5 +1,5 @@
 -- Nothing is left out of an expression that has a kind.
-use Rattle.std.proofs.Common.{◌≡◌, ℕ, zero, suc, ◌+◌, ◌*◌, ◌<◌, ◌≤◌, ◌^◌, Bool, true, false, not, List, [], ◌∷◌, length, max, refl, sym, ap, ◌∙◌, subst, Option, None, Some, arith}
+use Rattle.std.proofs.Common.{◌≡◌, ℕ, Bool, true, false, not, List, [], ◌∷◌, length, refl, sym, ap, ◌∙◌, subst, Option, None, Some, arith}
 use Rattle.std.specs.Prelude.{◌&&◌, if◌then◌else◌, nat_eq}
 use Rattle.std.proofs.lemmas.Bool.Decides.{nat_tests}
 use Rattle.rvc_base.specs.declared.scalar.Scalar.{Scalar}
@@ -8,7 +8,7 @@ use Rattle.rvc_base.specs.Rules.{wrong_kind}
 use Rattle.cal_ast.specs.Places.{begins}
 use Rattle.cal_ast.specs.Tree as tree
 use Rattle.cal_ast.specs.Tree.{Tree}
-use Rattle.cal_model.specs.Value.{Kind, NumKind, BoolKind, ListKind, Shape, Single, Many, kind_of_scalar, kind_of_type, scalars_of_kind}
+use Rattle.cal_model.specs.Value.{Kind, NumKind, BoolKind, ListKind, Shape, Single, Many, kind_of_type, scalars_of_kind}
 use Rattle.cal_model.specs.Actor.{Fun, Local}
 use Rattle.cal_model.specs.Kinding.{Fine, Known, Names, arguments_fit, elements_in, kind, kinds, meant_by, one_kind, with_counters}
 use Rattle.cal_model.specs.Sound.{AreAll, Each, EachCall, IsFormal, IsPlain}
@@ -17,16 +17,16 @@ use Rattle.expr_lower.specs.declared.names.ItemList.{ItemList}
 use Rattle.expr_lower.specs.declared.sorts.Sort.TheVariants as sort
 use Rattle.expr_lower.specs.Callees.{Function, function_for}
 use Rattle.expr_lower.specs.Generators.{made_by, makes_none}
-use Rattle.expr_lower.specs.Growing.{◌or_else◌, first_cell, is_short, left_out_apart, left_out_args, left_out_element, left_out_fill, left_out_fills, left_out_gens, left_out_made, left_out_many, left_out_name, left_out_named, left_out_places, one, where_one}
+use Rattle.expr_lower.specs.Growing.{◌or_else◌, first_cell, is_short, left_out_apart, left_out_args, left_out_element, left_out_fill, left_out_fills, left_out_gens, left_out_made, left_out_many, left_out_name, left_out_named, left_out_places, one}
 use Rattle.expr_lower.specs.ItemsSeen.{items_seen}
 use Rattle.expr_lower.specs.Listed.{list_named}
-use Rattle.expr_lower.specs.Names.{Name, named}
-use Rattle.expr_lower.specs.Parted.{Part, alike, deep_named, number_of, part_at, part_named, sized}
+use Rattle.expr_lower.specs.Names.{Name}
+use Rattle.expr_lower.specs.Parted.{Part, alike, deep_named, number_of, part_named, sized}
 use Rattle.expr_lower.specs.Truths.{is_truth}
 use Rattle.whole_forms.specs.Lowerable.{AreSeen, HasRoutine, IsLike, IsSeen}
 use Rattle.whole_forms.proofs.ItemsAre.{HasItems, items_are, kinds_count}
-use Rattle.whole_forms.proofs.Like.{IsOne, IsWithin, both_alike, like_kind, like_one, list_few, one_like, one_scalar, sized_like, where_none}
-use Rattle.whole_forms.proofs.Made.{IsInside, Made, inside_gens, made_by_is, made_seen}
+use Rattle.whole_forms.proofs.Like.{IsOne, both_alike, like_kind, like_one, list_few, one_like, one_scalar, sized_like, where_none}
+use Rattle.whole_forms.proofs.Made.{IsInside, inside_gens, made_by_is, made_seen}
 use Rattle.whole_forms.proofs.Ones.{IsItem, IsListed, binary_one, branch_parts, item_parts, known_kind, listed_kinds, not_both, prefix_one, short_left}
 use Rattle.whole_forms.proofs.Parts.{IsPartMeant, part_meant}
 use Rattle.whole_forms.proofs.SeenNames.{IsListKind, funs_counters, known_within, lists_seen, whole_seen}
@@ -184,9 +184,9 @@ module _ (funs : List Fun) (fs : List Function) (Q : List ℕ → Type 0) where
         let y = split (kind r known) _ k x.2 in
         let ones = binary_one op x.0 y.0 k at y.2 in
         let test : is_short op && not (is_truth fs names l) ≡ false =
-            not_both (is_short op) (is_truth fs names l)
-            (λ short. sorted funs fs Q l known names x.0 sort.Truths 0 seen same calls.0 x.1 plain.0
-            (subst (λ j. SortAt j sort.Truths 0) (sym (short_left op x.0 y.0 k at short y.2)) tt)) in
+        not_both (is_short op) (is_truth fs names l)
+        (λ short. sorted funs fs Q l known names x.0 sort.Truths 0 seen same calls.0 x.1 plain.0
+        (subst (λ j. SortAt j sort.Truths 0) (sym (short_left op x.0 y.0 k at short y.2)) tt)) in
         where_none t k at (if is_short op && not (is_truth fs names l) then Some at else left_out_fill fs names one l or_else left_out_fill fs names one r) ones.2 like
         (ap (λ b. if b then Some at else left_out_fill fs names one l or_else left_out_fill fs names one r) test
         ∙ neither (left_out_fill fs names one l) (left_out_fill fs names one r)

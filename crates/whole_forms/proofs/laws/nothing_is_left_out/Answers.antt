@@ -13,5 +13,6 @@ returns-clause-each c = λ known fs names es ks k t may of all like.
 
 pub returns-clause-arguments : goal.returns-clause-arguments
 returns-clause-arguments c = λ known fs names args formals may fit each. (
-    args_filled known.funs fs (λ text. Unit {0}) args known names formals may.seen refl may.calls fit each may.plain,
-    fit_count args known formals fit)
+  args_filled known.funs fs (λ text. Unit {0}) args known names formals may.seen refl may.calls fit each may.plain,
+  fit_count args known formals fit,
+)
