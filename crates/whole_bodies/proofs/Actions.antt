@@ -65,7 +65,7 @@ module _ (actor : Actor) (rs : Routines) (have : AllHaveRoutines actor rs) where
 
   sent_none : (values : List Expr) (t : Scalar) (repeat : Option ℕ) (found : List Kind) (known : Names) (names : List Name) → AreReady actor.funs known names → kinds (listed (map expr_tree values)) known ≡ Fine found → AreAll (kind_of_tokens t repeat) found
       → IsPlain (listed (map expr_tree values))
-      → elim repeat [ None ↦ left_out_values rs.functions names (map expr_tree values) | Some times ↦ left_out_repeated rs.functions names times values ] ≡ None
+      → ◌≡◌ {A = Option ℕ} (elim repeat [ None ↦ left_out_values rs.functions names (map expr_tree values) | Some times ↦ left_out_repeated rs.functions names times values ]) None
   sent_none values t None found known names r are all plain =
       values_none rs.functions names (map expr_tree values)
       (none_of_each actor.funs rs.functions known names (listed (map expr_tree values)) found (kind_of_scalar t) one r (calls (listed (map expr_tree values))) plain are all (one_like t))
@@ -107,7 +107,7 @@ module _ (rs : Routines) (b : Bound) (a : ℕ) (sound : IsSound (actor_of b)) (h
   pub guards_of_none : left_out_action rs.functions (actor_of b) a ≡ None
   guards_of_none = go (slice_get (actor_of b).actions a) refl
     where
-      go : (o : Option Action) → slice_get (actor_of b).actions a ≡ o → elim o [ None ↦ None | Some act ↦ left_out_guards rs.functions (seen_seats (actor_of b) act) act.guards ] ≡ None
+      go : (o : Option Action) → slice_get (actor_of b).actions a ≡ o → ◌≡◌ {A = Option ℕ} (elim o [ None ↦ None | Some act ↦ left_out_guards rs.functions (seen_seats (actor_of b) act) act.guards ]) None
       go None is = refl
       go (Some act) is =
           let action : IsAction (actor_of b) act = action-at (actor_of b) (actor_of b).actions a act sound.actions is in
@@ -116,7 +116,7 @@ module _ (rs : Routines) (b : Bound) (a : ℕ) (sound : IsSound (actor_of b)) (h
   pub firing_of_none : left_out_of rs b a ≡ None
   firing_of_none = go (slice_get b.actions.items a) refl
     where
-      go : (o : Option BoundAction) → slice_get b.actions.items a ≡ o → elim o [ None ↦ None | Some act ↦ left_out_firing rs (seen_seats (actor_of b) (action_view act)) act ] ≡ None
+      go : (o : Option BoundAction) → slice_get b.actions.items a ≡ o → ◌≡◌ {A = Option ℕ} (elim o [ None ↦ None | Some act ↦ left_out_firing rs (seen_seats (actor_of b) (action_view act)) act ]) None
       go None is = refl
       go (Some act) is =
           let there : slice_get (actor_of b).actions a ≡ Some (action_view act) = slice_get-map action_view b.actions.items a ∙ ap (option_map action_view) is in

@@ -18,9 +18,8 @@ use Rattle.expr_lower.specs.Growing.{left_out_fill, left_out_fills, left_out_in,
 use Rattle.expr_lower.specs.Listed.{items_in, items_of, list_named}
 use Rattle.expr_lower.specs.Names.{Name, local_of, named}
 use Rattle.expr_lower.specs.Parted.{Part, alike, number_of, part_at, part_named, sized, whole_in, whole_of}
-use Rattle.stmt_lower.specs.declared.targets.ListCells.{ListCells}
 use Rattle.stmt_lower.specs.StmtGrowing.{left_out_chosen, left_out_copy, left_out_deep, left_out_each, left_out_filled, left_out_list, left_out_part, left_out_put, left_out_set, left_out_whole}
-use Rattle.stmt_lower.specs.Targets.{cell_of, cells_of, part_in}
+use Rattle.stmt_lower.specs.Targets.{cell_named, cell_of, cells_named, cells_of, part_in}
 use Rattle.whole_forms.specs.Lowerable.{IsLike}
 use Rattle.whole_forms.proofs.Like.{like_own, sized_type}
 use Rattle.whole_bodies.proofs.Types.{none_both, none_first, none_second, one_like}
@@ -28,6 +27,21 @@ use Rattle.whole_bodies.proofs.Types.{none_both, none_first, none_second, one_li
 -- nothing is left out of an expression, wherever a type of its kind is meant
 abbrev pub NoneOf : List Function → List Name → Tree → Kind → Type 0
 NoneOf fs names e k = (t : Shape) → IsLike t k → left_out_fill fs names t e ≡ None
+
+-- ---- the words of the definitions, of what was found
+
+abbrev part_in_name : Option Name → Option Part
+part_in_name o = elim o [ None ↦ None | Some x ↦ whole_of x ]
+
+abbrev list_in_name : Option Name → Option ItemList
+list_in_name o = elim o [ None ↦ None | Some x ↦ items_of x ]
+
+abbrev sized_part : Seat → Shape → Option ℕ → Option Part
+sized_part seat t o = elim o [ None ↦ None | Some k ↦ Some (part_at seat t k) ]
+
+-- the place of a name where a list of so many single values is meant, unless it is that of one
+abbrev unlike_at : ℕ → ℕ → Option Part → Option ℕ
+unlike_at n place o = elim o [ None ↦ Some place | Some p ↦ if alike (Many n one) p.shape then None else Some place ]
 
 -- ---- places
 
@@ -92,33 +106,31 @@ module _ (fs : List Function) (names : List Name) where
       go false is h = cc
 
   -- of a list that is named
-  copy_none : (c : ListCells) (n : ℕ) (from : List ℕ) (place at : ℕ) → c.size ≡ n → left_out_named_whole names (Many n one) from place ≡ None → left_out_copy c (list_named names (tree.variable from place)) at ≡ None
-  copy_none c n from place at size e = go (named from names) e
+  copy_none : (d n : ℕ) (s : Scalar) (from : List ℕ) (place at : ℕ) → left_out_named_whole names (Many n one) from place ≡ None → left_out_copy (record { cell = d; size = n; kind = s }) (list_named names (tree.variable from place)) at ≡ None
+  copy_none d n s from place at e = go (named from names) e
     where
       truly : (b : Bool) → (if b then None else Some place) ≡ None → b ≡ true
       truly true h = refl
       truly false h = cc
 
-      alike_there : (seat : Seat) (m : ℕ) (items : Shape) (o : Option ℕ)
-          → elim (elim o [ None ↦ None | Some k ↦ Some (part_at seat (Many m items) k) ]) [ None ↦ Some place | Some p ↦ if alike (Many n one) p.shape then None else Some place ] ≡ None
+      alike_there : (seat : Seat) (m : ℕ) (items : Shape) (o : Option ℕ) → unlike_at n place (sized_part seat (Many m items) o) ≡ None
           → alike (Many n one) (Many m items) ≡ true
       alike_there seat m items None h = cc
       alike_there seat m items (Some k) h = truly (alike (Many n one) (Many m items)) h
 
-      fits : (seat : Seat) (m : ℕ) (items : Shape) → alike (Many n one) (Many m items) ≡ true → left_out_copy c (items_in seat (Many m items)) at ≡ None
+      fits : (seat : Seat) (m : ℕ) (items : Shape) → alike (Many n one) (Many m items) ≡ true → left_out_copy (record { cell = d; size = n; kind = s }) (items_in seat (Many m items)) at ≡ None
       fits seat m (Single t) h =
           let first = both (nat_eq n m) true h in
           let test : nat_eq n m ≡ true = first.0 in
-          let same : nat_eq m c.size ≡ true = grind (arith, nat_tests, test, size) in
+          let same : nat_eq m n ≡ true = grind (arith, nat_tests, test) in
           ap (λ b. if b then None else Some at) same
       fits seat m (Many k items) h = let first = both (nat_eq n m) false h in cc (first.1)
 
-      shaped : (seat : Seat) (t : Shape) → elim (whole_in seat t) [ None ↦ Some place | Some p ↦ if alike (Many n one) p.shape then None else Some place ] ≡ None → left_out_copy c (items_in seat t) at ≡ None
+      shaped : (seat : Seat) (t : Shape) → unlike_at n place (whole_in seat t) ≡ None → left_out_copy (record { cell = d; size = n; kind = s }) (items_in seat t) at ≡ None
       shaped seat (Single t) h = cc
       shaped seat (Many m items) h = fits seat m items (alike_there seat m items (sized (Many m items)) h)
 
-      go : (o : Option Name) → elim (elim o [ None ↦ None | Some x ↦ whole_of x ]) [ None ↦ Some place | Some p ↦ if alike (Many n one) p.shape then None else Some place ] ≡ None
-          → left_out_copy c (elim o [ None ↦ None | Some x ↦ items_of x ]) at ≡ None
+      go : (o : Option Name) → unlike_at n place (part_in_name o) ≡ None → left_out_copy (record { cell = d; size = n; kind = s }) (list_in_name o) at ≡ None
       go None h = cc
       go (Some x) h = shaped x.seat x.shape h
 
@@ -129,11 +141,24 @@ module _ (fs : List Function) (names : List Name) where
     abbrev Named : Shape → Type 0
     Named t = named text names ≡ Some (local_of hidden t c)
 
+    cell_is : (t : Shape) → Named t → cell_named names text ≡ cell_of (Cell c) t
+    cell_is t is = ap (λ (o : Option Name). elim o [ None ↦ None | Some x ↦ cell_of x.seat x.shape ]) is
+
+    cells_are : (n : ℕ) (s : Scalar) → Named (Many n (Single s)) → cells_named names text ≡ Some (record { cell = c; size = n; kind = s })
+    cells_are n s is =
+        let listed : list_named names (tree.variable text 0) ≡ Some (record { seat = Cell c; size = n; kind = s }) = ap list_in_name is in
+        ap (λ (o : Option ItemList). elim o [ None ↦ None | Some l ↦ cells_of l ]) listed
+
+    no_cells : (n m : ℕ) (items : Shape) → Named (Many n (Many m items)) → cells_named names text ≡ None
+    no_cells n m items is =
+        let none : list_named names (tree.variable text 0) ≡ None = ap list_in_name is in
+        ap (λ (o : Option ItemList). elim o [ None ↦ None | Some l ↦ cells_of l ]) none
+
     -- all of it, filled apart
     filled_none : (n : ℕ) (items : Shape) (value : Tree) (at : ℕ) → Named (Many n items) → IsType (Many n items) → NoneOf fs names value (kind_of_type (Many n items)) → left_out_filled fs names text value at ≡ None
     filled_none n items value at is typed none =
-        ap (λ (o : Option Name). left_out_part fs names (elim o [ None ↦ None | Some x ↦ whole_of x ]) value at) is
-        ∙ ap (λ (o : Option ℕ). left_out_part fs names (elim o [ None ↦ None | Some k ↦ Some (part_at (Cell c) (Many n items) k) ]) value at) (sized_type (Many n items) typed)
+        ap (λ (o : Option Name). left_out_part fs names (part_in_name o) value at) is
+        ∙ ap (λ (o : Option ℕ). left_out_part fs names (sized_part (Cell c) (Many n items) o) value at) (sized_type (Many n items) typed)
         ∙ none (Many n items) (like_own (Many n items))
 
     -- .. of single values
@@ -143,28 +168,25 @@ module _ (fs : List Function) (names : List Name) where
         let found = items_none items n list (none (Many n one) (refl, one_like s)) in
         ap (λ b. if b then left_out_each fs names items else Some at) found.0 ∙ each_none items found.1
     whole_none n s (tree.variable from place) at is typed none =
-        copy_none (record { cell = c; size = n; kind = s }) n from place at refl (none (Many n one) (refl, one_like s))
+        copy_none c n s from place at (none (Many n one) (refl, one_like s))
     whole_none n s other at is typed none = filled_none n (Single s) other at is typed none
 
     list_none : (n : ℕ) (items : Shape) (value : Tree) (at : ℕ) → Named (Many n items) → IsType (Many n items) → NoneOf fs names value (kind_of_type (Many n items)) → left_out_list fs names text value at ≡ None
     list_none n (Single s) value at is typed none =
-        ap (λ (o : Option Name). elim (elim (elim o [ None ↦ None | Some x ↦ items_of x ]) [ None ↦ None | Some l ↦ cells_of l ]) [ None ↦ left_out_filled fs names text value at | Some d ↦ left_out_whole fs names d text value at ]) is
+        ap (λ o. elim o [ None ↦ left_out_filled fs names text value at | Some d ↦ left_out_whole fs names d text value at ]) (cells_are n s is)
         ∙ whole_none n s value at is typed none
     list_none n (Many m items) value at is typed none =
-        ap (λ (o : Option Name). elim (elim (elim o [ None ↦ None | Some x ↦ items_of x ]) [ None ↦ None | Some l ↦ cells_of l ]) [ None ↦ left_out_filled fs names text value at | Some d ↦ left_out_whole fs names d text value at ]) is
+        ap (λ o. elim o [ None ↦ left_out_filled fs names text value at | Some d ↦ left_out_whole fs names d text value at ]) (no_cells n m items is)
         ∙ filled_none n (Many m items) value at is typed none
 
     -- a part of it
     deep_none : (n : ℕ) (items u : Shape) (places value : Tree) (at : ℕ) → Named (Many n items) → IsType (Many n items) → part_in (Many n items) places ≡ Some u → left_out_each fs names places ≡ None → NoneOf fs names value (kind_of_type u)
         → left_out_deep fs names text places value at ≡ None
     deep_none n items u places value at is typed part each none =
-        ap (λ (o : Option Name). chosen (elim o [ None ↦ None | Some x ↦ whole_of x ])) is
-        ∙ ap (λ (o : Option ℕ). chosen (elim o [ None ↦ None | Some k ↦ Some (part_at (Cell c) (Many n items) k) ])) (sized_type (Many n items) typed)
+        ap (λ (o : Option Name). left_out_chosen fs names (part_in_name o) places value at) is
+        ∙ ap (λ (o : Option ℕ). left_out_chosen fs names (sized_part (Cell c) (Many n items) o) places value at) (sized_type (Many n items) typed)
         ∙ ap (λ o. left_out_put fs names o places value at) part
         ∙ none_both (left_out_each fs names places) (left_out_fill fs names u value) each (none u (like_own u))
-      where
-        abbrev chosen : Option Part → Option ℕ
-        chosen o = left_out_chosen fs names o places value at
 
     -- an item of a list of single values, or of another list
     spot_none : (n : ℕ) (items u : Shape) (spot value : Tree) (at : ℕ) → Named (Many n items) → IsType (Many n items) → part_in (Many n items) (tree.cons spot tree.nil) ≡ Some u → left_out_each fs names (tree.cons spot tree.nil) ≡ None
@@ -172,17 +194,17 @@ module _ (fs : List Function) (names : List Name) where
     spot_none n (Single s) u spot value at is typed part each none =
         let same : Single s ≡ u = cc in
         let single : left_out_in fs names value ≡ None = none one (subst (λ (t : Shape). IsLike one (kind_of_type t)) same (one_like s)) in
-        ap (λ (o : Option Name). elim (elim (elim o [ None ↦ None | Some x ↦ items_of x ]) [ None ↦ None | Some l ↦ cells_of l ]) [ None ↦ left_out_deep fs names text (tree.cons spot tree.nil) value at | Some d ↦ left_out_in fs names spot or_else left_out_in fs names value ]) is
+        ap (λ o. elim o [ None ↦ left_out_deep fs names text (tree.cons spot tree.nil) value at | Some d ↦ left_out_in fs names spot or_else left_out_in fs names value ]) (cells_are n s is)
         ∙ none_both (left_out_in fs names spot) (left_out_in fs names value) (none_first (left_out_in fs names spot) None each) single
     spot_none n (Many m items) u spot value at is typed part each none =
-        ap (λ (o : Option Name). elim (elim (elim o [ None ↦ None | Some x ↦ items_of x ]) [ None ↦ None | Some l ↦ cells_of l ]) [ None ↦ left_out_deep fs names text (tree.cons spot tree.nil) value at | Some d ↦ left_out_in fs names spot or_else left_out_in fs names value ]) is
+        ap (λ o. elim o [ None ↦ left_out_deep fs names text (tree.cons spot tree.nil) value at | Some d ↦ left_out_in fs names spot or_else left_out_in fs names value ]) (no_cells n m items is)
         ∙ deep_none n (Many m items) u (tree.cons spot tree.nil) value at is typed part each none
 
     some_list_none : (n : ℕ) (items u : Shape) (places value : Tree) (at : ℕ) → Named (Many n items) → IsType (Many n items) → part_in (Many n items) places ≡ Some u → left_out_each fs names places ≡ None → NoneOf fs names value (kind_of_type u)
         → left_out_set fs names text places value at ≡ None
     some_list_none n items u tree.nil value at is typed part each none =
         let same : Many n items ≡ u = cc in
-        ap (λ (o : Option Name). elim (elim o [ None ↦ None | Some x ↦ cell_of x.seat x.shape ]) [ None ↦ left_out_list fs names text value at | Some d ↦ left_out_in fs names value ]) is
+        ap (λ o. elim o [ None ↦ left_out_list fs names text value at | Some d ↦ left_out_in fs names value ]) (cell_is (Many n items) is)
         ∙ list_none n items value at is typed (subst (λ (t : Shape). NoneOf fs names value (kind_of_type t)) (sym same) none)
     some_list_none n items u (tree.cons spot tree.nil) value at is typed part each none = spot_none n items u spot value at is typed part each none
     some_list_none n items u (tree.cons spot (tree.cons next places)) value at is typed part each none = deep_none n items u (tree.cons spot (tree.cons next places)) value at is typed part each none
@@ -192,7 +214,7 @@ module _ (fs : List Function) (names : List Name) where
     one_none s u tree.nil value at is part none =
         let same : Single s ≡ u = cc in
         let single : left_out_in fs names value ≡ None = none one (subst (λ (t : Shape). IsLike one (kind_of_type t)) same (one_like s)) in
-        ap (λ (o : Option Name). elim (elim o [ None ↦ None | Some x ↦ cell_of x.seat x.shape ]) [ None ↦ left_out_list fs names text value at | Some d ↦ left_out_in fs names value ]) is
+        ap (λ o. elim o [ None ↦ left_out_list fs names text value at | Some d ↦ left_out_in fs names value ]) (cell_is (Single s) is)
         ∙ single
     one_none s u other value at is part none = cc
 

@@ -5,6 +5,10 @@ use Rattle.cal_ast.specs.Tree.{Tree}
 use Rattle.cal_model.specs.Actor.{Local}
 use Rattle.cal_model.specs.Sound.{Each, EachCall, StartCalls}
 
+-- .. in a start, if there is one
+abbrev pub StartIs : (P Q : List ℕ → Type 0) → Option Tree → Type 0
+StartIs P Q o = elim o [ None ↦ Unit {0} | Some e ↦ EachCall P Q e ]
+
 module _ {P Q R S : List ℕ → Type 0} (p : (text : List ℕ) → P text → R text) (q : (text : List ℕ) → Q text → S text) where
   pub calls_as : (e : Tree) → EachCall P Q e → EachCall R S e
   calls_as (tree.cons t ts) h = (calls_as t h.0, calls_as ts h.1)
@@ -30,7 +34,7 @@ module _ {P Q R S : List ℕ → Type 0} (p : (text : List ℕ) → P text → R
   calls_as (tree.var shape name start changes at) h = (calls_as shape h.0, calls_as start h.1)
   calls_as other h = tt
 
-  starts_as : (o : Option Tree) → elim o [ None ↦ Unit {0} | Some e ↦ EachCall P Q e ] → elim o [ None ↦ Unit {0} | Some e ↦ EachCall R S e ]
+  starts_as : (o : Option Tree) → StartIs P Q o → StartIs R S o
   starts_as None h = tt
   starts_as (Some e) h = calls_as e h
 
@@ -64,7 +68,7 @@ module _ {P Q : List ℕ → Type 0} (p : (text : List ℕ) → P text) (q : (te
   calls_any (tree.var shape name start changes at) = (calls_any shape, calls_any start)
   calls_any other = tt
 
-  start_any : (o : Option Tree) → elim o [ None ↦ Unit {0} | Some e ↦ EachCall P Q e ]
+  start_any : (o : Option Tree) → StartIs P Q o
   start_any None = tt
   start_any (Some e) = calls_any e
 

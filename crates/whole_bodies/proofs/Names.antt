@@ -100,10 +100,10 @@ ready_locals funs (x ∷ xs) known names h r =
 
 vars_seen : (vars : List Held) (c : ℕ) (text : List ℕ) (x : Known) → Each (λ v. IsType v.shape × IsOf v.shape v.value) vars → known_as text (map known_of vars) ≡ Some x → IsSeen (var_seats c vars) text x
 vars_seen [] c text x h e = cc
-vars_seen (v ∷ vars) c text x h e = go (bytes_eq v.name text) refl e
+vars_seen (v ∷ vars) c text x h e = go (λ f. vars_seen vars (c + scalars_of_type v.shape) text x h.1 f) (bytes_eq v.name text) refl e
   where
-    go : (b : Bool) → bytes_eq v.name text ≡ b → (if b then Some (known_of v) else known_as text (map known_of vars)) ≡ Some x → IsSeen (var_seats c (v ∷ vars)) text x
-    go true is f =
+    go : (known_as text (map known_of vars) ≡ Some x → IsSeen (var_seats (c + scalars_of_type v.shape) vars) text x) → (b : Bool) → bytes_eq v.name text ≡ b → (if b then Some (known_of v) else known_as text (map known_of vars)) ≡ Some x → IsSeen (var_seats c (v ∷ vars)) text x
+    go later true is f =
         let same : known_of v ≡ x = cc in
         record {
           name = local_of v.name v.shape c;
@@ -112,8 +112,8 @@ vars_seen (v ∷ vars) c text x h e = go (bytes_eq v.name text) refl e
           kind = ap (λ (z : Known). z.kind) same;
           flat = tt;
         }
-    go false is f =
-        let s : IsSeen (var_seats (c + scalars_of_type v.shape) vars) text x = vars_seen vars (c + scalars_of_type v.shape) text x h.1 f in
+    go later false is f =
+        let s : IsSeen (var_seats (c + scalars_of_type v.shape) vars) text x = later f in
         record {
           name = s.name;
           is = ap (λ b. if b then Some (local_of v.name v.shape c) else named text (var_seats (c + scalars_of_type v.shape) vars)) is ∙ s.is;
@@ -124,11 +124,11 @@ vars_seen (v ∷ vars) c text x h e = go (bytes_eq v.name text) refl e
 
 vars_cells : (vars : List Held) (c : ℕ) (text : List ℕ) (name : Name) → named text (var_seats c vars) ≡ Some name → (d : ℕ) × (name.seat ≡ Cell d)
 vars_cells [] c text name e = cc
-vars_cells (v ∷ vars) c text name e = go (bytes_eq v.name text) e
+vars_cells (v ∷ vars) c text name e = go (λ f. vars_cells vars (c + scalars_of_type v.shape) text name f) (bytes_eq v.name text) e
   where
-    go : (b : Bool) → (if b then Some (local_of v.name v.shape c) else named text (var_seats (c + scalars_of_type v.shape) vars)) ≡ Some name → (d : ℕ) × (name.seat ≡ Cell d)
-    go true f = let same : local_of v.name v.shape c ≡ name = cc in (c, ap (λ (z : Name). z.seat) (sym same))
-    go false f = vars_cells vars (c + scalars_of_type v.shape) text name f
+    go : (named text (var_seats (c + scalars_of_type v.shape) vars) ≡ Some name → (d : ℕ) × (name.seat ≡ Cell d)) → (b : Bool) → (if b then Some (local_of v.name v.shape c) else named text (var_seats (c + scalars_of_type v.shape) vars)) ≡ Some name → (d : ℕ) × (name.seat ≡ Cell d)
+    go later true f = let same : local_of v.name v.shape c ≡ name = cc in (c, ap (λ (z : Name). z.seat) (sym same))
+    go later false f = later f
 
 pub ready_vars : (funs : List Fun) (vars : List Held) → Each (λ v. IsType v.shape × IsOf v.shape v.value) vars → AreReady funs (record { globals = map known_of vars; locals = []; funs = funs }) (var_seats 0 vars)
 ready_vars funs vars h =

@@ -20,7 +20,8 @@ use Rattle.stmt_lower.specs.Procedures.{Routines}
 use Rattle.stmt_lower.specs.StmtGrowing.{left_out_all}
 use Rattle.action_lower.specs.LocalCode.{left_out_locals}
 use Rattle.whole_bodies.specs.Standing.{AreReady, CallsAll, StartsCallAll}
-use Rattle.whole_forms.specs.Lowerable.{CallsRoutines}
+use Rattle.whole_forms.specs.Lowerable.{CallsRoutines, HasRoutine}
+use Rattle.whole_bodies.proofs.Calls.{StartIs}
 use Rattle.whole_bodies.proofs.Values.{none_of_one}
 use Rattle.whole_bodies.proofs.Names.{formals_none, ready_formals, ready_local}
 use Rattle.whole_bodies.proofs.Statements.{all_none, list_start, one_start}
@@ -32,23 +33,23 @@ start_of k None known h = (tt, tt)
 start_of k (Some e) known h = (h.0, h.1)
 
 module _ (funs : List Fun) (fs : List Function) where
-  calls_of_start : (start : Option Tree) → elim start [ None ↦ Unit {0} | Some e ↦ CallsRoutines funs fs e ] → CallsRoutines funs fs (optional start)
+  calls_of_start : (start : Option Tree) → StartIs (HasRoutine funs fs) (λ name. Unit {0}) start → CallsRoutines funs fs (optional start)
   calls_of_start None h = tt
   calls_of_start (Some e) h = h
 
   -- ---- locals
 
   shape_none : (t : Shape) (start : Tree) (known : Names) (names : List Name) → AreReady funs known names → IsType t → CallsRoutines funs fs start → IsPlain start → IsVarStart (kind_of_type t) start known
-      → elim (single_of t) [
+      → ◌≡◌ {A = Option ℕ} (elim (single_of t) [
         | None ↦ elim (type_size t) [ None ↦ Some 0 | Some size ↦ left_out_list_start fs names t start ]
         | Some s ↦ left_out_start fs names start
-      ] ≡ None
+      ]) None
   shape_none (Single s) start known names r typed calls plain is = one_start funs fs known names s start r calls plain is
   shape_none (Many n items) start known names r typed calls plain is =
       ap (λ (o : Option ℕ). elim o [ None ↦ Some 0 | Some size ↦ left_out_list_start fs names (Many n items) start ]) (type_size_of (Many n items) typed)
       ∙ list_start funs fs known names (Many n items) start r calls plain is
 
-  local_none : (x : Local) (known : Names) (names : List Name) → AreReady funs known names → IsType x.shape → StartHasKind (kind_of_type x.shape) x.start known → elim x.start [ None ↦ Unit {0} | Some e ↦ CallsRoutines funs fs e ] → left_out_local fs names x ≡ None
+  local_none : (x : Local) (known : Names) (names : List Name) → AreReady funs known names → IsType x.shape → StartHasKind (kind_of_type x.shape) x.start known → StartIs (HasRoutine funs fs) (λ name. Unit {0}) x.start → left_out_local fs names x ≡ None
   local_none x known names r typed start calls =
       let s = start_of (kind_of_type x.shape) x.start known start in
       shape_none x.shape (optional x.start) known names r typed (calls_of_start x.start calls) s.1 s.0

@@ -73,13 +73,13 @@ module _ (funs : List Fun) (procs : List Proc) (rs : Routines) where
 
   var_none : (shape start vars : Tree) (text : List ℕ) (at : ℕ) (t : Shape) (known : Names) (names : List Name) (inside : List Name → Option ℕ) → AreReady funs known names → CallsAll funs procs rs start → IsPlain shape → IsPlain start
       → type_judged shape known ≡ Fine t → IsVarStart (kind_of_type t) start known → left_out_vars rs (local_of text t 0 ∷ names) vars inside ≡ None
-      → elim (single_meant shape) [
+      → ◌≡◌ {A = Option ℕ} (elim (single_meant shape) [
         | None ↦ elim (shape_meant shape) [
           | None ↦ Some at
           | Some u ↦ left_out_list_start rs.functions names u start or_else left_out_vars rs (local_of text u 0 ∷ names) vars inside
         ]
         | Some u ↦ left_out_start rs.functions names start or_else left_out_vars rs (local text u 0 ∷ names) vars inside
-      ] ≡ None
+      ]) None
   var_none shape start vars text at (Single s) known names inside r calls plain plain_start judged is rest =
       ap (λ (o : Option Scalar). elim o [
         | None ↦ elim (shape_meant shape) [
@@ -135,7 +135,7 @@ module _ (funs : List Fun) (procs : List Proc) (rs : Routines) where
   number_none known names e r calls plain is = none_of_one funs rs.functions known names e (scalar.Int 32) r (called e calls) plain is
 
   call_none : (known : Names) (names : List Name) (text : List ℕ) (args : Tree) (at : ℕ) (p : Proc) → AreReady funs known names → CallsAll funs procs rs args → IsPlain args → IsRoutineOfProc rs.procedures text p → arguments_fit args p.formals known ≡ Fine true
-      → elim (procedure_for text (number_of args) rs.procedures) [ None ↦ Some at | Some g ↦ left_out_args rs.functions names args ] ≡ None
+      → ◌≡◌ {A = Option ℕ} (elim (procedure_for text (number_of args) rs.procedures) [ None ↦ Some at | Some g ↦ left_out_args rs.functions names args ]) None
   call_none known names text args at p r calls plain f fit =
       let found = none_of_arguments funs rs.functions known names args p.formals r (called args calls) plain fit f.formals in
       ap (λ (o : Option Procedure). elim o [ None ↦ Some at | Some g ↦ left_out_args rs.functions names args ]) (found_proc rs.procedures text (number_of args) f.routine f.found (f.as_many ∙ sym found.1))
