@@ -1,5 +1,5 @@
 -- Code of outputs that is added to a draft.
-use Rattle.std.proofs.Common.{◌≡◌, ℕ, suc, ◌+◌, ◌*◌, ◌<◌, ◌≤◌, ◌⊎◌, inl, inr, ⊎_elim, List, [], ◌∷◌, ◌++◌, length, map, take, drop, refl, sym, ap, subst, ◌∙◌, Option, None, Some, arith, append_assoc, append-nil, length-append}
+use Rattle.std.proofs.Common.{◌≡◌, ℕ, zero, suc, ◌+◌, ◌*◌, ◌<◌, ◌≤◌, ◌⊎◌, inl, inr, ⊎_elim, List, [], ◌∷◌, ◌++◌, length, map, take, drop, refl, sym, ap, subst, ◌∙◌, Option, None, Some, arith, append_assoc, append-nil, length-append}
 use Rattle.std.specs.Prelude.{get_or}
 use Rattle.std.proofs.lemmas.List.{length-map, map-append, take_more, take-append-drop}
 use Rattle.rvc_base.specs.declared.scalar.Scalar.{Scalar}
@@ -24,7 +24,7 @@ use Rattle.expr_lower.specs.Names.{Name}
 use Rattle.expr_lower.proofs.Adding.{same_adds, then_put}
 use Rattle.expr_lower.proofs.PartValues.{sized_is}
 use Rattle.expr_lower.specs.Parted.{sized}
-use Rattle.list_lower.specs.Filling.{AreFills, IsFill}
+use Rattle.list_lower.specs.Filling.{AreFills, IsFill, no_item}
 use Rattle.list_lower.specs.LeftOut.{left_out_fill, left_out_fills}
 use Rattle.action_lower.specs.declared.turns.Area.{Area}
 use Rattle.list_lower.specs.declared.starts.Row.{Row}
@@ -228,7 +228,7 @@ none-repeated fs names times kind draft =
     let filled : AreFills fs names (listed []) (items_of_any times) draft.cells base (draft.cells + 0 * times) [] (draft.cells + 0 * times) = no_item names (items_of_any times) draft.cells base (draft.cells + 0 * times) in
     record {
       code = [];
-      is = simp append_nil;
+      is = sym (append-nil draft.instrs.items);
       routines = refl;
       has = subst (λ cs. IsRepeated fs names kind times [] base draft.cells cs draft.cells) code
           (in_turns [] base draft.cells draft.cells draft.cells [] rows

@@ -44,28 +44,28 @@ module _ {A : Type 0} (name : A → List ℕ) (named : List ℕ → List A → O
   -- it stands somewhere
   place-of : (text : List ℕ) (xs : List A) (x : A) → named text xs ≡ Some x → IsAt name text xs x
   place-of text [] x e = let f : None ≡ Some x = sym (none text) ∙ e in absurd (cc)
-  place-of text (y ∷ xs) x e = go (bytes_eq (name y) text) refl (sym (more text y xs) ∙ e)
+  place-of text (y ∷ xs) x e = go (λ h. place-of text xs x h) (bytes_eq (name y) text) refl (sym (more text y xs) ∙ e)
     where
-      go : (b : Bool) → bytes_eq (name y) text ≡ b → (if b then Some y else named text xs) ≡ Some x → IsAt name text (y ∷ xs) x
-      go true is h =
+      go : (named text xs ≡ Some x → IsAt name text xs x) → (b : Bool) → bytes_eq (name y) text ≡ b → (if b then Some y else named text xs) ≡ Some x → IsAt name text (y ∷ xs) x
+      go later true is h =
           let one : y ≡ x = cc in
           record { place = 0; there = ap (λ z. Some z) one; same = ap name (sym one) ∙ (bytes_eq-Decides (name y) text).0 is }
-      go false is h = let p : IsAt name text xs x = place-of text xs x h in record { place = suc p.place; there = p.there; same = p.same }
+      go later false is h = let p : IsAt name text xs x = later h in record { place = suc p.place; there = p.there; same = p.same }
 
   -- .. and what stands there is found, or another one of its name
   found-first : (P : A → Type 0) (text : List ℕ) (xs : List A) (k : ℕ) (x : A) → Each P xs → slice_get xs k ≡ Some x → name x ≡ text → (y : A) × (named text xs ≡ Some y) × P y × (name y ≡ text)
   found-first P text [] k x h e same = absurd (cc)
-  found-first P text (z ∷ xs) k x h e same = go (bytes_eq (name z) text) refl k e
+  found-first P text (z ∷ xs) k x h e same = go (λ j f. found-first P text xs j x h.1 f same) (bytes_eq (name z) text) refl k e
     where
-      go : (b : Bool) → bytes_eq (name z) text ≡ b → (j : ℕ) → slice_get (z ∷ xs) j ≡ Some x → (y : A) × (named text (z ∷ xs) ≡ Some y) × P y × (name y ≡ text)
-      go true is j f = (z, more text z xs ∙ ap (λ b. if b then Some z else named text xs) is, h.0, (bytes_eq-Decides (name z) text).0 is)
-      go false is zero f =
+      go : ((j : ℕ) → slice_get xs j ≡ Some x → (y : A) × (named text xs ≡ Some y) × P y × (name y ≡ text)) → (b : Bool) → bytes_eq (name z) text ≡ b → (j : ℕ) → slice_get (z ∷ xs) j ≡ Some x → (y : A) × (named text (z ∷ xs) ≡ Some y) × P y × (name y ≡ text)
+      go later true is j f = (z, more text z xs ∙ ap (λ b. if b then Some z else named text xs) is, h.0, (bytes_eq-Decides (name z) text).0 is)
+      go later false is zero f =
           let one : z ≡ x = cc in
           let yes : bytes_eq (name z) text ≡ true = (bytes_eq-Decides (name z) text).1 (ap name one ∙ same) in
           let no : true ≡ false = sym yes ∙ is in
           absurd (cc)
-      go false is (suc j) f =
-          let r = found-first P text xs j x h.1 f same in
+      go later false is (suc j) f =
+          let r = later j f in
           (r.0, more text z xs ∙ ap (λ b. if b then Some z else named text xs) is ∙ r.1, r.2, r.3)
 
 module _ (actor : Actor) (sound : IsSound actor) (rs : Routines) (settled : AreSettled actor rs) where
@@ -100,18 +100,12 @@ module _ (actor : Actor) (sound : IsSound actor) (rs : Routines) (settled : AreS
         result = s.is.result ∙ ap (λ (x : Fun). x.result) one;
       }
 
-  have-fun : (n k : ℕ) (f : Fun) → slice_get actor.funs k ≡ Some f → sound.funs_end.rank f.name < n → HasFunction rs.functions f
-  have-fun zero k f there low = absurd (omega (arith, low))
-  have-fun (suc n) k f there low = ⊎_elim (λ (h : HasFunction rs.functions f). h) (λ (out : (at : ℕ) × (left_out_fun rs.functions (globals_of actor) f ≡ Some at)). absurd (not-left out.0 out.1)) (settled.all_functions k f there)
+  -- one whose calls all have routines has one
+  fun-step : (k : ℕ) (f : Fun) → slice_get actor.funs k ≡ Some f → ((text : List ℕ) → sound.funs_end.rank text < sound.funs_end.rank f.name → HasRoutine actor.funs rs.functions text) → HasFunction rs.functions f
+  fun-step k f there deeper = ⊎_elim (λ (h : HasFunction rs.functions f). h) (λ (out : (at : ℕ) × (left_out_fun rs.functions (globals_of actor) f ≡ Some at)). absurd (not-left out.0 out.1)) (settled.all_functions k f there)
     where
       below : FunCallsBelow sound.funs_end.rank f
       below = each-at (FunCallsBelow sound.funs_end.rank) actor.funs k f sound.funs_end.calls there
-
-      deeper : (text : List ℕ) → sound.funs_end.rank text < sound.funs_end.rank f.name → HasRoutine actor.funs rs.functions text
-      deeper text lower g e =
-          let p : IsAt (λ (x : Fun). x.name) text actor.funs g = place-of (λ (x : Fun). x.name) fun_named (λ text. refl) (λ text x xs. refl) text actor.funs g e in
-          let less : sound.funs_end.rank g.name < n = subst (λ (t : List ℕ). sound.funs_end.rank t < n) (sym p.same) (omega (arith, lower, low)) in
-          routine-of text g e (have-fun n p.place g p.there less)
 
       starts : StartsCallAll actor.funs rs.functions f.locals
       starts = locals_as {P = λ text. sound.funs_end.rank text < sound.funs_end.rank f.name} {Q = λ text. ⊥} {R = HasRoutine actor.funs rs.functions} {S = λ text. Unit {0}} deeper (λ text h. tt) f.locals below.locals
@@ -123,6 +117,14 @@ module _ (actor : Actor) (sound : IsSound actor) (rs : Routines) (settled : AreS
       not-left at e =
           let none : left_out_fun rs.functions (globals_of actor) f ≡ None = fun_none actor.funs rs.functions f (names_of actor) (globals_of actor) ready starts calls (each-at (IsFun (names_of actor)) actor.funs k f sound.funs there) in
           cc
+
+  have-fun : (n k : ℕ) (f : Fun) → slice_get actor.funs k ≡ Some f → sound.funs_end.rank f.name < n → HasFunction rs.functions f
+  have-fun zero k f there low = absurd (omega (arith, low))
+  have-fun (suc n) k f there low =
+      fun-step k f there (λ text lower g e.
+      let p : IsAt (λ (x : Fun). x.name) text actor.funs g = place-of (λ (x : Fun). x.name) fun_named (λ text. refl) (λ text x xs. refl) text actor.funs g e in
+      let less : sound.funs_end.rank g.name < n = subst (λ (t : List ℕ). sound.funs_end.rank t < n) (sym p.same) (omega (arith, lower, low)) in
+      routine-of text g e (have-fun n p.place g p.there less))
 
   have-functions : (text : List ℕ) → HasRoutine actor.funs rs.functions text
   have-functions text f e =
@@ -156,18 +158,11 @@ module _ (actor : Actor) (sound : IsSound actor) (rs : Routines) (settled : AreS
         as_many = same-many s.proc.formals r.0.formals s.is.formals ∙ ap (λ (x : Proc). length x.formals) one;
       }
 
-  have-proc : (n k : ℕ) (q : Proc) → slice_get actor.procs k ≡ Some q → sound.procs_end.rank q.name < n → HasProcedure rs.procedures q
-  have-proc zero k q there low = absurd (omega (arith, low))
-  have-proc (suc n) k q there low = ⊎_elim (λ (h : HasProcedure rs.procedures q). h) (λ (out : (at : ℕ) × (left_out_proc rs (globals_of actor) q ≡ Some at)). absurd (not-left out.0 out.1)) (settled.all_procedures k q there)
+  proc-step : (k : ℕ) (q : Proc) → slice_get actor.procs k ≡ Some q → ((text : List ℕ) → sound.procs_end.rank text < sound.procs_end.rank q.name → HasProcRoutine actor.procs rs.procedures text) → HasProcedure rs.procedures q
+  proc-step k q there deeper = ⊎_elim (λ (h : HasProcedure rs.procedures q). h) (λ (out : (at : ℕ) × (left_out_proc rs (globals_of actor) q ≡ Some at)). absurd (not-left out.0 out.1)) (settled.all_procedures k q there)
     where
       below : ProcCallsBelow sound.procs_end.rank q
       below = each-at (ProcCallsBelow sound.procs_end.rank) actor.procs k q sound.procs_end.calls there
-
-      deeper : (text : List ℕ) → sound.procs_end.rank text < sound.procs_end.rank q.name → HasProcRoutine actor.procs rs.procedures text
-      deeper text lower g e =
-          let p : IsAt (λ (x : Proc). x.name) text actor.procs g = place-of (λ (x : Proc). x.name) proc_named (λ text. refl) (λ text x xs. refl) text actor.procs g e in
-          let less : sound.procs_end.rank g.name < n = subst (λ (t : List ℕ). sound.procs_end.rank t < n) (sym p.same) (omega (arith, lower, low)) in
-          routine-of-proc text g e (have-proc n p.place g p.there less)
 
       starts : StartsCallAll actor.funs rs.functions q.locals
       starts = locals_any {P = HasRoutine actor.funs rs.functions} {Q = λ text. Unit {0}} have-functions (λ text. tt) q.locals
@@ -179,6 +174,14 @@ module _ (actor : Actor) (sound : IsSound actor) (rs : Routines) (settled : AreS
       not-left at e =
           let none : left_out_proc rs (globals_of actor) q ≡ None = proc_none actor.funs actor.procs rs q (names_of actor) (globals_of actor) ready starts calls (each-at (IsProc actor.procs (names_of actor)) actor.procs k q sound.procs there) in
           cc
+
+  have-proc : (n k : ℕ) (q : Proc) → slice_get actor.procs k ≡ Some q → sound.procs_end.rank q.name < n → HasProcedure rs.procedures q
+  have-proc zero k q there low = absurd (omega (arith, low))
+  have-proc (suc n) k q there low =
+      proc-step k q there (λ text lower g e.
+      let p : IsAt (λ (x : Proc). x.name) text actor.procs g = place-of (λ (x : Proc). x.name) proc_named (λ text. refl) (λ text x xs. refl) text actor.procs g e in
+      let less : sound.procs_end.rank g.name < n = subst (λ (t : List ℕ). sound.procs_end.rank t < n) (sym p.same) (omega (arith, lower, low)) in
+      routine-of-proc text g e (have-proc n p.place g p.there less))
 
   have-procedures : (text : List ℕ) → HasProcRoutine actor.procs rs.procedures text
   have-procedures text q e =
