@@ -161,7 +161,11 @@ fn body_of(names: &Names, body: &Option<Vec<Stmt>>) -> Result<Vec<Stmt>, Memory>
 }
 
 /// The parts of a tag, which may be missing.
-fn tag_parts(alloc: Global, tag: &Option<Tag>) -> Result<Vec<String>, Memory>
+///
+/// # Errors
+///
+/// `Memory` if memory runs out.
+pub fn tag_parts(alloc: Global, tag: &Option<Tag>) -> Result<Vec<String>, Memory>
     ensures { IfOk result (λ found. map string_bytes found.items
         ≡ tag_parts (optional (option_map tag_tree tag.now))) }
 {

@@ -11,4 +11,5 @@ mod inside;
 mod output;
 
 pub use acting::{action, actions};
+pub use inside::tag_parts;
 pub use output::outputs;

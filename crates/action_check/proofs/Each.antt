@@ -1,11 +1,9 @@
 -- Parts that are judged one by one.
 use Rattle.std.proofs.Common.{◌≡◌, List, [], ◌∷◌, ◌++◌, map, Some, refl, sym, ap, subst, ◌∙◌}
 use Rattle.std.proofs.lemmas.List.{map-append, append_assoc, append-nil}
-use Rattle.std.proofs.lemmas.List.Elements.{Contains-append_left, Contains-push}
-use Rattle.cal_model.specs.Kinding.{Judged, Fine, Broken}
+use Rattle.cal_model.specs.Kinding.{Judged, Fine}
 use Rattle.const_eval.specs.Judging.{Breaks}
 use Rattle.const_eval.specs.declared.fault.KindFault.{KindFault}
-use Rattle.const_eval.specs.declared.fault.KindFault.TheVariants as fault
 use Rattle.cal_check.specs.Violations.{all_broken, all_fine, and_all, broken}
 use Rattle.stmt_check.specs.Judging.{Refuses}
 use Rattle.stmt_check.proofs.Checked.{refuses_broken, refuses_on}

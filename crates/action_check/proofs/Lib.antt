@@ -1,3 +1,4 @@
 mod Judged
 mod Each
 mod Walks
+pub mod Said

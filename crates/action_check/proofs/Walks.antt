@@ -1,12 +1,6 @@
 -- Patterns and outputs in order: where a loop has come to, and what the whole is.
 use Rattle.std.proofs.Common.{◌≡◌, ℕ, suc, false, List, [], ◌∷◌, ◌++◌, length, map, Some, Option, Ok, Err, Result, Vec, Global, refl, sym, ap, subst, ◌∙◌}
-use Rattle.std.proofs.lemmas.List.{append_assoc}
-use Rattle.cal_ast.specs.Tree as tree
 use Rattle.cal_ast.specs.Tree.{Tree, listed}
-use Rattle.cal_ast.specs.View.{output_tree, pattern_tree}
-use Rattle.cal_ast.specs.declared.action.Output.{Output}
-use Rattle.cal_ast.specs.declared.action.Pattern.{Pattern}
-use Rattle.cal_ast.specs.declared.ident.Ident.{Ident}
 use Rattle.cal_model.specs.Actor.{Pattern as GivenPattern, Port}
 use Rattle.cal_model.specs.Kinding.{Judged, Fine, Broken, Names, with_known}
 use Rattle.cal_model.specs.Rates.{parts}
@@ -19,14 +13,13 @@ use Rattle.const_eval.specs.declared.fault.KindFault.{KindFault}
 use Rattle.const_eval.specs.declared.inside.Variable.{Variable}
 use Rattle.const_eval.specs.declared.names.Names.{Names as DeclaredNames}
 use Rattle.cal_check.specs.Violations.{Violation, all_broken, all_fine, if_fine}
-use Rattle.cal_check.specs.Actions.{names_listed, outputs_broken, outputs_on, patterns_broken, patterns_fine, patterns_if, patterns_on}
+use Rattle.cal_check.specs.Actions.{outputs_broken, outputs_on, patterns_broken, patterns_fine, patterns_if, patterns_on}
 use Rattle.cal_check.specs.Ports.{Asked, each_asked, numbers_twice, ports_asked}
 use Rattle.member_check.specs.Asking.{asked_broken}
-use Rattle.member_check.specs.Parts.{idents_tree}
 use Rattle.stmt_check.specs.Declaring.{seen_behind}
 use Rattle.stmt_check.proofs.Walks.{seen_next}
 use Rattle.stmt_check.specs.Judging.{Checks, Refuses}
-use Rattle.stmt_check.proofs.Checked.{refuses_later, refuses_on}
+use Rattle.stmt_check.proofs.Checked.{refuses_on}
 use Rattle.action_check.specs.Parts.{FindsPatterns, JudgesAll}
 use Rattle.action_check.proofs.Each.{all_are_fine, none_is_broken}
 

@@ -1,5 +1,5 @@
 //! Actions.
-#![tactic(auto, using(stmt_check::proofs::Checked::refuses_on))]
+#![tactic(auto, using(stmt_check::proofs::Said::said_none, stmt_check::proofs::Said::said_on, stmt_check::proofs::Said::said_behind, stmt_check::proofs::Said::said_next))]
 
 ghost use Rattle.cal_ast.specs.View.{action_tree};
 ghost use Rattle.const_eval.specs.Counting.{names_view};
@@ -8,16 +8,17 @@ ghost use Rattle.cal_check.specs.Actors.{actions_broken, actions_in};
 ghost use Rattle.member_check.specs.Parts.{members_tree};
 ghost use Rattle.stmt_check.specs.Declaring.{seen_behind};
 ghost use Rattle.stmt_check.specs.Judging.{Checks};
-ghost use Rattle.action_check.specs.Parts.{HasFewPorts, around_view, inside_of, rest_of};
+ghost use Rattle.cal_check.specs.Violations.{said};
+ghost use Rattle.action_check.specs.Parts.{HasFewPorts, around_view, behind_guards, inside_of, rest_of};
 
 use crate::behind::pattern_names;
 use crate::guards::{guards, guards_allowed};
 use crate::outputs::check_outputs;
-use crate::pattern::patterns;
+use crate::pattern::check_patterns;
 use cal_ast::{Action, Member};
 use cal_model::{BoundProc, Port};
 use const_eval::{Inside, KindFault, Names, Variable};
-use stmt_check::{optional_stmts, vars};
+use stmt_check::{check_vars, optional_stmts};
 
 /// What the actions of an actor see beside names: its ports and its procedures.
 #[derive(Clone, Copy)]
@@ -27,39 +28,53 @@ pub struct ActorParts<'a> {
     pub procs: &'a [BoundProc],
 }
 
-/// The actions among members, as [`check_action`] judges each.
+/// The actions among members, as [`check_action`] judges each. What isn't constant is passed over if `passes`.
 ///
 /// # Errors
 ///
 /// As those of [`check_action`].
-pub fn check_actions(names: &Names, parts: &ActorParts, members: &[Member]) -> Result<(), KindFault>
+pub fn check_actions(
+    names: &Names,
+    parts: &ActorParts,
+    members: &[Member],
+    passes: bool,
+) -> Result<(), KindFault>
     requires { HasFewPorts parts.now }
-    ensures { Checks result
-        (actions_broken (actions_in (members_tree members.now)) (around_view parts.now names.now)) }
+    ensures { Checks result (said passes
+        (actions_broken (actions_in (members_tree members.now)) (around_view parts.now names.now))) }
 {
     let mut rest = members;
     'members: while let Some((first, others)) = rest.split_first() {
         if let Member::Action(a) = first {
-            check_action(names, parts, a)?;
+            check_action(names, parts, a, passes)?;
         }
         rest = others;
     }
     Ok(())
 }
 
-/// An action, or an `initialize`. Nothing behind the patterns is judged if one of them breaks a rule.
+/// An action, or an `initialize`. Nothing behind the patterns is judged if one of them breaks a rule. What isn't constant
+/// is passed over if `passes`.
 ///
 /// # Errors
 ///
 /// `Broken` if the action breaks a rule: one of those that it breaks, and its place. `Memory` if memory runs out.
-pub fn check_action(names: &Names, parts: &ActorParts, a: &Action) -> Result<(), KindFault>
+pub fn check_action(
+    names: &Names,
+    parts: &ActorParts,
+    a: &Action,
+    passes: bool,
+) -> Result<(), KindFault>
     requires { HasFewPorts parts.now }
-    ensures { Checks result (action_broken (action_tree a.now) (around_view parts.now names.now)) }
+    ensures { Checks result (said passes
+        (action_broken (action_tree a.now) (around_view parts.now names.now))) }
 {
     guards_allowed(a)?;
-    let found = patterns(names, parts.ins, &a.patterns)?;
+    let Some(found) = check_patterns(names, parts.ins, &a.patterns, passes)? else {
+        return Ok(());
+    };
     let seen = pattern_names(names, parts.ins, &found)?;
-    behind_patterns(names, &seen, parts, a)
+    behind_patterns(names, &seen, parts, a, passes)
 }
 
 /// What stands behind the variables of patterns.
@@ -68,28 +83,50 @@ fn behind_patterns(
     seen: &[Variable],
     parts: &ActorParts,
     a: &Action,
+    passes: bool,
 ) -> Result<(), KindFault>
     requires { HasFewPorts parts.now }
-    ensures { Checks result
-        (inside_of a.now (around_view parts.now names.now) (seen_behind seen.now names.now)) }
+    ensures { Checks result (said passes
+        (inside_of a.now (around_view parts.now names.now) (seen_behind seen.now names.now))) }
 {
     let inside = Inside {
         variables: seen,
         gens: &[],
         outer: names.inner,
     };
-    inside_action(&names.under(&inside), parts, a)
+    inside_action(&names.under(&inside), parts, a, passes)
 }
 
 /// The guards, the locals, and what stands behind these.
-fn inside_action(names: &Names, parts: &ActorParts, a: &Action) -> Result<(), KindFault>
+fn inside_action(
+    names: &Names,
+    parts: &ActorParts,
+    a: &Action,
+    passes: bool,
+) -> Result<(), KindFault>
     requires { HasFewPorts parts.now }
-    ensures { Checks result
-        (inside_of a.now (around_view parts.now names.now) (names_view names.now)) }
+    ensures { Checks result (said passes
+        (inside_of a.now (around_view parts.now names.now) (names_view names.now))) }
 {
-    guards(names, &a.guards)?;
-    let locals = vars(names, &a.vars)?;
-    behind_locals(names, &locals, parts, a)
+    guards(names, &a.guards, passes)?;
+    locals_and_rest(names, parts, a, passes)
+}
+
+/// The locals, and what stands behind these.
+fn locals_and_rest(
+    names: &Names,
+    parts: &ActorParts,
+    a: &Action,
+    passes: bool,
+) -> Result<(), KindFault>
+    requires { HasFewPorts parts.now }
+    ensures { Checks result (said passes
+        (behind_guards a.now (around_view parts.now names.now) (names_view names.now))) }
+{
+    let Some(locals) = check_vars(names, &a.vars, passes)? else {
+        return Ok(());
+    };
+    behind_locals(names, &locals, parts, a, passes)
 }
 
 /// What stands behind the locals.
@@ -98,25 +135,31 @@ fn behind_locals(
     locals: &[Variable],
     parts: &ActorParts,
     a: &Action,
+    passes: bool,
 ) -> Result<(), KindFault>
     requires { HasFewPorts parts.now }
-    ensures { Checks result (rest_of a.now (around_view parts.now names.now)
-        (seen_behind locals.now names.now)) }
+    ensures { Checks result (said passes (rest_of a.now (around_view parts.now names.now)
+        (seen_behind locals.now names.now))) }
 {
     let inside = Inside {
         variables: locals,
         gens: &[],
         outer: names.inner,
     };
-    body_and_outputs(&names.under(&inside), parts, a)
+    body_and_outputs(&names.under(&inside), parts, a, passes)
 }
 
 /// The statements and the outputs.
-fn body_and_outputs(names: &Names, parts: &ActorParts, a: &Action) -> Result<(), KindFault>
+fn body_and_outputs(
+    names: &Names,
+    parts: &ActorParts,
+    a: &Action,
+    passes: bool,
+) -> Result<(), KindFault>
     requires { HasFewPorts parts.now }
-    ensures { Checks result
-        (rest_of a.now (around_view parts.now names.now) (names_view names.now)) }
+    ensures { Checks result (said passes
+        (rest_of a.now (around_view parts.now names.now) (names_view names.now))) }
 {
-    optional_stmts(names, parts.procs, &a.body)?;
-    check_outputs(names, parts.outs, &a.outputs)
+    optional_stmts(names, parts.procs, &a.body, passes)?;
+    check_outputs(names, parts.outs, &a.outputs, passes)
 }

@@ -1,10 +1,10 @@
 //! Guards.
-#![tactic(auto, using(stmt_check::proofs::Checked::refuses_on))]
+#![tactic(auto, using(stmt_check::proofs::Said::said_none, stmt_check::proofs::Said::said_on, stmt_check::proofs::Said::said_next))]
 
 ghost use Rattle.std.specs.Prelude.{◌≡◌};
 ghost use Rattle.const_eval.specs.Counting.{names_view};
 ghost use Rattle.cal_check.specs.Actions.{each_guard, guard_allowed};
-ghost use Rattle.cal_check.specs.Violations.{all_broken};
+ghost use Rattle.cal_check.specs.Violations.{all_broken, said};
 ghost use Rattle.member_check.specs.Parts.{exprs_tree};
 ghost use Rattle.stmt_check.specs.Judging.{Checks};
 
@@ -14,14 +14,14 @@ use const_eval::{KindFault, Names};
 use member_check::check_guards;
 use stmt_check::test;
 
-/// That each guard is a truth value.
-pub(crate) fn guards(names: &Names, guards: &[Expr]) -> Result<(), KindFault>
-    ensures { Checks result
-        (all_broken (each_guard (exprs_tree guards.now) (names_view names.now))) }
+/// That each guard is a truth value. What isn't constant is passed over if `passes`.
+pub(crate) fn guards(names: &Names, guards: &[Expr], passes: bool) -> Result<(), KindFault>
+    ensures { Checks result (said passes
+        (all_broken (each_guard (exprs_tree guards.now) (names_view names.now)))) }
 {
     let mut rest = guards;
     'guards: while let Some((first, others)) = rest.split_first() {
-        test(names, first)?;
+        test(names, first, passes)?;
         rest = others;
     }
     Ok(())

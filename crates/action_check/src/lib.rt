@@ -19,4 +19,4 @@ mod tokens;
 pub use action::{ActorParts, check_action, check_actions};
 pub use behind::pattern_names;
 pub use outputs::{check_outputs, output_repeat};
-pub use pattern::patterns;
+pub use pattern::{check_patterns, patterns};

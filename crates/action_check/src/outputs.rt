@@ -1,5 +1,5 @@
 //! Output expressions.
-#![tactic(auto, using(crate::proofs::Judged::breaks_on, crate::proofs::Judged::breaks_rate))]
+#![tactic(auto, using(crate::proofs::Judged::breaks_on, crate::proofs::Judged::breaks_rate, stmt_check::proofs::Said::said_none, stmt_check::proofs::Said::said_on, stmt_check::proofs::Said::said_next))]
 
 ghost use Rattle.std.specs.Prelude.{◌≡◌, ◌≤◌, ℕ, length};
 ghost use Rattle.cal_ast.specs.View.{output_tree};
@@ -8,7 +8,7 @@ ghost use Rattle.cal_model.specs.View.{kind_view};
 ghost use Rattle.const_eval.specs.Counting.{names_view};
 ghost use Rattle.const_eval.specs.Judging.{Judges};
 ghost use Rattle.cal_check.specs.Actions.{output_judged, outputs_broken, outputs_on, values_judged};
-ghost use Rattle.cal_check.specs.Violations.{all_broken};
+ghost use Rattle.cal_check.specs.Violations.{all_broken, broken, said};
 ghost use Rattle.member_check.specs.Asking.{outputs_tree, port_views};
 ghost use Rattle.member_check.specs.Parts.{exprs_tree};
 ghost use Rattle.stmt_check.specs.Judging.{Checks};
@@ -22,22 +22,27 @@ use cal_model::{Kind, Port};
 use const_eval::{KindFault, Names};
 use member_check::output_ports;
 use rvc_base::Scalar;
-use stmt_check::{kinds, stored};
+use stmt_check::{kinds, passed, stored};
 
-/// The outputs of an action, each on its port.
+/// The outputs of an action, each on its port. What isn't constant is passed over if `passes`.
 ///
 /// # Errors
 ///
 /// `Broken`, if no two outputs are on one port and each port is there: one of the rules that an output breaks, as
 /// [`output_repeat`] names it. Else as those of [`output_ports`](member_check::output_ports). `Memory` if memory runs
 /// out.
-pub fn check_outputs(names: &Names, outs: &[Port], outputs: &[Output]) -> Result<(), KindFault>
+pub fn check_outputs(
+    names: &Names,
+    outs: &[Port],
+    outputs: &[Output],
+    passes: bool,
+) -> Result<(), KindFault>
     requires { length outs.now ≤ max_ports }
-    ensures { Checks result (outputs_broken (outputs_tree outputs.now) (port_views outs.now)
-        (names_view names.now)) }
+    ensures { Checks result (said passes (outputs_broken (outputs_tree outputs.now)
+        (port_views outs.now) (names_view names.now))) }
 {
     match output_ports(names.alloc, outputs, outs) {
-        Ok(numbers) => outputs_on(names, outs, outputs, &numbers),
+        Ok(numbers) => outputs_on(names, outs, outputs, &numbers, passes),
         Err(f) => Err(as_kind_fault(f)),
     }
 }
@@ -48,9 +53,10 @@ fn outputs_on(
     outs: &[Port],
     outputs: &[Output],
     numbers: &[u32],
+    passes: bool,
 ) -> Result<(), KindFault>
-    ensures { Checks result (all_broken (outputs_on (outputs_tree outputs.now) numbers.now
-        (port_views outs.now) (names_view names.now))) }
+    ensures { Checks result (said passes (all_broken (outputs_on (outputs_tree outputs.now)
+        numbers.now (port_views outs.now) (names_view names.now)))) }
 {
     let mut rest = outputs;
     let mut left = numbers;
@@ -58,11 +64,22 @@ fn outputs_on(
         let Some((number, later)) = left.split_first() else {
             return Ok(());
         };
-        output_repeat(names, first, type_of_port(outs, *number))?;
+        check_output(names, first, type_of_port(outs, *number), passes)?;
         rest = others;
         left = later;
     }
     Ok(())
+}
+
+/// An output on a port of a type. What isn't constant is passed over if `passes`.
+fn check_output(names: &Names, o: &Output, t: Scalar, passes: bool) -> Result<(), KindFault>
+    ensures { (port : ℕ) → Checks result (said passes
+        (broken (output_judged (output_tree o.now) port t (names_view names.now)))) }
+{
+    match output_repeat(names, o, t) {
+        Ok(_) => Ok(()),
+        Err(fault) => passed(fault, passes),
+    }
 }
 
 /// How often an output on a port of a type is repeated, if it breaks no rule.

@@ -10,7 +10,9 @@ ghost use Rattle.const_eval.specs.Judging.{Judges};
 ghost use Rattle.cal_check.specs.Actions.{names_listed, pattern_judged, patterns_on};
 ghost use Rattle.member_check.specs.Asking.{patterns_tree, port_views};
 ghost use Rattle.member_check.specs.Parts.{idents_tree};
-ghost use Rattle.action_check.specs.Parts.{FindsPatterns, JudgesAll};
+ghost use Rattle.cal_check.specs.Violations.{all_broken, broken, said};
+ghost use Rattle.stmt_check.specs.Judging.{Checks};
+ghost use Rattle.action_check.specs.Parts.{FindsPatterns, FindsPatternsSaid, JudgesAll, JudgesAllSaid};
 
 use crate::fault::as_kind_fault;
 use crate::repeats::{rate, repeat};
@@ -20,6 +22,7 @@ use const_eval::{KindFault, Names};
 use member_check::pattern_ports;
 use rvc_base::Memory;
 use std::alloc::Global;
+use stmt_check::{is_passed, passed};
 
 /// The patterns of an action, each with the number of its port. Their repeats see the names of the actor.
 ///
@@ -41,6 +44,96 @@ pub fn patterns(
         Ok(numbers) => patterns_on(names, patterns, &numbers),
         Err(f) => Err(as_kind_fault(f)),
     }
+}
+
+/// The same. If `passes`, what isn't constant is passed over; there are no patterns then if a repeat isn't.
+///
+/// # Errors
+///
+/// As those of [`patterns`].
+pub fn check_patterns(
+    names: &Names,
+    ins: &[Port],
+    patterns: &[Pattern],
+    passes: bool,
+) -> Result<Option<Vec<BoundPattern>>, KindFault>
+    requires { length ins.now ≤ max_ports }
+    ensures { FindsPatternsSaid passes result (patterns_tree patterns.now) (port_views ins.now)
+        (names_view names.now) }
+{
+    match pattern_ports(names.alloc, patterns, ins) {
+        Ok(numbers) => check_on(names, patterns, &numbers, passes),
+        Err(f) => Err(as_kind_fault(f)),
+    }
+}
+
+/// Patterns on the ports of these numbers; none if a repeat isn't constant, and that is passed over.
+#[tactic(auto, using(crate::proofs::Said::kept_on, crate::proofs::Said::passed_all))]
+fn check_on(
+    names: &Names,
+    patterns: &[Pattern],
+    numbers: &[u32],
+    passes: bool,
+) -> Result<Option<Vec<BoundPattern>>, KindFault>
+    ensures { JudgesAllSaid passes pattern_view result
+        (patterns_on (patterns_tree patterns.now) numbers.now (names_view names.now)) }
+{
+    match patterns_on(names, patterns, numbers) {
+        Ok(found) => Ok(Some(found)),
+        Err(fault) => {
+            if !is_passed(fault, passes) {
+                return Err(fault);
+            }
+            others_on(names, patterns, numbers, passes)?;
+            Ok(None)
+        }
+    }
+}
+
+/// That patterns on the ports of these numbers break no rule. What isn't constant is passed over if `passes`.
+#[tactic(auto, using(stmt_check::proofs::Said::said_none, stmt_check::proofs::Said::said_on, stmt_check::proofs::Said::said_next))]
+fn others_on(
+    names: &Names,
+    patterns: &[Pattern],
+    numbers: &[u32],
+    passes: bool,
+) -> Result<(), KindFault>
+    ensures { Checks result (said passes
+        (all_broken (patterns_on (patterns_tree patterns.now) numbers.now (names_view names.now)))) }
+{
+    let mut rest = patterns;
+    let mut left = numbers;
+    'patterns: while let Some((first, others)) = rest.split_first() {
+        let Some((number, later)) = left.split_first() else {
+            return Ok(());
+        };
+        other_pattern(names, first, *number, passes)?;
+        rest = others;
+        left = later;
+    }
+    Ok(())
+}
+
+/// That a pattern on a port breaks no rule. What isn't constant is passed over if `passes`.
+#[tactic(auto, using(stmt_check::proofs::Said::said_none))]
+fn other_pattern(names: &Names, p: &Pattern, port: u32, passes: bool) -> Result<(), KindFault>
+    ensures { Checks result (said passes
+        (broken (pattern_judged (pattern_tree p.now) port (names_view names.now)))) }
+{
+    match first_of_pattern(names, p, port) {
+        Ok(()) => Ok(()),
+        Err(fault) => passed(fault, passes),
+    }
+}
+
+/// That a pattern on a port breaks no rule.
+#[tactic(auto, using(stmt_check::proofs::Checked::refuses_broken))]
+fn first_of_pattern(names: &Names, p: &Pattern, port: u32) -> Result<(), KindFault>
+    ensures { Checks result
+        (broken (pattern_judged (pattern_tree p.now) port (names_view names.now))) }
+{
+    pattern(names, p, port)?;
+    Ok(())
 }
 
 /// Patterns on the ports of these numbers.

@@ -18,3 +18,5 @@ pub mod FiringRuns
 pub mod AddingFirings
 pub mod OutputRates
 pub mod FiringAt
+pub mod AllowedFirings
+pub mod AllowedNames

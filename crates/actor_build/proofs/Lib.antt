@@ -1,3 +1,5 @@
 mod Faults
 mod OrderSteps
 mod WholeSteps
+mod SameHeads
+pub mod PastLacks

@@ -1,10 +1,8 @@
 -- The whole actor of its parts.
-use Rattle.std.proofs.Common.{◌≡◌, ◌≤◌, ℕ, suc, Bool, true, false, ◌⊎◌, inl, inr, ⊎_elim, List, [], ◌∷◌, ◌++◌, length, map, refl, sym, ap, subst, string_bytes, ◌∙◌, Ok, Err, Result, arith}
-use Rattle.std.proofs.lemmas.Bool.Decides.{nat_tests}
+use Rattle.std.proofs.Common.{◌≡◌, ◌≤◌, ℕ, false, ◌⊎◌, inl, inr, ⊎_elim, List, [], ◌∷◌, ◌++◌, length, map, refl, sym, ap, subst, string_bytes, ◌∙◌, Ok, Err, Result}
 use Rattle.std.proofs.lemmas.List.{length-map}
 use Rattle.std.specs.Prelude.{Vec, nat_le}
 use Rattle.std.specs.declared.alloc.Global.{Global}
-use Rattle.rvc_base.specs.declared.refusal.Rule.{Rule}
 use Rattle.rvc_base.specs.Rules.{too_many_actions}
 use Rattle.rvc_base.specs.Chain.{IsAbove}
 use Rattle.cal_ast.specs.Tree.{Tree}
@@ -16,7 +14,7 @@ use Rattle.cal_model.specs.Sound.{max_actions}
 use Rattle.cal_model.specs.View.{action_view, fun_view, move_view, proc_view, var_view}
 use Rattle.cal_model.specs.declared.bound.BoundAction.{BoundAction}
 use Rattle.const_eval.specs.declared.fault.KindFault.{KindFault}
-use Rattle.cal_check.specs.Violations.{Violation, all_fine, unless}
+use Rattle.cal_check.specs.Violations.{all_fine, unless}
 use Rattle.cal_check.specs.Variables.{Given, Spot}
 use Rattle.cal_check.specs.Actions.{Around, or_none}
 use Rattle.cal_check.specs.Schedules.{moves_in, pairs_in, schedule_in, states_of}
@@ -26,9 +24,10 @@ use Rattle.member_check.specs.Parts.{action_views, members_tree}
 use Rattle.stmt_check.specs.Judging.{Refuses}
 use Rattle.stmt_check.proofs.Checked.{refuses_later, refuses_on}
 use Rattle.action_build.specs.Building.{BuildsActions}
-use Rattle.actor_build.specs.Building.{AreFine, ArePartsOf, BreaksMembers, FindsActions, HasActions, IsCycle, IsFineOrder, acts_broken, around_bare, members_broken, order_broken, whole_view}
+use Rattle.actor_build.specs.Building.{AreFine, ArePartsOf, BreaksMembers, FindsActions, HasActions, IsCycle, IsFineOrder, IsMembersFault, acts_broken, around_bare, members_broken, order_broken, whole_view}
 use Rattle.actor_build.specs.declared.ordering.ActorOrder.{ActorOrder}
 use Rattle.actor_build.specs.declared.whole.BareActor.{BareActor}
+use Rattle.actor_build.proofs.PastLacks.{as_many, few_counted, order_fault}
 
 map_pairs : (xs : List (ℕ × ℕ)) → map (λ p. (p.0, p.1)) xs ≡ xs
 map_pairs [] = refl
@@ -36,30 +35,13 @@ map_pairs (x ∷ xs) = ap (λ ys. x ∷ ys) (map_pairs xs)
 
 -- ---- actions
 
-as_many : (acts : List Tree) (around : Around) → length (actions_of acts around) ≡ length acts
-as_many [] around = refl
-as_many (a ∷ acts) around = ap suc (as_many acts around)
-
-behind_none : (vs ws : List Violation) → vs ++ ws ≡ [] → ws ≡ []
-behind_none [] ws h = h
-behind_none (v ∷ vs) ws h = absurd (cc)
-
-unless_none : (b : Bool) (rule : Rule) (at : ℕ) → unless b rule at ≡ [] → b ≡ true
-unless_none true rule at h = refl
-unless_none false rule at h = absurd (cc)
-
-not_more : (a b : ℕ) → nat_le a b ≡ true → a ≤ b
-not_more a b h = grind (arith, nat_tests)
-
 -- actions that are built, none of which breaks a rule
 pub finds_actions : (r : Result (Vec BoundAction Global) KindFault) (members : Tree) (around : Around) (at : ℕ)
     → initialized_twice false (actions_in members) ++ unless (nat_le (length (actions_in members)) max_actions) too_many_actions at ≡ []
     → actions_broken (actions_in members) around ≡ [] → BuildsActions r (actions_in members) around → FindsActions r members around at
 finds_actions (Ok found) members around at counted fine h =
     let acts = actions_in members in
-    let few : length acts ≤ max_actions =
-    not_more (length acts) max_actions (unless_none (nat_le (length acts) max_actions) too_many_actions at
-    (behind_none (initialized_twice false acts) (unless (nat_le (length acts) max_actions) too_many_actions at) counted)) in
+    let few = few_counted members at counted in
     let same : length found.items ≡ length acts =
     sym (length-map found.items action_view) ∙ ap (λ xs. length xs) h ∙ as_many acts around in
     record {
@@ -99,10 +81,11 @@ actions_break f members around actor at h = inl (refuses_on f (acts_broken membe
 
 pub order_breaks : (f : KindFault) (acts : List BoundAction) (members : Tree) (around : Around) (actor : Actor) (at : ℕ) → AreFine acts members around at
     → ((x : Actor) → HasActions x (action_views acts) members → Refuses f (order_broken members x at) ⊎ IsCycle f members x)
-    → HasActions actor (actions_of (actions_in members) around) members → BreaksMembers f members around actor at
+    → HasActions actor (actions_of (actions_in members) around) members → IsMembersFault f members around actor at
 order_breaks f acts members around actor at actions h has =
-    ⊎_elim (λ l. inl (refuses_later f (acts_broken members around at) (order_broken members actor at) l)) (λ r. inr r)
-    (h actor (record { actions = has.actions ∙ sym actions.is; states = has.states }))
+    let found = h actor (record { actions = has.actions ∙ sym actions.is; states = has.states }) in
+    order_fault f members around actor at
+    (⊎_elim (λ l. inl (refuses_later f (acts_broken members around at) (order_broken members actor at) l)) (λ r. inr r) found) found
 
 -- ---- the actor that a source is
 

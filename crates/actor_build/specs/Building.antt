@@ -1,6 +1,7 @@
 -- What calls that put an actor together answer.
--- Trusted but for `AreFine`, `FindsActions`, `IsFineOrder`, `FindsOrder` and `whole_view`: part of what a promise means.
-use Rattle.std.specs.Prelude.{◌≡◌, ◌≤◌, ◌⊎◌, ℕ, false, List, [], ◌++◌, length, map, nat_le, Some, Vec, string_bytes}
+-- Trusted but for `heads_of`, `AreFine`, `FindsActions`, `FindsActionsOr`, `IsFineOrder`, `FindsOrder` and `whole_view`:
+-- part of what a promise means.
+use Rattle.std.specs.Prelude.{◌≡◌, ◌≤◌, ◌⊎◌, ℕ, Bool, false, true, List, [], ◌++◌, length, map, nat_le, Some, Vec, string_bytes}
 use Rattle.std.specs.declared.alloc.Global.{Global}
 use Rattle.std.specs.declared.result.Result.{Result}
 use Rattle.std.specs.declared.result.Result.TheVariants.{Ok, Err}
@@ -14,14 +15,14 @@ use Rattle.cal_model.specs.View.{fun_view, move_view, proc_view, var_view}
 use Rattle.cal_model.specs.declared.bound.BoundAction.{BoundAction}
 use Rattle.const_eval.specs.declared.fault.KindFault.{KindFault}
 use Rattle.const_eval.specs.declared.fault.KindFault.TheVariants as fault
-use Rattle.cal_check.specs.Violations.{Violation, all_fine, unless}
+use Rattle.cal_check.specs.Violations.{Violation, all_fine, said, unless}
 use Rattle.cal_check.specs.Variables.{Given, Spot}
 use Rattle.cal_check.specs.Actions.{Around, or_none}
 use Rattle.cal_check.specs.Schedules.{first_priority, moves_in, pairs_in, priorities_broken, schedule_broken, schedule_in, states_of}
 use Rattle.cal_check.specs.Actors.{Source, actions_broken, actions_in, actions_of, all_funs, all_valued, around_of, funs_of, initialized_twice, kept_funs, kept_vars}
 use Rattle.member_check.specs.Asking.{port_views}
 use Rattle.member_check.specs.Parts.{action_views}
-use Rattle.stmt_check.specs.Judging.{Refuses}
+use Rattle.stmt_check.specs.Judging.{Refuses, is_passed}
 use Rattle.actor_build.specs.declared.ordering.ActorOrder.{ActorOrder}
 use Rattle.actor_build.specs.declared.whole.BareActor.{BareActor}
 
@@ -91,6 +92,29 @@ abbrev pub BreaksMembers : KindFault → Tree → Around → Actor → ℕ → T
 BreaksMembers f members around actor at =
     Refuses f (members_broken members around actor at) ⊎ IsCycle f members actor
 
+-- what is left of it where what isn't constant is passed over, or a rule that is said in any case
+abbrev pub FindsOthers : Result (Unit {0}) KindFault → Tree → Around → Actor → ℕ → Type 0
+FindsOthers (Ok u) members around actor at =
+    said true (members_broken members around actor at) ≡ []
+FindsOthers (Err f) members around actor at =
+    Refuses f (said true (members_broken members around actor at)) ⊎ IsCycle f members actor
+
+-- A rule that is broken, or an action above itself. It is said in any case, or nothing is broken but that something isn't
+-- constant.
+abbrev pub IsMembersFault : KindFault → Tree → Around → Actor → ℕ → Type 0
+IsMembersFault f members around actor at = BreaksMembers f members around actor at
+    × ((is_passed true f ≡ false) ⊎ (said true (members_broken members around actor at) ≡ []))
+
+-- what the schedule and the priorities of an actor break, or an action is above itself
+abbrev pub FindsOrderOf : Result (Unit {0}) KindFault → Tree → Actor → ℕ → Type 0
+FindsOrderOf (Ok u) members actor at = order_broken members actor at ≡ []
+FindsOrderOf (Err f) members actor at =
+    Refuses f (order_broken members actor at) ⊎ IsCycle f members actor
+
+-- what schedules and priorities see of actions: tags, and which are an `initialize`
+abbrev pub heads_of : List Action → List (List (List ℕ) × Bool)
+heads_of acts = map (λ a. (a.tag, a.initialize)) acts
+
 -- ---- steps
 
 -- actions that break no rule, or a rule that is broken
@@ -103,6 +127,13 @@ pub record AreFine (found : List BoundAction) (members : Tree) (around : Around)
 abbrev pub FindsActions : Result (Vec BoundAction Global) KindFault → Tree → Around → ℕ → Type 0
 FindsActions (Ok found) members around at = AreFine found.items members around at
 FindsActions (Err f) members around at = Refuses f (acts_broken members around at)
+
+-- the same, with what is said if they break one
+abbrev pub FindsActionsOr : Result (Vec BoundAction Global) KindFault → Tree → Around → ℕ → Type 0
+FindsActionsOr (Ok found) members around at = AreFine found.items members around at
+FindsActionsOr (Err f) members around at = (actor : Actor)
+    → HasActions actor (actions_of (actions_in members) around) members
+    → IsMembersFault f members around actor at
 
 -- what orders these actions, or a rule that is broken
 pub record IsFineOrder (order : ActorOrder) (acts : List Action) (members : Tree) (at : ℕ)

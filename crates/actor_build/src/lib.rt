@@ -7,8 +7,10 @@
 
 mod move_list;
 mod ordering;
+mod others;
 mod whole;
 
 pub use move_list::moves;
 pub use ordering::{ActorOrder, order};
+pub use others::other_members;
 pub use whole::{BareActor, actor};

@@ -16,9 +16,10 @@ ghost use Rattle.member_check.specs.Parts.{action_views, members_tree};
 ghost use Rattle.stmt_check.specs.Judging.{Checks};
 ghost use Rattle.action_check.specs.Faults.{as_kind_fault};
 ghost use Rattle.action_check.specs.Parts.{HasFewPorts, around_view};
-ghost use Rattle.actor_build.specs.Building.{ArePartsOf, BreaksMembers, FindsActions, FindsOrder, HasActions, around_bare, members_broken, whole_view};
+ghost use Rattle.actor_build.specs.Building.{ArePartsOf, FindsActions, FindsActionsOr, FindsOrder, HasActions, IsMembersFault, around_bare, members_broken, whole_view};
 
 use crate::ordering::{ActorOrder, order};
+use crate::others::members_fault;
 use action_build::actions;
 use action_check::{ActorParts, check_actions};
 use cal_ast::{Actor, Member};
@@ -46,7 +47,7 @@ pub struct BareActor {
 ///
 /// `Broken`: one of the rules that its actions, its schedule or its priorities break, with its place; A6 at a second
 /// `initialize`, Z2 at the actor if it has more than 256 actions or 1,024 states, or A5 at the first word `priority` if
-/// some action is above itself. `Memory` if memory runs out.
+/// some action is above itself. T9 only if they break nothing else. `Memory` if memory runs out.
 pub fn actor(names: &Names, bare: BareActor, decl: &Actor) -> Result<Bound, KindFault>
     requires few_ins { length bare.ins.items ≤ max_ports }
     requires few_outs { length bare.outs.items ≤ max_ports }
@@ -61,12 +62,30 @@ pub fn actor(names: &Names, bare: BareActor, decl: &Actor) -> Result<Bound, Kind
     ensures broken { IfErr result (λ fault. (actor : Meaning)
         → HasActions actor (actions_of (actions_in (members_tree decl.now.members.items))
         (around_bare bare (names_view names.now))) (members_tree decl.now.members.items)
-        → BreaksMembers fault (members_tree decl.now.members.items)
+        → IsMembersFault fault (members_tree decl.now.members.items)
         (around_bare bare (names_view names.now)) actor decl.now.at) }
 {
-    let actions = fine_actions(names, &bare, decl)?;
+    let actions = said_actions(names, &bare, decl)?;
     let order = fine_order(names, &decl.members, &actions, decl.at)?;
     Ok(whole(bare, actions, order))
+}
+
+/// The actions that are declared in an actor of these parts, none of which breaks a rule. What isn't constant is a fault
+/// only if its members break nothing else.
+fn said_actions(
+    names: &Names,
+    bare: &BareActor,
+    decl: &Actor,
+) -> Result<Vec<BoundAction>, KindFault>
+    requires few_ins { length bare.now.ins.items ≤ max_ports }
+    requires few_outs { length bare.now.outs.items ≤ max_ports }
+    ensures { FindsActionsOr result (members_tree decl.now.members.items)
+        (around_bare bare.now (names_view names.now)) decl.now.at }
+{
+    match fine_actions(names, bare, decl) {
+        Ok(actions) => Ok(actions),
+        Err(fault) => Err(members_fault(names, bare, decl, fault)),
+    }
 }
 
 /// The actions that are declared in an actor of these parts, none of which breaks a rule.
@@ -99,12 +118,12 @@ fn actions_among(
     ensures { FindsActions result (members_tree members.now) (around_view parts.now names.now) at }
 {
     check_members(members, at)?;
-    check_actions(names, parts, members)?;
+    check_actions(names, parts, members, false)?;
     actions(names, parts, members)
 }
 
 /// That at most one action is an `initialize`, and that actions aren't too many.
-fn check_members(members: &[Member], at: u32) -> Result<(), KindFault>
+pub(crate) fn check_members(members: &[Member], at: u32) -> Result<(), KindFault>
     ensures { Checks result (initialized_twice false (actions_in (members_tree members.now))
         ++ unless (nat_le (length (actions_in (members_tree members.now))) max_actions)
         too_many_actions at) }
@@ -127,7 +146,7 @@ fn check_counts(members: &[Member], at: u32) -> Result<(), MemberFault>
 }
 
 /// What orders these actions, as it is declared among members; `at` is the offset of the actor.
-fn fine_order(
+pub(crate) fn fine_order(
     names: &Names,
     members: &[Member],
     actions: &[BoundAction],

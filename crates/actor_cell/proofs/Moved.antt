@@ -90,6 +90,42 @@ module _ (core : Core) (p : ℕ) (token : ℤ) (queue : Queue) (low : p < length
     trapped = refl;
   }
 
+-- the token that came last was taken back
+module _ (core : Core) (p : ℕ) (token : ℤ) (queue : Queue) (low : p < length core.inboxes)
+    (is : queue_on core.inboxes p ≡ record { tokens = queue.tokens ++ token ∷ []; capacity = queue.capacity }) where
+  abbrev before : List Queue
+  before = slice_set core.inboxes p queue
+
+  here-before : queue_on before p ≡ queue
+  here-before = get_or-set_same core.inboxes p queue no_queue low
+
+  there-before : (q : ℕ) → q ≢ p → queue_on before q ≡ queue_on core.inboxes q
+  there-before q other = get_or-set_other core.inboxes p q queue no_queue other
+
+  capacity-before : (q : ℕ) → (queue_on core.inboxes q).capacity ≡ (queue_on before q).capacity
+  capacity-before q = by (same-number q p)
+    where
+      by : (q ≡ p) ⊎ (q ≢ p) → (queue_on core.inboxes q).capacity ≡ (queue_on before q).capacity
+      by (inl same) = subst (λ k. (queue_on core.inboxes k).capacity ≡ (queue_on before k).capacity) (sym same)
+          (ap (λ one. one.capacity) is ∙ sym (ap (λ one. one.capacity) here-before))
+      by (inr other) = sym (ap (λ one. one.capacity) (there-before q other))
+
+  pub taken-back-of : Accepts (seen (record core { inboxes = before })) p token (seen core)
+  taken-back-of = record {
+    actor = record {
+      same_actor = refl;
+      same_inbox_capacities = λ q less. capacity-at core.inboxes q ∙ (capacity-before q ∙ sym (capacity-at before q));
+      same_outbox_capacities = λ q less. refl;
+      same_journal_room = refl;
+    };
+    state = refl;
+    there = tokens-at core.inboxes p ∙ (ap (λ one. one.tokens) is ∙ ap (λ ts. ts ++ token ∷ []) (sym (tokens-at before p ∙ ap (λ one. one.tokens) here-before)));
+    elsewhere = λ q less other. tokens-at core.inboxes q ∙ (sym (ap (λ one. one.tokens) (there-before q other)) ∙ sym (tokens-at before q));
+    outboxes = λ q less. refl;
+    journal = refl;
+    trapped = refl;
+  }
+
 -- the outboxes and the journal were emptied
 pub clears-of : (core : Core) (outboxes : List Queue) (journal : List ℕ) (room : ℕ) → AreEmptied core.outboxes outboxes → length core.outboxes ≡ core.actor.outs
     → journal ≡ [] → room ≡ core.journal_room

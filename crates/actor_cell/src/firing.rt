@@ -64,6 +64,10 @@ impl Firing for Cell {
         self.inboxes[port as usize].push(token);
     }
 
+    fn take_back(&mut self, port: u32) -> Num {
+        self.inboxes[port as usize].take_back()
+    }
+
     #[inline]
     fn sent(&self, port: u32) -> u32 {
         self.outboxes[port as usize].len()

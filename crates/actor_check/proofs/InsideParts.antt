@@ -172,3 +172,44 @@ inside_fine s around actor r m x =
     (found_none s.file (procs_broken (procs_in (members_of s.actor)) around.procs around.names)
     (second_none (funs_broken (all_funs s) around.names) (procs_found s around.procs around.names) r))
     m (found_none s.file (scalars_broken s actor) x)))
+
+-- ---- where what is broken inside is found
+
+split_own : (ps acts is ss rs us ws xs : List Violation) (v : Violation) → Contains (ps ++ (acts ++ (is ++ (ss ++ (rs ++ (us ++ (ws ++ xs))))))) v
+    → Contains ps v ⊎ (Contains ((acts ++ (is ++ us)) ++ (ss ++ (rs ++ ws))) v ⊎ Contains xs v)
+split_own ps acts is ss rs us ws xs v h =
+    ⊎_elim (λ i. inl i) (λ a.
+    ⊎_elim (λ i. inr (inl (first (acts ++ (is ++ us)) _ v (first acts (is ++ us) v i)))) (λ b.
+    ⊎_elim (λ i. inr (inl (first (acts ++ (is ++ us)) _ v (second acts (is ++ us) v (first is us v i))))) (λ c.
+    ⊎_elim (λ i. inr (inl (second (acts ++ (is ++ us)) _ v (first ss (rs ++ ws) v i)))) (λ d.
+    ⊎_elim (λ i. inr (inl (second (acts ++ (is ++ us)) _ v (second ss (rs ++ ws) v (first rs ws v i))))) (λ e.
+    ⊎_elim (λ i. inr (inl (first (acts ++ (is ++ us)) _ v (second acts (is ++ us) v (second is us v i))))) (λ g.
+    ⊎_elim (λ i. inr (inl (second (acts ++ (is ++ us)) _ v (second ss (rs ++ ws) v (second rs ws v i))))) (λ i. inr (inr i))
+    (Contains-append_cases ws xs v g)) (Contains-append_cases us _ v e)) (Contains-append_cases rs _ v d)) (Contains-append_cases ss _ v c))
+    (Contains-append_cases is _ v b)) (Contains-append_cases acts _ v a)) (Contains-append_cases ps _ v h)
+
+there : (file : ℕ) (vs : List Violation) (f : Found) → f.file ≡ file → Contains vs f.violation → Contains (found_in file vs) f
+there file vs f e h = subst (λ n. Contains (found_in n vs) f) e (found_of f.file vs f.violation h)
+
+-- in functions or procedures, in actions and what orders them, or in the scalars of variables
+pub in_inside : (s : Source) (around : Around) (actor : Actor) (f : Found) → Contains (inside_found s around actor) f
+    → Contains (routines_found s around.procs around.names) f
+    ⊎ (Contains (found_in s.file (members_broken (members_of s.actor) around actor (place_of s.actor))) f ⊎ Contains (scalars_found s actor.vars) f)
+in_inside s around actor f h = go (Contains-append_cases (funs_broken (all_funs s) around.names) (found_in s.file (own_broken s around actor)) f h)
+  where
+    ps : List Violation
+    ps = procs_broken (procs_in (members_of s.actor)) around.procs around.names
+
+    go : Contains (funs_broken (all_funs s) around.names) f ⊎ Contains (found_in s.file (own_broken s around actor)) f
+        → Contains (routines_found s around.procs around.names) f
+        ⊎ (Contains (found_in s.file (members_broken (members_of s.actor) around actor (place_of s.actor))) f ⊎ Contains (scalars_found s actor.vars) f)
+    go (inl i) = inl (Contains-append_left (funs_broken (all_funs s) around.names) (found_in s.file ps) f i)
+    go (inr i) =
+        let r = of_found s.file (own_broken s around actor) f i in
+        ⊎_elim (λ j. inl (Contains-append_right (funs_broken (all_funs s) around.names) (found_in s.file ps) f (there s.file ps f r.0 j)))
+        (λ o. inr (⊎_elim (λ j. inl (there s.file (members_broken (members_of s.actor) around actor (place_of s.actor)) f r.0 j))
+        (λ j. inr (there s.file (scalars_broken s actor) f r.0 j)) o))
+        (split_own ps (actions_broken (actions_in (members_of s.actor)) around) (initialized_twice false (actions_in (members_of s.actor)))
+        (schedule_broken (schedule_in (members_of s.actor)) actor) (priorities_broken (members_of s.actor) actor.actions)
+        (unless (nat_le (length (actions_in (members_of s.actor))) max_actions) too_many_actions (place_of s.actor))
+        (unless (nat_le (length actor.states) max_states) too_many_actions (place_of s.actor)) (scalars_broken s actor) f.violation r.1)

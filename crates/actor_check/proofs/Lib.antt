@@ -5,8 +5,9 @@ mod Chain
 mod Counts
 mod SamePairs
 mod InsideParts
+mod Sifted
 mod Putting
 mod Ported
-mod Sifted
+mod SiftedInside
 mod Telling
 mod Naming

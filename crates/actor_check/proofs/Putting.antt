@@ -1,9 +1,8 @@
 -- An actor that is put together of its parts.
-use Rattle.std.proofs.Common.{◌≡◌, inl, inr, ⊎_elim, ℕ, List, [], map, refl, sym, ap, subst, ◌∙◌, Ok, Err, Result}
+use Rattle.std.proofs.Common.{◌≡◌, ◌⊎◌, inl, inr, ⊎_elim, ℕ, true, false, List, [], map, refl, sym, ap, subst, ◌∙◌}
 use Rattle.std.specs.Prelude.{Vec}
 use Rattle.std.specs.declared.alloc.Global.{Global}
 use Rattle.rvc_base.specs.Chain.{IsAbove}
-use Rattle.rvc_base.specs.declared.refusal.Front.{Front}
 use Rattle.cal_ast.specs.Tree.{Tree}
 use Rattle.cal_ast.specs.View.{actor_tree}
 use Rattle.cal_imports.specs.declared.scope.Scope.{Scope as Resolved}
@@ -15,22 +14,25 @@ use Rattle.cal_model.specs.declared.bound.BoundVar.{BoundVar}
 use Rattle.const_eval.specs.declared.fault.KindFault.{KindFault}
 use Rattle.const_eval.specs.declared.fault.KindFault.TheVariants as fault
 use Rattle.cal_check.specs.Actions.{Around, or_none}
-use Rattle.cal_check.specs.Actors.{IsAboveItself, Source, actions_in, actions_of, actor_given, all_valued, around_of, bare_actor, inside_found, kept_funs, kept_vars, members_of, place_of, procs_in, procs_of}
+use Rattle.cal_check.specs.Actors.{IsAboveItself, Source, actions_in, actions_of, actor_given, all_valued, around_of, bare_actor, kept_funs, kept_vars, members_of, place_of, procs_in, procs_of}
 use Rattle.cal_check.specs.Schedules.{moves_in, pairs_in, schedule_in}
 use Rattle.cal_check.specs.Variables.{Given, Spot, found_in}
-use Rattle.cal_check.specs.Violations.{Violation, all_fine}
+use Rattle.cal_check.specs.Violations.{Violation, all_fine, said}
 use Rattle.member_check.specs.Parts.{members_tree}
-use Rattle.stmt_check.specs.Judging.{Refuses}
-use Rattle.actor_build.specs.Building.{ArePartsOf, BreaksMembers, HasActions, IsCycle, around_bare, members_broken}
+use Rattle.stmt_check.specs.Judging.{Refuses, is_passed}
+use Rattle.actor_build.specs.Building.{ArePartsOf, HasActions, IsCycle, IsMembersFault, around_bare, members_broken}
 use Rattle.actor_build.specs.declared.whole.BareActor.{BareActor}
-use Rattle.variable_check.specs.Causes.{IsCause}
+use Rattle.cal_model.specs.Sound.{Each}
+use Rattle.variable_check.specs.Causes.{IsCause, SaysRule}
 use Rattle.variable_check.specs.declared.header.Header.{Header}
-use Rattle.actor_check.specs.Parts.{AreKept, ArePartsIn, BreaksParts, BuildsActor, FindsInside, IsBuilt, IsCycleIn, IsInside, placed}
+use Rattle.actor_check.specs.Parts.{AreKept, ArePartsIn, BreaksParts, IsBuilt, IsCycleIn, IsInside, placed}
 use Rattle.actor_check.specs.Phases.{routines_found, scalars_found}
 use Rattle.actor_check.specs.Sources.{source_in}
 use Rattle.actor_check.specs.declared.routines.Routines.{Routines}
 use Rattle.actor_check.proofs.Causes.{found_of}
-use Rattle.actor_check.proofs.InsideParts.{inside_fine, members_cause, routines_cause, scalars_cause}
+use Rattle.actor_check.specs.Sifting.{IsLack}
+use Rattle.actor_check.proofs.InsideParts.{inside_fine}
+use Rattle.actor_check.proofs.Sifted.{lacks_found}
 use Rattle.actor_check.proofs.SamePairs.{pairs_same}
 
 -- ---- what is around
@@ -74,19 +76,30 @@ parts_are bare held header routines scope names gs owner k p h = record {
 
 -- ---- what actions and their order break
 
-placed_cause : (file : ℕ) (f : KindFault) (vs : List Violation) → Refuses f vs → IsCause (placed file f) (found_in file vs)
+pub placed_cause : (file : ℕ) (f : KindFault) (vs : List Violation) → Refuses f vs → IsCause (placed file f) (found_in file vs)
 placed_cause file (fault.Broken rule at) vs h = found_of file vs (record { rule = rule; at = at }) h
 placed_cause file fault.Memory vs h = tt
 
-placed_cycle : (file : ℕ) (f : KindFault) (members : Tree) (actor : Actor) → actor.pairs ≡ pairs_in members actor → IsCycle f members actor
+pub placed_cycle : (file : ℕ) (f : KindFault) (members : Tree) (actor : Actor) → actor.pairs ≡ pairs_in members actor → IsCycle f members actor
     → IsCycleIn (placed file f) file members actor
 placed_cycle file (fault.Broken rule at) members actor pairs (is, first, (a, above)) =
     (record { action = a; above = subst (λ ps. IsAbove ps a a) (sym pairs) above }, first, is, refl)
 placed_cycle file fault.Memory members actor pairs h = tt
 
+pub own_has : (bare : BareActor) (scope : Resolved) (names : Names) (gs : List Given) (owner : Spot) → ArePartsOf bare (actor_tree scope.actor) names (source_in scope) gs owner
+    → HasActions (actor_given (source_in scope) gs owner) (actions_of (actions_in (members_tree scope.actor.members.items)) (around_bare bare names)) (members_tree scope.actor.members.items)
+own_has bare scope names gs owner parts =
+    record { actions = ap (actions_of (actions_in (members_tree scope.actor.members.items))) parts.around; states = refl }
+
+-- nothing but what isn't constant, or a rule that is said in any case
+placed_only : (file : ℕ) (f : KindFault) (vs : List Violation) → (is_passed true f ≡ false) ⊎ (said true vs ≡ []) → SaysRule (placed file f) ⊎ Each IsLack (found_in file vs)
+placed_only file (fault.Broken rule at) vs (inl h) = inl h
+placed_only file fault.Memory vs (inl h) = inl tt
+placed_only file f vs (inr h) = inr (lacks_found file vs h)
+
 pub parts_break : (f : KindFault) (bare : BareActor) (scope : Resolved) (names : Names)
     → ((actor : Actor) → HasActions actor (actions_of (actions_in (members_tree scope.actor.members.items)) (around_bare bare names)) (members_tree scope.actor.members.items)
-    → BreaksMembers f (members_tree scope.actor.members.items) (around_bare bare names) actor scope.actor.at)
+    → IsMembersFault f (members_tree scope.actor.members.items) (around_bare bare names) actor scope.actor.at)
     → BreaksParts (placed scope.file f) bare scope names
 parts_break f bare scope names broken gs owner parts =
     let s = source_in scope in
@@ -94,25 +107,16 @@ parts_break f bare scope names broken gs owner parts =
     let around = around_of s gs owner in
     let plain = bare_actor s gs owner around in
     let actor = actor_given s gs owner in
-    let has : HasActions actor (actions_of (actions_in members) (around_bare bare names)) members =
-    record { actions = ap (actions_of (actions_in members)) parts.around; states = refl } in
     let pairs : actor.pairs ≡ pairs_in members actor =
     sym (pairs_same plain (moves_in (schedule_in members) plain) (pairs_in members plain) members) in
-    let breaks : BreaksMembers f members around actor scope.actor.at =
-    subst (λ a. BreaksMembers f members a actor scope.actor.at) (sym parts.around) (broken actor has) in
-    ⊎_elim (λ l. inl (placed_cause scope.file f (members_broken members around actor scope.actor.at) l))
-    (λ r. inr (placed_cycle scope.file f members actor pairs r)) breaks
+    let breaks : IsMembersFault f members around actor scope.actor.at =
+    subst (λ a. IsMembersFault f members a actor scope.actor.at) (sym parts.around) (broken actor (own_has bare scope names gs owner parts)) in (
+      ⊎_elim (λ l. inl (placed_cause scope.file f (members_broken members around actor scope.actor.at) l))
+          (λ r. inr (placed_cycle scope.file f members actor pairs r)) breaks.0,
+      placed_only scope.file f (members_broken members around actor scope.actor.at) breaks.1,
+    )
 
 -- ---- the actor, if nothing else is broken
-
-pub kept_scalars : (f : Front) (bare : BareActor) (held : Vec BoundVar Global) (header : Header) (routines : Routines) (scope : Resolved) (names : Names) (gs : List Given) (owner : Spot)
-    → AreKept bare held header routines (source_in scope) → (all_valued (source_in scope) gs owner).held ≡ map var_view held.items
-    → IsCause f (scalars_found (source_in scope) (map var_view bare.vars.items))
-    → IsCause f (inside_found (source_in scope) (around_of (source_in scope) gs owner) (actor_given (source_in scope) gs owner))
-kept_scalars f bare held header routines scope names gs owner k h broken =
-    let s = source_in scope in
-    let same : map var_view bare.vars.items ≡ kept_vars (all_valued s gs owner).held s = k.vars ∙ sym (ap (λ xs. kept_vars xs s) h) in
-    scalars_cause f s (around_of s gs owner) (actor_given s gs owner) (subst (λ xs. IsCause f (scalars_found s xs)) same broken)
 
 pub kept_inside : (found : Bound) (bare : BareActor) (held : Vec BoundVar Global) (header : Header) (routines : Routines) (scope : Resolved) (names : Names) (gs : List Given) (owner : Spot)
     → AreKept bare held header routines (source_in scope) → ArePartsIn header routines names (source_in scope) gs owner
@@ -140,33 +144,3 @@ kept_inside found bare held header routines scope names gs owner k p h routines_
           members scalars;
       ordered = λ above. b.ordered (subst IsAboveItself (sym is) above);
     }
-
--- ---- what is broken, if something is
-
-pub kept_breaks : (f : Front) (bare : BareActor) (held : Vec BoundVar Global) (header : Header) (routines : Routines) (scope : Resolved) (names : Names) (gs : List Given) (owner : Spot)
-    → AreKept bare held header routines (source_in scope) → ArePartsIn header routines names (source_in scope) gs owner
-    → (all_valued (source_in scope) gs owner).held ≡ map var_view held.items
-    → BreaksParts f bare scope names → FindsInside (Err f) (source_in scope) gs owner
-kept_breaks f bare held header routines scope names gs owner k p h breaks =
-    let s = source_in scope in
-    ⊎_elim (λ l. inl (members_cause f s (around_of s gs owner) (actor_given s gs owner) l)) (λ r. inr r)
-    (breaks gs owner (parts_are bare held header routines scope names gs owner k p h))
-
-pub routines_break : (f : Front) (header : Header) (routines : Routines) (scope : Resolved) (names : Names) (gs : List Given) (owner : Spot)
-    → ArePartsIn header routines names (source_in scope) gs owner
-    → IsCause f (routines_found (source_in scope) (map proc_view routines.procs.items) names) → FindsInside (Err f) (source_in scope) gs owner
-routines_break f header routines scope names gs owner p h =
-    let s = source_in scope in
-    let procs : (around_of s gs owner).procs ≡ map proc_view routines.procs.items = ap (λ a. a.procs) (around_is header routines names s gs owner p) in
-    inl (routines_cause f s (around_of s gs owner) (actor_given s gs owner)
-    (subst (λ ps. IsCause f (routines_found s ps (around_of s gs owner).names)) (sym procs)
-    (subst (λ n. IsCause f (routines_found s (map proc_view routines.procs.items) n)) (sym p.inside) h)))
-
-pub kept_finds : (r : Result Bound Front) (bare : BareActor) (held : Vec BoundVar Global) (header : Header) (routines : Routines) (scope : Resolved) (names : Names) (gs : List Given) (owner : Spot)
-    → AreKept bare held header routines (source_in scope) → ArePartsIn header routines names (source_in scope) gs owner
-    → (all_valued (source_in scope) gs owner).held ≡ map var_view held.items
-    → routines_found (source_in scope) (map proc_view routines.procs.items) names ≡ []
-    → scalars_found (source_in scope) (map var_view bare.vars.items) ≡ []
-    → BuildsActor r bare scope names → FindsInside r (source_in scope) gs owner
-kept_finds (Ok found) bare held header routines scope names gs owner k p h r s b = kept_inside found bare held header routines scope names gs owner k p h r s b
-kept_finds (Err f) bare held header routines scope names gs owner k p h r s b = kept_breaks f bare held header routines scope names gs owner k p h b

@@ -18,7 +18,7 @@ use Rattle.cal_model.specs.Rates.{parts}
 use Rattle.cal_model.specs.Sound.{Each, max_ports}
 use Rattle.cal_check.proofs.Lists.{each-append, head-or-rest, in-none}
 use Rattle.cal_check.specs.Variables.{Found, found_in}
-use Rattle.cal_check.specs.Violations.{Keyed, Violation, all_broken, broken, is_met, twice, unless, violation}
+use Rattle.cal_check.specs.Violations.{Keyed, Violation, all_broken, broken, is_met, said, twice, unless, violation, without_constants}
 use Rattle.cal_check.specs.Actors.{Source, formals_broken, ins_of, outs_of, place_of, procs_in}
 use Rattle.cal_check.specs.Ports.{each_port, keyed_ports, port_judged}
 use Rattle.cal_check.specs.Routines.{formals_judged, fun_judged, head_judged, proc_judged}
@@ -94,6 +94,16 @@ sifts_both (Err f) xs ys h s = (cause_in_others f xs ys s.0, s.1)
 
 pub first_refused : (f : Front) (xs ys : List Found) → IsCause f xs × SaysRule f → IsCause f (xs ++ ys) × SaysRule f
 first_refused f xs ys h = (cause_in_first f xs ys h.0, h.1)
+
+-- of a call that passes over what isn't constant
+pub lacks_found : (file : ℕ) (vs : List Violation) → said true vs ≡ [] → Each IsLack (found_in file vs)
+lacks_found file [] h = tt
+lacks_found file (v ∷ vs) h = go (v.rule.0 == not_constant.0) refl h (λ i. lacks_found file vs i)
+  where
+    go : (b : Bool) → (v.rule.0 == not_constant.0) ≡ b → (if b then without_constants vs else v ∷ without_constants vs) ≡ []
+        → (without_constants vs ≡ [] → Each IsLack (found_in file vs)) → Each IsLack (found_in file (v ∷ vs))
+    go true e i k = (rule_of v.rule e, k i)
+    go false e i k = absurd (cc)
 
 -- ---- heads
 

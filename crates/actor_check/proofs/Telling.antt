@@ -1,15 +1,13 @@
 -- What the check of an actor says, of what its parts break.
-use Rattle.std.proofs.Common.{◌≡◌, ◌⊎◌, inl, inr, Err, Bool, true, false, List, [], ◌∷◌, ◌++◌, map, refl, sym, ap, subst, ◌∙◌, append-nil, arith}
+use Rattle.std.proofs.Common.{◌≡◌, ◌⊎◌, inl, inr, Err, Bool, true, false, List, [], ◌∷◌, ◌++◌, map, refl, sym, ap, subst, ◌∙◌, append-nil}
 use Rattle.std.specs.Prelude.{Contains, Option, None, Some, if◌then◌else◌, not, ◌&&◌, ◌||◌, ◌==◌}
 use Rattle.std.specs.declared.result.Result.{Result}
-use Rattle.std.proofs.lemmas.Bool.Decides.{nat_tests}
 use Rattle.std.proofs.lemmas.List.Elements.{Contains-append_left, Contains-append_right}
 use Rattle.rvc_base.specs.Rules.{not_constant}
 use Rattle.rvc_base.specs.declared.refusal.Front.{Front}
 use Rattle.rvc_base.specs.declared.refusal.Front.TheVariants as front
 use Rattle.rvc_base.specs.declared.refusal.Place.{Place}
 use Rattle.rvc_base.specs.declared.refusal.Refusal.{Refusal}
-use Rattle.rvc_base.specs.declared.refusal.Rule.{Rule}
 use Rattle.cal_ast.specs.Places.{begins}
 use Rattle.cal_model.specs.Actor.{Held}
 use Rattle.cal_model.specs.Kinding.{Judged, Fine, Broken, Names}
@@ -19,19 +17,18 @@ use Rattle.cal_model.specs.declared.bound.Bound.{Bound}
 use Rattle.cal_check.proofs.Lists.{at-head, each-append, in-none}
 use Rattle.cal_check.specs.Constants.{early_type}
 use Rattle.cal_check.specs.Routines.{FunDecl}
-use Rattle.cal_check.specs.Actors.{Conforms, IsViolated, Source, actor_given, all_found, all_said, all_valued, around_of, behind_variables, declared_vars, first_valueless, has_heads, header_found, heads_found, inside_found, is_empty, is_held, members_found, said_or_all, violations}
+use Rattle.cal_check.specs.Actors.{Conforms, IsViolated, Source, actor_given, all_said, all_valued, around_of, behind_variables, declared_vars, first_valueless, has_heads, header_found, heads_found, inside_found, is_empty, is_held, members_found, said_or_all, violations}
 use Rattle.cal_check.specs.Variables.{Found, Given, Spot, VarDecl, Valued, none_yet, seen, valued, with_type, with_var}
 use Rattle.variable_check.specs.Causes.{IsCause, SaysRule, inconstant}
 use Rattle.variable_check.specs.Valuing.{AreAt, first_in, left_over, valueless}
-use Rattle.actor_check.specs.Checked.{IsChecked, IsComplete, IsRefused, IsUnsaid, found_of}
+use Rattle.actor_check.specs.Checked.{IsChecked, IsComplete, IsRefused, found_of}
 use Rattle.actor_check.specs.Early.{wrongly_given}
 use Rattle.actor_check.specs.Members.{AreMembers, FindsMembers, Settles, not_constant_at, place_left, said_first}
 use Rattle.actor_check.specs.Parts.{FindsInside, header_names}
 use Rattle.actor_check.specs.Phases.{header_over}
 use Rattle.actor_check.specs.Sifting.{IsFault, IsLack}
-use Rattle.actor_check.proofs.Behind.{behind_none, given_breaks, header_breaks, heads_are_fine, heads_break, inside_break, members_break, members_none}
+use Rattle.actor_check.proofs.Behind.{behind_none, given_breaks, header_breaks, heads_break, inside_break, members_break, members_none}
 use Rattle.actor_check.proofs.Chain.{behind_break, first_said, variables_break}
-use Rattle.actor_check.proofs.Sifted.{rule_of}
 
 -- ---- more variables break no less
 
@@ -147,29 +144,29 @@ fault_told : (r : Refusal) (ps : List Place) (s : Source) (gs : List Given) (own
     → SaysRule (front.Refused r) ⊎ Each IsLack (behind_variables s gs owner (around_of s gs owner))
     → IsRefused (said_first (first_in ps) (front.Refused r)) s gs owner
 fault_told r ps s gs owner e h (inl says) =
-    subst (λ f. IsRefused f s gs owner) (sym (says_first (first_in ps) r says)) (inl (behind_said s gs owner (found_of r) says h))
+    subst (λ f. IsRefused f s gs owner) (sym (says_first (first_in ps) r says)) (behind_said s gs owner (found_of r) says h)
 fault_told r ps s gs owner e h (inr only) = go (r.rule.0 == not_constant.0) refl ps e
   where
     go : (b : Bool) → (r.rule.0 == not_constant.0) ≡ b → (ps : List Place) → (all_valued s gs owner).breaks ≡ map inconstant ps
         → IsRefused (said_first (first_in ps) (front.Refused r)) s gs owner
     go false i ps e =
-        subst (λ f. IsRefused f s gs owner) (sym (says_first (first_in ps) r i)) (inl (behind_said s gs owner (found_of r) i h))
-    go true i [] e = inl (lacks_told s gs owner (found_of r) (only_constants [] (all_valued s gs owner).breaks e) only (inr (e, h)))
+        subst (λ f. IsRefused f s gs owner) (sym (says_first (first_in ps) r i)) (behind_said s gs owner (found_of r) i h)
+    go true i [] e = lacks_told s gs owner (found_of r) (only_constants [] (all_valued s gs owner).breaks e) only (inr (e, h))
     go true i (p ∷ ps) e =
         subst (λ f. IsRefused f s gs owner) (sym (lacks_first p r i))
-        (inl (lacks_told s gs owner (inconstant p) (only_constants (p ∷ ps) (all_valued s gs owner).breaks e) only
-        (inl (first_place p ps (all_valued s gs owner).breaks e))))
+        (lacks_told s gs owner (inconstant p) (only_constants (p ∷ ps) (all_valued s gs owner).breaks e) only
+        (inl (first_place p ps (all_valued s gs owner).breaks e)))
 
 -- ---- of the variables, and of what they are given
 
 pub early_refuses : (f : Front) (s : Source) (gs : List Given) (owner : Spot) → IsCause f (all_valued s gs owner).breaks × SaysRule f → IsRefused f s gs owner
 early_refuses (front.Refused r) s gs owner h =
-    inl (inl (variables_break s gs owner (around_of s gs owner) (found_of r) (other _ _ h.1) h.0))
+    inl (variables_break s gs owner (around_of s gs owner) (found_of r) (other _ _ h.1) h.0)
 early_refuses front.Memory s gs owner h = tt
 
 pub given_refuses : (f : Front) (s : Source) (gs : List Given) (owner : Spot) → IsCause f (wrongly_given s gs) → SaysRule f → IsRefused f s gs owner
 given_refuses (front.Refused r) s gs owner h said =
-    inl (behind_said s gs owner (found_of r) said (given_breaks s gs owner (around_of s gs owner) (found_of r) h))
+    behind_said s gs owner (found_of r) said (given_breaks s gs owner (around_of s gs owner) (found_of r) h)
 given_refuses front.Memory s gs owner h said = tt
 
 -- ---- the header
@@ -226,91 +223,33 @@ heads_told front.Memory (p ∷ ps) s gs owner e given header whole h = tt
 
 -- ---- what is inside
 
--- the first that is said while another hides what isn't constant
-same_head : (f g : Found) (fs gs : List Found) → f ∷ fs ≡ g ∷ gs → f ≡ g
-same_head f g fs gs h = cc
+only_inside : (wrong header hs inside : List Found) (whole : Bool) → wrong ≡ [] → header ≡ [] → whole ≡ true → hs ≡ [] → Each IsLack inside
+    → Each IsLack (wrong ++ (header ++ (if is_empty header then (if not whole then [] else if is_empty hs then inside else hs) else [])))
+only_inside [] [] [] inside true w h e c i = i
+only_inside [] [] hs inside false w h e c i = absurd (cc)
+only_inside [] [] (g ∷ hs) inside true w h e c i = absurd (cc)
+only_inside [] (g ∷ header) hs inside whole w h e c i = absurd (cc)
+only_inside (g ∷ wrong) header hs inside whole w h e c i = absurd (cc)
 
-first_other : (fs : List Found) (g : Found) (gs : List Found) → all_said true fs ≡ g ∷ gs → (g.violation.rule.0 == not_constant.0) ≡ false
-first_other [] g gs h = cc
-first_other (f ∷ fs) g gs h = go (f.violation.rule.0 == not_constant.0) refl h (λ i. first_other fs g gs i)
+-- an action above itself is said in any case
+inside_told : (f : Front) (ps : List Place) (s : Source) (gs : List Given) (owner : Spot) → (all_valued s gs owner).breaks ≡ map inconstant ps
+    → wrongly_given s gs ≡ [] → header_over s (header_names s gs owner) ≡ [] → (all_valued s gs owner).whole ≡ true
+    → heads_found s (around_of s gs owner).names ≡ [] → FindsInside (Err f) s gs owner → IsRefused (said_first (first_in ps) f) s gs owner
+inside_told (front.Refused r) ps s gs owner e given header whole heads (inl h, only) = fault_told r ps s gs owner e there (go only)
   where
-    go : (b : Bool) → (f.violation.rule.0 == not_constant.0) ≡ b → (if b then all_said true fs else f ∷ all_said true fs) ≡ g ∷ gs
-        → (all_said true fs ≡ g ∷ gs → (g.violation.rule.0 == not_constant.0) ≡ false) → (g.violation.rule.0 == not_constant.0) ≡ false
-    go true e i k = k i
-    go false e i k = subst (λ x. (x.violation.rule.0 == not_constant.0) ≡ false) (same_head f g (all_said true fs) gs i) e
-
--- a variable has no value of use, and none isn't constant: what isn't constant behind them is said, or another rule in its place
-said_or_another : (s : Source) (gs : List Given) (owner : Spot) (f : Found) → has_heads s (around_of s gs owner) ≡ true
-    → Contains (inside_found s (around_of s gs owner) (actor_given s gs owner)) f → Contains (behind_variables s gs owner (around_of s gs owner)) f
-    → f.violation.rule ≡ not_constant → (all_valued s gs owner).useless ≡ true → (all_valued s gs owner).breaks ≡ []
-    → IsViolated s gs owner f ⊎ IsUnsaid s gs owner f
-said_or_another s gs owner f heads inside there rule useless none = go (all_said true behind) refl
-  where
-    breaks : List Found
-    breaks = (all_valued s gs owner).breaks
-
-    behind : List Found
-    behind = behind_variables s gs owner (around_of s gs owner)
-
-    others : List Found
-    others = said_or_all (all_found s gs owner (around_of s gs owner)) (valueless (declared_vars s) owner (all_valued s gs owner))
-
-    -- of all that is broken this is said
-    first : all_said (not (has_heads s (around_of s gs owner))) (breaks ++ all_said (all_valued s gs owner).useless behind) ≡ all_said true behind
-    first = ap (λ h. all_said (not h) (breaks ++ all_said (all_valued s gs owner).useless behind)) heads
-        ∙ all_are_said (breaks ++ all_said (all_valued s gs owner).useless behind)
-        ∙ ap (λ bs. bs ++ all_said (all_valued s gs owner).useless behind) none ∙ ap (λ u. all_said u behind) useless
-
-    go : (said : List Found) → all_said true behind ≡ said → IsViolated s gs owner f ⊎ IsUnsaid s gs owner f
-    go [] e = inl (inl (subst (λ fs. Contains (said_or_all fs others) f) (sym (first ∙ e))
-        (first_said (all_found s gs owner (around_of s gs owner)) _ f (Contains-append_right breaks behind f there))))
-    go (g ∷ gs) e = inr (record {
-      broken = inside;
-      rule = rule;
-      useless = useless;
-      constant = none;
-      instead = g;
-      violated = inl (subst (λ fs. Contains (said_or_all fs others) g) (sym (first ∙ e)) (at-head g g gs refl));
-      another = first_other behind g gs e;
-    })
-
-inside_cause : (r : Refusal) (ps : List Place) (s : Source) (gs : List Given) (owner : Spot) → (all_valued s gs owner).breaks ≡ map inconstant ps
-    → header_over s (header_names s gs owner) ≡ [] → (all_valued s gs owner).whole ≡ true → heads_found s (around_of s gs owner).names ≡ []
-    → Contains (inside_found s (around_of s gs owner) (actor_given s gs owner)) (found_of r)
-    → IsRefused (said_first (first_in ps) (front.Refused r)) s gs owner
-inside_cause r ps s gs owner e header whole heads h = go (r.rule.0 == not_constant.0) refl ps e
-  where
-    fine : has_heads s (around_of s gs owner) ≡ true
-    fine = heads_are_fine s (around_of s gs owner) heads
-
     there : Contains (behind_variables s gs owner (around_of s gs owner)) (found_of r)
     there = members_break s gs owner (around_of s gs owner) (found_of r) header
         (inside_break s (around_of s gs owner) (actor_given s gs owner) (all_valued s gs owner).whole (found_of r) whole heads h)
 
-    alone : (useless : Bool) → (all_valued s gs owner).useless ≡ useless → (r.rule.0 == not_constant.0) ≡ true → (all_valued s gs owner).breaks ≡ []
-        → IsRefused (front.Refused r) s gs owner
-    alone false u i none = inl (inl (behind_break s gs owner (around_of s gs owner) (found_of r) (shown _ _ (ap not fine)) (shown _ _ u) there))
-    alone true u i none = said_or_another s gs owner (found_of r) fine h there (rule_of r.rule i) u none
-
-    go : (b : Bool) → (r.rule.0 == not_constant.0) ≡ b → (ps : List Place) → (all_valued s gs owner).breaks ≡ map inconstant ps
-        → IsRefused (said_first (first_in ps) (front.Refused r)) s gs owner
-    go false i ps e =
-        subst (λ f. IsRefused f s gs owner) (sym (says_first (first_in ps) r i)) (inl (behind_said s gs owner (found_of r) i there))
-    go true i [] e = alone (all_valued s gs owner).useless refl i e
-    go true i (p ∷ ps) e =
-        subst (λ f. IsRefused f s gs owner) (sym (lacks_first p r i))
-        (inl (inl (variables_break s gs owner (around_of s gs owner) (inconstant p) (shown _ _ (ap not fine))
-        (first_place p ps (all_valued s gs owner).breaks e))))
-
--- an action above itself is said in any case
-inside_told : (f : Front) (ps : List Place) (s : Source) (gs : List Given) (owner : Spot) → (all_valued s gs owner).breaks ≡ map inconstant ps
-    → header_over s (header_names s gs owner) ≡ [] → (all_valued s gs owner).whole ≡ true → heads_found s (around_of s gs owner).names ≡ []
-    → FindsInside (Err f) s gs owner → IsRefused (said_first (first_in ps) f) s gs owner
-inside_told (front.Refused r) ps s gs owner e header whole heads (inl h) = inside_cause r ps s gs owner e header whole heads h
-inside_told (front.Refused r) ps s gs owner e header whole heads (inr h) =
-    subst (λ f. IsRefused f s gs owner) (sym (says_first (first_in ps) r (ap (λ x. x.0 == not_constant.0) h.2))) (inl (inr h))
-inside_told front.Memory [] s gs owner e header whole heads h = tt
-inside_told front.Memory (p ∷ ps) s gs owner e header whole heads h = tt
+    go : SaysRule (front.Refused r) ⊎ Each IsLack (inside_found s (around_of s gs owner) (actor_given s gs owner))
+        → SaysRule (front.Refused r) ⊎ Each IsLack (behind_variables s gs owner (around_of s gs owner))
+    go (inl says) = inl says
+    go (inr lacks) = inr (only_inside (wrongly_given s gs) (header_found s gs owner) (heads_found s (around_of s gs owner).names)
+        (inside_found s (around_of s gs owner) (actor_given s gs owner)) (all_valued s gs owner).whole given header whole heads lacks)
+inside_told (front.Refused r) ps s gs owner e given header whole heads (inr h, only) =
+    subst (λ f. IsRefused f s gs owner) (sym (says_first (first_in ps) r (ap (λ x. x.0 == not_constant.0) h.2))) (inr h)
+inside_told front.Memory [] s gs owner e given header whole heads h = tt
+inside_told front.Memory (p ∷ ps) s gs owner e given header whole heads h = tt
 
 pub members_refuse : (f : Front) (noted : Option Place) (ps : List Place) (s : Source) (gs : List Given) (owner : Spot) → noted ≡ first_in ps
     → (all_valued s gs owner).breaks ≡ map inconstant ps → wrongly_given s gs ≡ [] → header_over s (header_names s gs owner) ≡ []
@@ -318,7 +257,7 @@ pub members_refuse : (f : Front) (noted : Option Place) (ps : List Place) (s : S
 members_refuse f noted ps s gs owner first e given header whole (inl h) =
     subst (λ o. IsRefused (said_first o f) s gs owner) (sym first) (heads_told f ps s gs owner e given header whole h)
 members_refuse f noted ps s gs owner first e given header whole (inr h) =
-    subst (λ o. IsRefused (said_first o f) s gs owner) (sym first) (inside_told f ps s gs owner e header whole h.0 h.1)
+    subst (λ o. IsRefused (said_first o f) s gs owner) (sym first) (inside_told f ps s gs owner e given header whole h.0 h.1)
 
 -- ---- nothing behind the variables is broken
 
@@ -348,7 +287,7 @@ alone s gs owner none only =
 left_refuses : (p : Place) (s : Source) (gs : List Given) (owner : Spot) → behind_variables s gs owner (around_of s gs owner) ≡ []
     → Each IsLack (all_valued s gs owner).breaks
     → Contains (left_over (declared_vars s) owner (all_valued s gs owner)) (inconstant p) → IsRefused (not_constant_at p) s gs owner
-left_refuses p s gs owner none only h = inl (inl (subst (λ fs. Contains fs (inconstant p)) (sym (alone s gs owner none only)) h))
+left_refuses p s gs owner none only h = inl (subst (λ fs. Contains fs (inconstant p)) (sym (alone s gs owner none only)) h)
 
 pub members_settle : (found : Bound) (ps : List Place) (left : Option Place) (r : Result Bound Front) (s : Source) (gs : List Given) (owner : Spot)
     → (all_valued s gs owner).breaks ≡ map inconstant ps → AreAt left (left_over (declared_vars s) owner (all_valued s gs owner))
@@ -422,9 +361,5 @@ violated_none : (f : Found) (s : Source) (gs : List Given) (owner : Spot) → Is
 violated_none f s gs owner (inl h) k = in-none f (subst (λ fs. Contains fs f) k.nothing h)
 violated_none f s gs owner (inr h) k = k.ordered h.0
 
-never_refused : (r : Refusal) (s : Source) (gs : List Given) (owner : Spot) → IsRefused (front.Refused r) s gs owner → Conforms s gs owner → ⊥
-never_refused r s gs owner (inl h) k = violated_none (found_of r) s gs owner h k
-never_refused r s gs owner (inr h) k = violated_none h.instead s gs owner h.violated k
-
 pub conforming_is_given : (result : Result Bound Front) (s : Source) (gs : List Given) (owner : Spot) → IsChecked result s gs owner → IsComplete result s gs owner
-conforming_is_given result s gs owner h r e k = never_refused r s gs owner (subst (λ x. IsChecked x s gs owner) e h) k
+conforming_is_given result s gs owner h r e k = violated_none (found_of r) s gs owner (subst (λ x. IsChecked x s gs owner) e h) k

@@ -1,15 +1,14 @@
 -- What the check of a whole actor answers.
 -- Trusted: part of what a promise means.
-use Rattle.std.specs.Prelude.{◌≡◌, ◌⊎◌, false, true, List, [], Contains, ◌==◌}
+use Rattle.std.specs.Prelude.{◌≡◌, List}
 use Rattle.std.specs.declared.result.Result.{Result}
 use Rattle.std.specs.declared.result.Result.TheVariants.{Ok, Err}
-use Rattle.rvc_base.specs.Rules.{not_constant}
 use Rattle.rvc_base.specs.declared.refusal.Front.{Front}
 use Rattle.rvc_base.specs.declared.refusal.Front.TheVariants as front
 use Rattle.rvc_base.specs.declared.refusal.Refusal.{Refusal}
 use Rattle.cal_model.specs.View.{actor_of}
 use Rattle.cal_model.specs.declared.bound.Bound.{Bound}
-use Rattle.cal_check.specs.Actors.{Conforms, IsSource, IsViolated, Source, actor_given, all_valued, around_of, inside_found}
+use Rattle.cal_check.specs.Actors.{Conforms, IsSource, IsViolated, Source}
 use Rattle.cal_check.specs.Variables.{Found, Given, Spot}
 
 abbrev pub found_of : Refusal → Found
@@ -18,21 +17,9 @@ found_of r = record {
   file = r.place.file;
 }
 
--- Inside a function, a procedure or an action something isn't constant there, so the actor doesn't conform. But a
--- variable has no value of use, and none isn't constant: then another rule is said in its place.
-pub record IsUnsaid (s : Source) (gs : List Given) (owner : Spot) (f : Found) : Type 0 where
-  pub broken : Contains (inside_found s (around_of s gs owner) (actor_given s gs owner)) f
-  pub rule : f.violation.rule ≡ not_constant
-  pub useless : (all_valued s gs owner).useless ≡ true
-  pub constant : (all_valued s gs owner).breaks ≡ []
-  pub instead : Found
-  pub violated : IsViolated s gs owner instead
-  pub another : (instead.violation.rule.0 == not_constant.0) ≡ false
-
--- a rule that the actor breaks, where it does, or what isn't constant while another rule is said in its place
+-- a rule that the actor breaks, where it does
 abbrev pub IsRefused : Front → Source → List Given → Spot → Type 0
-IsRefused (front.Refused r) s gs owner =
-    IsViolated s gs owner (found_of r) ⊎ IsUnsaid s gs owner (found_of r)
+IsRefused (front.Refused r) s gs owner = IsViolated s gs owner (found_of r)
 IsRefused front.Memory s gs owner = Unit {0}
 
 -- exactly the source actor, or why there is none; running out of memory says nothing

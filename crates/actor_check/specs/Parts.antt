@@ -1,6 +1,6 @@
 -- An actor of its parts, and what is inside it.
 -- Not trusted: no promise is read with it.
-use Rattle.std.specs.Prelude.{◌≡◌, ◌⊎◌, ℕ, List, [], map, Some, string_bytes}
+use Rattle.std.specs.Prelude.{◌≡◌, ℕ, List, [], map, Some, string_bytes}
 use Rattle.std.specs.declared.result.Result.{Result}
 use Rattle.std.specs.declared.result.Result.TheVariants.{Ok, Err}
 use Rattle.rvc_base.specs.Rules.{priority_cycle}
@@ -11,22 +11,23 @@ use Rattle.cal_ast.specs.View.{actor_tree}
 use Rattle.cal_imports.specs.declared.scope.Scope.{Scope as Resolved}
 use Rattle.cal_model.specs.Actor.{Actor}
 use Rattle.cal_model.specs.Kinding.{Names}
-use Rattle.cal_model.specs.View.{actor_of, fun_view, var_view}
+use Rattle.cal_model.specs.View.{actor_of, fun_view, proc_view, var_view}
 use Rattle.cal_model.specs.declared.bound.Bound.{Bound}
 use Rattle.cal_model.specs.declared.bound.BoundVar.{BoundVar}
 use Rattle.std.specs.Prelude.{Vec}
 use Rattle.std.specs.declared.alloc.Global.{Global}
 use Rattle.const_eval.specs.declared.fault.KindFault.{KindFault}
 use Rattle.const_eval.specs.declared.fault.KindFault.TheVariants as fault
-use Rattle.cal_check.specs.Actors.{IsAboveItself, Source, actor_given, all_funs, around_of, before_members, inside_found, kept_funs, kept_vars, members_of}
+use Rattle.cal_check.specs.Actors.{IsAboveItself, Source, actor_given, all_funs, all_valued, around_of, before_members, inside_found, kept_funs, kept_vars, members_of}
 use Rattle.cal_check.specs.Schedules.{first_priority}
-use Rattle.cal_check.specs.Variables.{Given, Spot, found_in, seen}
+use Rattle.cal_check.specs.Variables.{Found, Given, Spot, found_in, seen}
 use Rattle.member_check.specs.Parts.{members_tree}
 use Rattle.actor_build.specs.Building.{ArePartsOf, around_bare, members_broken}
 use Rattle.actor_build.specs.declared.whole.BareActor.{BareActor}
 use Rattle.variable_check.specs.Causes.{IsCause}
 use Rattle.variable_check.specs.declared.header.Header.{Header}
-use Rattle.actor_check.specs.Phases.{AreRoutinesOf, IsHeaderOf}
+use Rattle.actor_check.specs.Phases.{AreRoutinesOf, IsHeaderOf, routines_found}
+use Rattle.actor_check.specs.Sifting.{IsInsideFault, SiftsInside}
 use Rattle.actor_check.specs.Sources.{source_in}
 use Rattle.actor_check.specs.declared.routines.Routines.{Routines}
 
@@ -53,13 +54,27 @@ pub record IsBuilt (found : Bound) (bare : BareActor) (scope : Resolved) (names 
       (actor_of found) scope.actor.at ≡ []
   pub ordered : IsAboveItself (actor_of found) → ⊥
 
+-- what the members of an actor break
+abbrev pub members_found_in : Resolved → List Given → Spot → List Found
+members_found_in scope gs owner = found_in scope.file
+    (members_broken (members_of (source_in scope).actor) (around_of (source_in scope) gs owner)
+    (actor_given (source_in scope) gs owner) scope.actor.at)
+
+-- an action of the actor that a source is stands above itself
+abbrev pub IsCycleOf : Front → Source → List Given → Spot → Type 0
+IsCycleOf f s gs owner = IsCycleIn f s.file (members_of s.actor) (actor_given s gs owner)
+
+-- members of parts that break no rule but that something isn't constant, or another rule
+abbrev pub SiftsMembers : Result (Unit {0}) Front → BareActor → Resolved → Names → Type 0
+SiftsMembers r bare scope names = (gs : List Given) (owner : Spot)
+    → ArePartsOf bare (actor_tree scope.actor) names (source_in scope) gs owner
+    → SiftsInside r (members_found_in scope gs owner) (λ g. IsCycleOf g (source_in scope) gs owner)
+
 -- what refuses parts
 abbrev pub BreaksParts : Front → BareActor → Resolved → Names → Type 0
 BreaksParts f bare scope names = (gs : List Given) (owner : Spot)
     → ArePartsOf bare (actor_tree scope.actor) names (source_in scope) gs owner
-    → IsCause f (found_in scope.file (members_broken (members_of (source_in scope).actor)
-    (around_of (source_in scope) gs owner) (actor_given (source_in scope) gs owner) scope.actor.at))
-    ⊎ IsCycleIn f scope.file (members_of (source_in scope).actor) (actor_given (source_in scope) gs owner)
+    → IsInsideFault f (members_found_in scope gs owner) (λ g. IsCycleOf g (source_in scope) gs owner)
 
 abbrev pub BuildsActor : Result Bound Front → BareActor → Resolved → Names → Type 0
 BuildsActor (Ok found) bare scope names = IsBuilt found bare scope names
@@ -97,5 +112,44 @@ pub record IsInside (found : Bound) (s : Source) (gs : List Given) (owner : Spot
 abbrev pub FindsInside : Result Bound Front → Source → List Given → Spot → Type 0
 FindsInside (Ok found) s gs owner = IsInside found s gs owner
 FindsInside (Err f) s gs owner =
-    IsCause f (inside_found s (around_of s gs owner) (actor_given s gs owner))
-    ⊎ IsCycleIn f s.file (members_of s.actor) (actor_given s gs owner)
+    IsInsideFault f (inside_found s (around_of s gs owner) (actor_given s gs owner)) (λ g. IsCycleOf g s gs owner)
+
+-- nothing is broken inside but that something isn't constant, or another rule
+abbrev pub SiftsAll : Result (Unit {0}) Front → Source → List Given → Spot → Type 0
+SiftsAll r s gs owner =
+    SiftsInside r (inside_found s (around_of s gs owner) (actor_given s gs owner)) (λ g. IsCycleOf g s gs owner)
+
+-- ---- what is inside an actor of these parts
+
+-- these are the parts of the actor that a source is, without what it doesn't use
+pub record AreBareParts
+    (bare : BareActor) (held : Vec BoundVar Global) (header : Header) (routines : Routines)
+    (scope : Resolved) (names : Names) (gs : List Given) (owner : Spot)
+    : Type 0 where
+  pub kept : AreKept bare held header routines (source_in scope)
+  pub parts : ArePartsIn header routines names (source_in scope) gs owner
+  pub values : (all_valued (source_in scope) gs owner).held ≡ map var_view held.items
+
+-- the actor, if its functions and procedures break nothing
+abbrev pub FindsKept : Result Bound Front → BareActor → Resolved → Names → Type 0
+FindsKept r bare scope names = (held : Vec BoundVar Global) (header : Header)
+    (routines : Routines) (gs : List Given) (owner : Spot)
+    → AreBareParts bare held header routines scope names gs owner
+    → routines_found (source_in scope) (map proc_view routines.procs.items) names ≡ []
+    → FindsInside r (source_in scope) gs owner
+
+-- nothing is broken but that something isn't constant, or another rule
+abbrev pub SiftsParts : Result (Unit {0}) Front → BareActor → Resolved → Names → Type 0
+SiftsParts r bare scope names = (held : Vec BoundVar Global) (header : Header)
+    (routines : Routines) (gs : List Given) (owner : Spot)
+    → AreBareParts bare held header routines scope names gs owner
+    → SiftsAll r (source_in scope) gs owner
+
+-- what is said of a fault that names a rule which is broken there
+abbrev pub TellsFault : (fault told : Front) → BareActor → Resolved → Names → Type 0
+TellsFault fault told bare scope names = (held : Vec BoundVar Global) (header : Header)
+    (routines : Routines) (gs : List Given) (owner : Spot)
+    → AreBareParts bare held header routines scope names gs owner
+    → IsCause fault (inside_found (source_in scope) (around_of (source_in scope) gs owner)
+    (actor_given (source_in scope) gs owner))
+    → FindsInside (Err told) (source_in scope) gs owner

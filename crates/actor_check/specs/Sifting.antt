@@ -38,6 +38,17 @@ SiftsOn (Err f) left all = IsCause f all × SaysRule f
 abbrev pub IsFault : Front → List Found → Type 0
 IsFault f fs = IsCause f fs × (SaysRule f ⊎ Each IsLack fs)
 
+-- ---- what is inside
+
+-- nothing is broken inside but that something isn't constant, or a rule that is said whatever else is broken
+abbrev pub SiftsInside : Result (Unit {0}) Front → (fs : List Found) → (Front → Type 0) → Type 0
+SiftsInside (Ok u) fs above = Each IsLack fs
+SiftsInside (Err f) fs above = (IsCause f fs × SaysRule f) ⊎ above f
+
+-- a rule that is broken or an action above itself, if it is said whatever else is broken or all that is broken isn't constant
+abbrev pub IsInsideFault : Front → (fs : List Found) → (Front → Type 0) → Type 0
+IsInsideFault f fs above = (IsCause f fs ⊎ above f) × (SaysRule f ⊎ Each IsLack fs)
+
 -- ---- parts
 
 abbrev pub lacks : Front → Bool

@@ -21,7 +21,7 @@ fn check_body(names: &Names, f: DeclaredFun) -> Result<(), Front>
     ensures { Finds result (found_in f.entry.file
         (fun_broken (function_tree f.entry.decl.now) (names_view names.now))) }
 {
-    match check_function(names, f.decl) {
+    match check_function(names, f.decl, false) {
         Ok(()) => Ok(()),
         Err(fault) => Err(in_file(f.file, fault)),
     }

@@ -5,6 +5,7 @@ ghost use Rattle.cal_check.specs.Variables.{found_in};
 ghost use Rattle.cal_check.specs.Violations.{Violation};
 ghost use Rattle.stmt_check.specs.Judging.{Refuses};
 ghost use Rattle.variable_check.specs.Causes.{IsCause};
+ghost use Rattle.actor_check.specs.Parts.{placed};
 
 use const_eval::KindFault;
 use rvc_base::{Front, Place, Refusal};
@@ -18,6 +19,19 @@ pub(crate) fn in_file(file: u32, fault: KindFault) -> Front
             let place = Place { file, offset: at };
             Front::Refused(Refusal { rule, place })
         }
+        KindFault::Memory => Front::Memory,
+    }
+}
+
+/// The same fault, in a file.
+pub(crate) fn placed(file: u32, fault: KindFault) -> Front
+    ensures { result ≡ placed file fault }
+{
+    match fault {
+        KindFault::Broken { rule, at } => Front::Refused(Refusal {
+            rule,
+            place: Place { file, offset: at },
+        }),
         KindFault::Memory => Front::Memory,
     }
 }

@@ -9,6 +9,7 @@ mod fault;
 mod heading;
 mod inside;
 mod keeping;
+mod others;
 mod routines;
 mod said;
 mod scalars;

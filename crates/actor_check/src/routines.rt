@@ -68,7 +68,7 @@ pub(crate) fn routines_of(
 fn check_inside_procedures(names: &Names, procs: &[BoundProc], scope: &Scope) -> Result<(), Front>
     ensures { Finds result (procs_found (source_in scope.now) (map proc_view procs.now) (names_view names.now)) }
 {
-    match check_procedures(names, procs, &scope.actor.members) {
+    match check_procedures(names, procs, &scope.actor.members, false) {
         Ok(()) => Ok(()),
         Err(fault) => Err(in_file(scope.file, fault)),
     }

@@ -26,8 +26,8 @@ use Rattle.std.proofs.lemmas.List.{length-map}
 use Rattle.action_lower.specs.FiringCode.{globals_of}
 use Rattle.actor_lower.specs.Drafted.{AddsFunction, AddsProcedure, FunctionsSoFar, HasFunctionAt, HasProcedureAt, HoldsFunctions, HoldsProcedures, IsLeft, IsServed, starts, NoFunctionMore, NoProcedureMore, ProceduresSoFar}
 use Rattle.actor_lower.specs.declared.fault.ActorFault.{ActorFault}
-use Rattle.actor_lower.specs.declared.fault.ActorFault.TheVariants.{Memory, NotLowered, NotSeen}
-use Rattle.actor_lower.specs.Faults.{AreWhole, IsActorFault, IsLeftOut, IsPartsFault, IsWhole, IsWhyAction, IsWhyActions, OnlyMemory, actor_fault}
+use Rattle.actor_lower.specs.declared.fault.ActorFault.TheVariants.{Memory, NotLowered}
+use Rattle.actor_lower.specs.Faults.{AreWhole, IsActorFault, IsLeftOut, IsWhole, IsWhyAction, IsWhyActions, OnlyMemory, actor_fault}
 use Rattle.lowered_actor.specs.declared.parts.ActionCode.{ActionCode}
 use Rattle.actor_lower.specs.Settled.{AllFunctions, AllProcedures, AreFunctions, AreProcedures, AreSettled, HasFunction, HasProcedure, IsFunction, IsProcedure, calling, function_more, no_function, no_procedure, procedure_more}
 use Rattle.actor_lower.proofs.Likeness.{mapped}
@@ -208,29 +208,18 @@ is-whole b cs ds ps qs same also settled whole = record {
   actions = subst (λ rs. AreWhole rs b (length b.actions.items)) (routines-same ds cs qs ps same also) whole;
 }
 
-pub whole-why : (b : Bound) (cs ds : List Callee) (ps qs : List ProcCallee) → ds ≡ cs → qs ≡ ps → AreSettled (actor_of b) (routines_of cs ps) → (e : ActorFault) → IsWhyActions (routines_of ds qs) b e → IsPartsFault b e
+pub whole-why : (b : Bound) (cs ds : List Callee) (ps qs : List ProcCallee) → ds ≡ cs → qs ≡ ps → AreSettled (actor_of b) (routines_of cs ps) → (e : ActorFault) → IsWhyActions (routines_of ds qs) b e → IsActorFault b e
 whole-why b cs ds ps qs same also settled Memory h = tt
 whole-why b cs ds ps qs same also settled (NotLowered at) h = record {
   routines = routines_of cs ps;
   settled = settled;
   part = subst (λ rs. IsLeftOut rs b at) (routines-same ds cs qs ps same also) h;
 }
-whole-why b cs ds ps qs same also settled NotSeen h = absurd h
 
 -- out of memory is such a fault
-pub parts-why : (b : Bound) (e : ActorFault) → OnlyMemory e → IsPartsFault b e
+pub parts-why : (b : Bound) (e : ActorFault) → OnlyMemory e → IsActorFault b e
 parts-why b Memory h = tt
 parts-why b (NotLowered at) h = absurd h
-parts-why b NotSeen h = absurd h
-
--- a fault of the parts is one of the actor
-pub actor-why : (b : Bound) (e : ActorFault) → IsPartsFault b e → IsActorFault b e
-actor-why b Memory h = tt
-actor-why b (NotLowered at) h = h
-actor-why b NotSeen h = absurd h
-
-pub memory-why : (b : Bound) (e : ActorFault) → OnlyMemory e → IsActorFault b e
-memory-why b e h = actor-why b e (parts-why b e h)
 
 pub if-ok : {T E : Type 0} (r : Result T E) (P : Type 0) → P → OnOk r P
 if-ok (Ok v) P h = h

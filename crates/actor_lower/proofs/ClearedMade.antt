@@ -14,9 +14,13 @@ use Rattle.code_ir.specs.declared.instr.Instr.TheVariants as op
 use Rattle.code_ir.specs.declared.instr.Routine.{Routine}
 use Rattle.code_ir.specs.Code.{Code}
 use Rattle.expr_lower.specs.declared.draft.Draft.{Draft}
+use Rattle.expr_lower.specs.Allowing.{Allowed, Allows, AreAllowed}
+use Rattle.expr_lower.specs.Callees.{Function}
+use Rattle.expr_lower.specs.Calling.{HasRoutines}
 use Rattle.expr_lower.specs.Names.{Name}
 use Rattle.expr_lower.specs.Placed.{StandsAt}
 use Rattle.expr_lower.specs.Routining.{LocalsSized}
+use Rattle.expr_lower.proofs.AllowedCode.{allows_more}
 use Rattle.expr_lower.proofs.Runs.{stands_left, stands_right}
 use Rattle.stmt_lower.specs.Calls.{HasRunRoutines}
 use Rattle.stmt_lower.specs.Procedures.{Routines}
@@ -24,19 +28,22 @@ use Rattle.lowered_actor.specs.declared.parts.ActionCode.{ActionCode}
 use Rattle.action_lower.specs.FiringWords.{AddsFiring}
 use Rattle.action_lower.specs.Guarding.{AreGuards, IsHead, clearing, guard_more, no_guard, no_head}
 use Rattle.action_lower.specs.GuardWords.{AddsGuards}
-use Rattle.action_lower.specs.Seats.{state_cells}
+use Rattle.action_lower.specs.Seats.{seen_seats, state_cells}
+use Rattle.action_lower.proofs.AllowedFirings.{firing_allowed}
 use Rattle.action_lower.proofs.BelowState.{seen-below}
 use Rattle.action_lower.proofs.FiringRuns.{locals-sized}
 use Rattle.action_lower.proofs.Holding.{size-at}
-use Rattle.actor_lower.specs.ClearedBodies.{AreRoutineBodies, ClearedAction, ClearedFiring, ClearedFrom, ClearedGuards, ClearsAction, ClearsActions, IsClearedBody, IsRoutineBody, StayIn}
+use Rattle.actor_lower.specs.ClearedBodies.{AreRoutineBodies, ClearedAction, ClearedFiring, ClearedFrom, ClearedGuards, ClearsAction, ClearsActions, IsClearedBody, IsRoutineBody, StayIn, bounds_of}
 use Rattle.actor_lower.specs.Coded.{IsMore, SendsInside}
 use Rattle.actor_lower.specs.Drafted.{BeginsWith, GoesOn, HoldsRoutines, IsServed, starts}
 use Rattle.actor_lower.specs.Fitting.{AreBodies, EndsBody, FitsAsFiring, IsBody, body_more, no_body}
+use Rattle.actor_lower.proofs.AllowedEntries.{firing-allows, firing-changes, first-ones, functions-wider, guards-allow}
+use Rattle.actor_lower.proofs.AllowedRoutines.{allowed-left}
 use Rattle.actor_lower.proofs.ClearedStand.{stay-behind, stay-more, stay-of}
 use Rattle.actor_lower.proofs.Extending.{firing-added, goes-more, guards-grow}
 use Rattle.actor_lower.proofs.FiringFits.{firing-fits, has-more}
 use Rattle.actor_lower.proofs.Placed.{action-there, last-or-before}
-use Rattle.actor_lower.proofs.Rowed.{has-behind, second-sized, stood-in}
+use Rattle.actor_lower.proofs.Rowed.{second-sized, stood-in}
 
 -- ---- routines
 
@@ -113,28 +120,28 @@ routine-bodies draft holds whole more goes r low =
 pub routines-later : (old new : Draft) (limit : ℕ) → IsMore old new → AreRoutineBodies old limit → AreRoutineBodies new limit
 routines-later old new limit grown h whole more goes = h whole (grown.code ++ more) (goes-more old new whole more grown goes)
 
-pub from-more : (kept low entry limit : ℕ) (end : Instr) (old new : Draft) → IsMore old new → ClearedFrom kept low entry limit end old → ClearedFrom kept low entry limit end new
-from-more kept low entry limit end old new grown h = record {
+pub from-more : (actor : Actor) (a : ℕ) (fs : List Function) (firing : Bool) (low entry limit : ℕ) (end : Instr) (old new : Draft) → IsMore old new → ClearedFrom actor a fs firing low entry limit end old → ClearedFrom actor a fs firing low entry limit end new
+from-more actor a fs firing low entry limit end old new grown h = record {
   below = h.below;
   body = λ whole more goes. h.body whole (grown.code ++ more) (goes-more old new whole more grown goes);
 }
 
-from-lower : (kept low down entry limit : ℕ) (end : Instr) (draft : Draft) → down ≤ low → ClearedFrom kept low entry limit end draft → ClearedFrom kept down entry limit end draft
-from-lower kept low down entry limit end draft le h = record { below = (let ge = h.below in omega (arith, le, ge)); body = h.body }
+from-lower : (actor : Actor) (a : ℕ) (fs : List Function) (firing : Bool) (low down entry limit : ℕ) (end : Instr) (draft : Draft) → down ≤ low → ClearedFrom actor a fs firing low entry limit end draft → ClearedFrom actor a fs firing down entry limit end draft
+from-lower actor a fs firing low down entry limit end draft le h = record { below = (let ge = h.below in omega (arith, le, ge)); body = h.body }
 
-pub guards-later : (kept low : ℕ) (entries : List ℕ) (old new : Draft) → IsMore old new → ClearedGuards kept low entries old → ClearedGuards kept low entries new
-guards-later kept low entries old new grown h k entry e = let one = h k entry e in (one.0, from-more kept low entry one.0 op.Answer old new grown one.1)
+pub guards-later : (actor : Actor) (a : ℕ) (fs : List Function) (low : ℕ) (entries : List ℕ) (old new : Draft) → IsMore old new → ClearedGuards actor a fs low entries old → ClearedGuards actor a fs low entries new
+guards-later actor a fs low entries old new grown h k entry e = let one = h k entry e in (one.0, from-more actor a fs false low entry one.0 op.Answer old new grown one.1)
 
-pub firing-lower : (actor : Actor) (a kept low down entry : ℕ) (firsts : List ℕ) (draft : Draft) → down ≤ low → ClearedFiring actor a kept low entry firsts draft → ClearedFiring actor a kept down entry firsts draft
-firing-lower actor a kept low down entry firsts draft le h = record { limit = h.limit; from = from-lower kept low down entry h.limit op.Done draft le h.from; sends = h.sends }
+pub firing-lower : (actor : Actor) (a : ℕ) (fs : List Function) (low down entry : ℕ) (firsts : List ℕ) (draft : Draft) → down ≤ low → ClearedFiring actor a fs low entry firsts draft → ClearedFiring actor a fs down entry firsts draft
+firing-lower actor a fs low down entry firsts draft le h = record { limit = h.limit; from = from-lower actor a fs true low down entry h.limit op.Done draft le h.from; sends = h.sends }
 
-action-later : (actor : Actor) (a kept low down : ℕ) (coded : ActionCode) (old new : Draft) → down ≤ low → IsMore old new → ClearedAction actor a kept low coded old → ClearedAction actor a kept down coded new
-action-later actor a kept low down coded old new le grown h = record {
-  guards = λ k entry e. let one = h.guards k entry e in (one.0, from-lower kept low down entry one.0 op.Answer new le (from-more kept low entry one.0 op.Answer old new grown one.1));
+action-later : (actor : Actor) (a : ℕ) (fs : List Function) (low down : ℕ) (coded : ActionCode) (old new : Draft) → down ≤ low → IsMore old new → ClearedAction actor a fs low coded old → ClearedAction actor a fs down coded new
+action-later actor a fs low down coded old new le grown h = record {
+  guards = λ k entry e. let one = h.guards k entry e in (one.0, from-lower actor a fs false low down entry one.0 op.Answer new le (from-more actor a fs false low entry one.0 op.Answer old new grown one.1));
   firsts = h.firsts;
   firing = record {
     limit = h.firing.limit;
-    from = from-lower kept low down coded.fire h.firing.limit op.Done new le (from-more kept low coded.fire h.firing.limit op.Done old new grown h.firing.from);
+    from = from-lower actor a fs true low down coded.fire h.firing.limit op.Done new le (from-more actor a fs true low coded.fire h.firing.limit op.Done old new grown h.firing.from);
     sends = h.firing.sends;
   };
   sends = h.sends;
@@ -143,69 +150,75 @@ action-later actor a kept low down coded old new le grown h = record {
 same-draft : (draft : Draft) → IsMore draft draft
 same-draft draft = record { code = []; is = sym (append-nil draft.instrs.items); routines = refl; cells = omega arith }
 
-pub none-cleared : (clear : Bool) (actor : Actor) (kept low : ℕ) (draft : Draft) → ClearsActions clear actor kept low [] draft
-none-cleared clear actor kept low draft a coded e = absurd (cc)
+pub none-cleared : (clear : Bool) (actor : Actor) (fs : List Function) (low : ℕ) (draft : Draft) → ClearsActions clear actor fs low [] draft
+none-cleared clear actor fs low draft a coded e = absurd (cc)
 
-pub clears-more : (clear : Bool) (actor : Actor) (kept low n : ℕ) (actions now : List ActionCode) (coded : ActionCode) (old new : Draft) → length actions ≡ n → low ≤ old.cells → IsMore old new
-    → ClearsActions clear actor kept low actions old → ClearsAction clear actor n kept old.cells coded new → now ≡ actions ++ coded ∷ [] → ClearsActions clear actor kept low now new
-clears-more clear actor kept low n actions now coded old new count le grown before one is a x e wanted =
-    ⊎_elim (λ (h : slice_get actions a ≡ Some x). action-later actor a kept low low x old new (omega arith) grown (before a x h wanted))
+pub clears-more : (clear : Bool) (actor : Actor) (fs : List Function) (low n : ℕ) (actions now : List ActionCode) (coded : ActionCode) (old new : Draft) → length actions ≡ n → low ≤ old.cells → IsMore old new
+    → ClearsActions clear actor fs low actions old → ClearsAction clear actor n fs old.cells coded new → now ≡ actions ++ coded ∷ [] → ClearsActions clear actor fs low now new
+clears-more clear actor fs low n actions now coded old new count le grown before one is a x e wanted =
+    ⊎_elim (λ (h : slice_get actions a ≡ Some x). action-later actor a fs low low x old new (omega arith) grown (before a x h wanted))
     (λ (h : (a ≡ length actions) × (coded ≡ x)).
     let place : n ≡ a = let p = h.0 in omega (arith, p, count) in
-    subst (λ y. ClearedAction actor a kept low y new) h.1
-    (subst (λ k. ClearedAction actor k kept low coded new) place (action-later actor n kept old.cells low coded new new le (same-draft new) (one wanted))))
+    subst (λ y. ClearedAction actor a fs low y new) h.1
+    (subst (λ k. ClearedAction actor k fs low coded new) place (action-later actor n fs old.cells low coded new new le (same-draft new) (one wanted))))
     (last-or-before actions coded a x (ap (λ xs. slice_get xs a) (sym is) ∙ e))
 
 -- ---- guards
 
 -- what stands behind the head of a guard
-guard-cleared : {kept m : ℕ} {clears : Option ℕ} {head : List Instr} (rs : Routines) (names : List Name) (base n : ℕ) (body : List Instr) (whole : Code) → clears ≡ Some kept → IsHead clears m head
-    → StayIn m (length whole.routines) (base + length head) body → StandsAt whole.instrs base (head ++ (body ++ op.Answer ∷ [])) → IsClearedBody whole kept base m op.Answer
-guard-cleared rs names base n body whole is (no_head m) stay stands = absurd (cc)
-guard-cleared {kept} rs names base n body whole is (clearing k count m up) stay stands =
+guard-cleared : {kept m : ℕ} {clears : Option ℕ} {head : List Instr} (bounds : Allowed) (callable base : ℕ) (body : List Instr) (whole : Code) → clears ≡ Some kept → IsHead clears m head
+    → StayIn m callable (base + length head) body → AreAllowed bounds body → StandsAt whole.instrs base (head ++ (body ++ op.Answer ∷ [])) → IsClearedBody whole bounds callable kept base m op.Answer
+guard-cleared bounds callable base body whole is (no_head m) stay allowed stands = absurd (cc)
+guard-cleared {kept} bounds callable base body whole is (clearing k count m up) stay allowed stands =
     let same : k ≡ kept = cc in
-    subst (λ j. IsClearedBody whole j base m op.Answer) same (record {
+    subst (λ j. IsClearedBody whole bounds callable j base m op.Answer) same (record {
       count = count;
       rest = body;
       limit_is = sym up;
       stands = stands;
-      stay = stay-behind k count (length whole.routines) m base body (sym up) stay;
+      stay = stay-behind k count callable m base body (sym up) stay;
+      allowed = allowed;
     })
 
-guards-cleared : {kept low : ℕ} {rs : Routines} {names : List Name} {gs : List Tree} {es : List ℕ} {base n m : ℕ} {part : List Instr} → AreGuards (Some kept) rs.functions names gs es base n part m → low ≤ n
+guards-cleared : {kept low : ℕ} {fs : List Function} {names : List Name} {gs : List Tree} {es : List ℕ} {base n m : ℕ} {part : List Instr} → AreGuards (Some kept) fs names gs es base n part m → low ≤ n
     → (k entry : ℕ) → slice_get es k ≡ Some entry
-    → (limit : ℕ) × (low ≤ limit) × ((whole : Code) → HasRunRoutines whole (length whole.routines) n rs → StandsAt whole.instrs base part → IsClearedBody whole kept entry limit op.Answer)
+    → (limit : ℕ) × (low ≤ limit) × ((whole : Code) (bounds : Allowed) (callable : ℕ) → HasRoutines whole callable n fs → Allows bounds fs names n → StandsAt whole.instrs base part → IsClearedBody whole bounds callable kept entry limit op.Answer)
 guards-cleared (no_guard base n) le k entry e = absurd (cc)
-guards-cleared {kept} {low} {rs} {names} (guard_more g gs es base n j m a b first others) le zero entry e =
+guards-cleared {kept} {low} {fs} {names} (guard_more g gs es base n j m a b first others) le zero entry e =
     let same : base ≡ entry = cc in
     let up = first.lowered.cells in (
       j,
       omega (arith, le, up),
-      λ whole has stands.
+      λ whole bounds callable has allows stands.
           let here : StandsAt whole.instrs base (first.head ++ (first.body ++ op.Answer ∷ [])) = subst (StandsAt whole.instrs base) first.is (stands_left whole.instrs base a b stands) in
           let inner : StandsAt whole.instrs (base + length first.head) first.body =
           stands_left whole.instrs (base + length first.head) first.body (op.Answer ∷ []) (stands_right whole.instrs base first.head (first.body ++ op.Answer ∷ []) here) in
-          let wide : HasRunRoutines whole (length whole.routines) j rs = has-more whole (length whole.routines) n j rs up has in
-          let fits = first.lowered.fits whole (length whole.routines) 0 wide.functions inner in
-          subst (λ p. IsClearedBody whole kept p j op.Answer) same
-          (guard-cleared rs names base n first.body whole refl first.begins (stay-of whole (length whole.routines) j (base + length first.head) 0 1 first.body fits) here),
+          let fits = first.lowered.fits whole callable 0 (functions-wider whole callable n j fs up has) inner in
+          subst (λ p. IsClearedBody whole bounds callable kept p j op.Answer) same
+          (guard-cleared bounds callable base first.body whole refl first.begins (stay-of whole callable j (base + length first.head) 0 1 first.body fits) (first.lowered.allowed bounds allows) here),
     )
-guards-cleared {kept} {low} {rs} {names} (guard_more g gs es base n j m a b first others) le (suc k) entry e =
+guards-cleared {kept} {low} {fs} {names} (guard_more g gs es base n j m a b first others) le (suc k) entry e =
     let up = first.lowered.cells in
-    let one = guards-cleared {rs = rs} others (omega (arith, le, up)) k entry e in
-    (one.0, one.1, λ whole has stands. one.2 whole (has-more whole (length whole.routines) n j rs up has) (stands_right whole.instrs base a b stands))
+    let one = guards-cleared others (omega (arith, le, up)) k entry e in
+    (one.0, one.1, λ whole bounds callable has allows stands. one.2 whole bounds callable (functions-wider whole callable n j fs up has) (allows_more j up allows) (stands_right whole.instrs base a b stands))
 
 module _ (b : Bound) (a : ℕ) (low : a < length b.actions.items) where
-  pub guards-from : (rs : Routines) (clears : Option ℕ) (kept : ℕ) (es : List ℕ) (old new : Draft) → clears ≡ Some kept → IsServed (actor_of b) rs old → AddsGuards clears rs.functions (actor_of b) a es old new → ClearedGuards kept old.cells es new
-  guards-from rs clears kept es old new is served added k entry e =
+  pub guards-from : (rs : Routines) (clears : Option ℕ) (es : List ℕ) (old new : Draft) → IsSound (actor_of b) → clears ≡ Some (state_cells (actor_of b)) → IsServed (actor_of b) rs old → AddsGuards clears rs.functions (actor_of b) a es old new
+      → ClearedGuards (actor_of b) a rs.functions old.cells es new
+  guards-from rs clears es old new sound is served added k entry e =
       let there = action-there b a low in
       let one = (subst (λ c. AddsGuards c rs.functions (actor_of b) a es old new) is added) there.0 there.1 in
-      let found = guards-cleared {rs = rs} one.has (omega arith) k entry e in (
+      let found = guards-cleared one.has (omega arith) k entry e in (
         found.0,
         record {
           below = found.1;
           body = λ whole more goes.
-              found.2 whole (has-behind (actor_of b) rs old new whole more one.code served one.is one.routines goes) (stood-in whole old.instrs.items new.instrs.items one.code more one.is goes.0);
+              let before : GoesOn old whole (one.code ++ more) = (goes.0 ∙ ap (λ xs. xs ++ more) one.is ∙ append_assoc old.instrs.items one.code more, goes.1 ∙ one.routines) in
+              let has = first-ones whole (length old.routines.items) old.cells rs.functions served.first
+              (functions-wider whole (length old.routines.items) served.high old.cells rs.functions served.below (served.called whole (one.code ++ more) before).functions) in
+              let allows = guards-allow (actor_of b) sound rs whole served.high (served.stand whole (one.code ++ more) before) a there.0 there.1 old.cells
+              (let state = served.state in let below = served.below in omega (arith, state, below)) in
+              found.2 whole (bounds_of (actor_of b) a false) (length rs.functions) has allows (stood-in whole old.instrs.items new.instrs.items one.code more one.is goes.0);
         },
       )
 
@@ -215,7 +228,7 @@ module _ (actor : Actor) (a : ℕ) (rs : Routines) (entry : ℕ) (firsts : List 
     (put : mid.instrs.items ≡ old.instrs.items ++ op.Zero 0 0 ∷ []) (routines : mid.routines.items ≡ old.routines.items) (cells : mid.cells ≡ old.cells) (adds : AddsFiring rs actor a (length mid.instrs.items) firsts mid fin)
     (zero-at : (before rest : List Instr) (i : Instr) → fin.instrs.items ≡ before ++ i ∷ rest → entry ≡ length before → new.instrs.items ≡ before ++ op.Zero (state_cells actor) (fin.cells - state_cells actor) ∷ rest)
     (same-routines : new.routines.items ≡ fin.routines.items) (same-cells : new.cells ≡ fin.cells) (sends : SendsInside actor a firsts new) where
-  pub firing-from : (act : Action) → slice_get actor.actions a ≡ Some act → ClearedFiring actor a (state_cells actor) old.cells entry firsts new
+  pub firing-from : (act : Action) → slice_get actor.actions a ≡ Some act → ClearedFiring actor a rs.functions old.cells entry firsts new
   firing-from act e =
       let one = adds.1 act e in
       let low = state_cells actor in
@@ -249,13 +262,20 @@ module _ (actor : Actor) (a : ℕ) (rs : Routines) (entry : ℕ) (firsts : List 
               stay-of whole (length whole.routines) new.cells (length mid.instrs.items) 0 0 fit.body fit.fits in
               let all : StandsAt whole.instrs (length old.instrs.items) ((zero-instr ∷ fit.body) ++ op.Done ∷ []) =
               subst (StandsAt whole.instrs (length old.instrs.items)) (ap (λ xs. zero-instr ∷ xs) fit.is) stands in
-              subst (λ p. IsClearedBody whole low p new.cells op.Done) (sym at) (record {
+              let known = with_patterns actor act.patterns (names_of actor) in
+              let are = served.stand whole (code ++ more) before in
+              let runs = firing-allows actor sound rs whole served.high are a act e mid.cells (omega (arith, below, cells)) in
+              let changes = firing-changes actor sound rs whole served.high are a act e in
+              let ok : AreAllowed (bounds_of actor a true) one.code =
+              firing_allowed (bounds_of actor a true) rs (seen_seats actor act) actor.outs act firsts (length mid.instrs.items) mid.cells fin.cells one.code actor.procs known runs changes is_action.body one.has in
+              subst (λ p. IsClearedBody whole (bounds_of actor a true) (length whole.routines) low p new.cells op.Done) (sym at) (record {
                 count = count;
                 rest = fit.body;
                 limit_is = limit;
                 stands = all;
                 stay = stay-behind low count (length whole.routines) new.cells (length old.instrs.items) fit.body limit
                     (subst (λ p. StayIn new.cells (length whole.routines) p fit.body) longer stay);
+                allowed = allowed-left (bounds_of actor a true) fit.body (op.Done ∷ []) (subst (AreAllowed (bounds_of actor a true)) fit.is ok);
               });
         };
         sends = λ other port f. sends other port f;

@@ -1,4 +1,4 @@
--- Code whose guards and firings clear their cells first stands, if each of its instructions may stand where it does.
+-- Code whose guards and firings clear their cells first stands: each of its instructions may stand where it does.
 use Rattle.std.proofs.Common.{◌≡◌, ℕ, zero, suc, ◌+◌, ◌<◌, ◌≤◌, ◌⊎◌, inl, inr, ⊎_elim, Bool, true, false, List, [], ◌∷◌, ◌++◌, length, map, All, refl, sym, ap, subst, ◌∙◌, arith, Option, None, Some, append-nil}
 use Rattle.std.specs.Prelude.{◌==◌, slice_get, slice_index_or}
 use Rattle.std.proofs.lemmas.Bool.{cases_lt, eqb-true}
@@ -12,24 +12,28 @@ use Rattle.code_ir.specs.declared.instr.Routine.{Routine}
 use Rattle.code_ir.specs.Code.{Code}
 use Rattle.code_ir.specs.Typing.{CallsSmaller, NamesCells, goes_on, target}
 use Rattle.expr_lower.specs.declared.draft.Draft.{Draft}
+use Rattle.expr_lower.specs.Allowing.{AreAllowed}
+use Rattle.expr_lower.specs.Callees.{Function}
 use Rattle.expr_lower.specs.Fitting.{Fits, IsInner}
 use Rattle.expr_lower.specs.Placed.{StandsAt}
+use Rattle.expr_lower.proofs.AllowedCode.{allowed_at}
 use Rattle.lowered_actor.specs.declared.parts.ActionCode.{ActionCode}
 use Rattle.lowered_actor.specs.Actor as coded
-use Rattle.lowered_actor.proofs.Running.{all-at}
 use Rattle.kept_facts.specs.declared.body.Last.{Last}
 use Rattle.kept_facts.specs.declared.body.Last.TheVariants as last
-use Rattle.kept_facts.specs.ClearWords.{CallsBelow}
 use Rattle.kept_facts.specs.Clearing.{ActionStands, AllStand, BodyStands, EntryStands, FiringStands, GuardStands, RoutineStands, RoutinesStand, SendsBelow, Stands, ends_body, stop_of}
 use Rattle.kept_facts.specs.Fitting.{MayStand, last_of}
 use Rattle.kept_facts.specs.Rows.{called, reads}
-use Rattle.kept_facts.proofs.Deciding.{stop-here, stop-next}
+use Rattle.kept_facts.proofs.BodyEnds.{stop-here, stop-next}
 use Rattle.kept_facts.proofs.Looping.{each-behind}
 use Rattle.action_lower.specs.FiringCode.{first_on}
-use Rattle.actor_lower.specs.ClearedBodies.{AreRoutineBodies, ClearedAction, ClearedFrom, ClearsActions, IsClearedBody, IsRoutineBody, StayIn, StaysIn}
+use Rattle.action_lower.specs.Seats.{state_cells}
+use Rattle.actor_tables.specs.Tables.{needs_of, saved_from}
+use Rattle.actor_lower.specs.ClearedBodies.{AreRoutineBodies, ClearedAction, ClearedFrom, ClearsActions, IsAllowedAt, IsClearedBody, IsRoutineBody, StayIn, StaysIn, bounds_at, callable_in}
 use Rattle.actor_lower.specs.Coded.{AreCodedActions, AreSends, IsCodeOf, IsCodedAction}
 use Rattle.actor_lower.specs.Drafted.{GoesOn}
-use Rattle.actor_lower.specs.May.{ActionMay, AllMay, BodyMay, CallsMay, EntryMay, RoutineMay}
+use Rattle.actor_lower.proofs.AllowedEntries.{may-stand, own-cells}
+use Rattle.actor_lower.proofs.AllowedRoutines.{allowed-there}
 use Rattle.actor_lower.proofs.Likeness.{mapped}
 use Rattle.actor_lower.proofs.Placed.{there}
 use Rattle.actor_lower.proofs.Sent.{below}
@@ -136,6 +140,9 @@ Placed code base end p i = ((j : ℕ) × (p ≡ base + j) × (slice_get code j �
 same-some : {x y : Instr} → Some x ≡ Some y → x ≡ y
 same-some e = cc
 
+same-routine : {x y : Routine} → Some x ≡ Some y → x ≡ y
+same-routine e = cc
+
 place-in : (instrs : List Instr) (base : ℕ) (code : List Instr) (end : Instr) (p : ℕ) (i : Instr) → StandsAt instrs base (code ++ end ∷ []) → base ≤ p → p < base + length code + 1 → slice_get instrs p ≡ Some i
     → Placed code base end p i
 place-in instrs base [] end p i stands from to e =
@@ -156,6 +163,11 @@ place-in instrs base (x ∷ code) end p i stands from to e =
 
 -- ---- bodies
 
+-- the calls at the places from one up to another one are of routines whose numbers are below n
+abbrev CallsBelow : List Instr → (begin to n : ℕ) → Type 0
+CallsBelow instrs begin to n = (p : ℕ) (instr : Instr) (r : ℕ) → begin ≤ p → p < to
+    → slice_get instrs p ≡ Some instr → called instr ≡ Some r → r < n
+
 module _ (l : coded.Actor) where
   abbrev instrs : List Instr
   instrs = l.code.instrs
@@ -175,7 +187,8 @@ module _ (l : coded.Actor) where
         by (inl h) = calls-below callable i r (stay h.0 i h.2).calls is
         by (inr h) = absurd (let no : called end ≡ Some r = ap called (sym h.1) ∙ is in let none = is-last.calls in cc)
 
-    body-stands : (firing : Bool) (needs : List ℕ) (ends : Last) (top : ℕ) → MayStand l firing needs ends end → BodyMay l firing needs ends base → CallsBelow instrs base (stop_of instrs base) top → BodyStands l limit firing needs ends top base
+    body-stands : (firing : Bool) (needs : List ℕ) (ends : Last) (top : ℕ) → MayStand l firing needs ends end → ((j : ℕ) (i : Instr) → slice_get code j ≡ Some i → MayStand l firing needs ends i) → CallsBelow instrs base (stop_of instrs base) top
+        → BodyStands l limit firing needs ends top base
     body-stands firing needs ends top ended may calls = record {
       some = let s = stop in omega (arith, s);
       each = λ p from to i e. one p from to i e (placed p i from to e);
@@ -187,7 +200,7 @@ module _ (l : coded.Actor) where
             let within = slice_get_within code h.0 i h.2 in
             let at = h.1 in
             record {
-              may = may p i from (let s = stop in omega (arith, s, at, within)) e;
+              may = may h.0 i h.2;
               reads = λ c is. reads-below limit i c here.cells is;
               next = λ on. let s = stop in omega (arith, s, at, within);
               jump = λ t is. let aim = here.inside t is in (aim.0, let s = stop in let up = aim.1 in omega (arith, s, up));
@@ -205,13 +218,18 @@ module _ (l : coded.Actor) where
 
   -- ---- routines
 
-  routine-stands : (low limit : ℕ) (firing : Bool) (r : ℕ) → low ≤ limit → IsRoutineBody l.code low r → RoutineMay l firing r → RoutineStands l limit firing r
-  routine-stands low limit firing r le h may =
+  routine-stands : (low limit : ℕ) (firing : Bool) (r : ℕ) → low ≤ limit → IsRoutineBody l.code low r → IsAllowedAt (bounds_at l.kept l.saved [] firing) l.code r → RoutineStands l limit firing r
+  routine-stands low limit firing r le h made =
       let stay : StayIn limit r h.routine.start h.rest = stay-more low limit r r h.routine.start h.rest le (omega arith) h.stay in
+      let same : made.routine ≡ h.routine = same-routine (sym made.there ∙ h.there) in
+      let here : StandsAt instrs h.routine.start (made.body ++ op.Return ∷ []) = subst (λ (x : Routine). StandsAt instrs x.start (made.body ++ op.Return ∷ [])) same made.stands in
+      let ok : AreAllowed (bounds_at l.kept l.saved [] firing) h.rest =
+      allowed-there (bounds_at l.kept l.saved [] firing) instrs h.routine.start made.body h.rest here h.stands (λ j i e. (stay j i e).inner) made.allowed in
       record {
         routine = h.routine;
         there = h.there;
-        body = body-stands limit r h.routine.start h.rest op.Return return-last h.stands stay firing [] last.Return r refl (may h.routine h.there)
+        body = body-stands limit r h.routine.start h.rest op.Return return-last h.stands stay firing [] last.Return r refl
+            (λ j i e. may-stand l firing [] last.Return i (stay j i e).inner (allowed_at (bounds_at l.kept l.saved [] firing) h.rest ok j i e))
             (calls-stay limit r h.routine.start h.rest op.Return return-last h.stands stay);
       }
 
@@ -300,28 +318,30 @@ module _ (l : coded.Actor) where
 
   -- ---- guards and firings
 
-  entry-stands : (firing : Bool) (needs : List ℕ) (entry limit low : ℕ) (end : Instr) → IsLast end → MayStand l firing needs (last_of firing) end → IsClearedBody l.code l.kept entry limit end → low ≤ limit
-      → ((r : ℕ) → r < length l.code.routines → IsRoutineBody l.code low r) → EntryMay l firing needs entry → EntryStands l firing needs entry limit
-  entry-stands firing needs entry limit low end is-last ended h le routines may =
+  entry-stands : (firing : Bool) (needs : List ℕ) (callable entry limit low : ℕ) (end : Instr) → IsLast end → MayStand l firing needs (last_of firing) end → IsClearedBody l.code (bounds_at l.kept l.saved needs firing) callable l.kept entry limit end
+      → low ≤ limit → callable ≤ length l.code.routines → ((r : ℕ) → r < length l.code.routines → IsRoutineBody l.code low r) → ((r : ℕ) → r < callable → IsAllowedAt (bounds_at l.kept l.saved [] firing) l.code r)
+      → EntryStands l firing needs entry limit
+  entry-stands firing needs callable entry limit low end is-last ended h le few routines made =
+      let bounds = bounds_at l.kept l.saved needs firing in
       let code = op.Zero l.kept h.count ∷ h.rest in
-      let all = length l.code.routines in
-      let s : stop_of instrs entry ≡ entry + length code + 1 = stop limit all entry code end is-last h.stands h.stay in
-      let within = calls-stay limit all entry code end is-last h.stands h.stay in
+      let ok : AreAllowed bounds code = ((λ d from to. own-cells l.kept l.saved needs firing d from), h.allowed) in
+      let s : stop_of instrs entry ≡ entry + length code + 1 = stop limit callable entry code end is-last h.stands h.stay in
+      let within = calls-stay limit callable entry code end is-last h.stands h.stay in
       let top = top-to entry (stop_of instrs entry) (omega (arith, s)) in
       record {
         clears = record { count = h.count; there = h.stands.0; up_to = h.limit_is };
         callable = top.0;
-        routines = λ q less. by top.0 (stop_of instrs entry) q less top.1.least within refl;
-        body = body-stands limit all entry code end is-last h.stands h.stay firing needs (last_of firing) top.0 ended may.body top.1.above;
+        routines = λ q less. by top.0 (stop_of instrs entry) q less top.1.least within;
+        body = body-stands limit callable entry code end is-last h.stands h.stay firing needs (last_of firing) top.0 ended
+            (λ j i e. may-stand l firing needs (last_of firing) i (h.stay j i e).inner (allowed_at bounds code ok j i e)) top.1.above;
       }
     where
-      by : (n to q : ℕ) → q < n → AtCall entry to n → CallsBelow instrs entry to (length l.code.routines) → to ≡ stop_of instrs entry → RoutineStands l limit firing q
-      by n to q less (inl e) within same = absurd (omega (arith, less, e))
-      by n to q less (inr w) within same =
+      by : (n to q : ℕ) → q < n → AtCall entry to n → CallsBelow instrs entry to callable → RoutineStands l limit firing q
+      by n to q less (inl e) within = absurd (omega (arith, less, e))
+      by n to q less (inr w) within =
           let is = w.7 in
-          let there = within w.0 w.1 w.2 w.3 w.4 w.5 w.6 in
-          routine-stands low limit firing q le (routines q (omega (arith, less, is, there)))
-          (may.calls w.0 w.1 w.2 q w.3 (subst (λ k. w.0 < k) same w.4) w.5 w.6 (omega (arith, less, is)))
+          let called-one = within w.0 w.1 w.2 w.3 w.4 w.5 w.6 in
+          routine-stands low limit firing q le (routines q (omega (arith, less, is, called-one, few))) (made q (omega (arith, less, is, called-one)))
 
 -- ---- whole actors
 
@@ -329,14 +349,22 @@ all-here : {A : Type 0} (P : A → Type 0) (xs : List A) → ((k : ℕ) (x : A) 
 all-here P xs h k d low = h k (slice_index_or xs k d) (slice_get-get_or xs k d low)
 
 module _ (actor : Actor) (l : coded.Actor) (draft : Draft) (code : IsCodeOf draft l.code) (actions : List ActionCode) (same : l.actions ≡ map coded.action_of actions) (outs : l.outs ≡ length actor.outs)
-    (are : AreCodedActions actor (length actor.actions) actions draft) (kept low : ℕ) (is-kept : l.kept ≡ kept) (cleared : ClearsActions true actor kept low actions draft) (bodies : AreRoutineBodies draft low) where
+    (are : AreCodedActions actor (length actor.actions) actions draft) (fs : List Function) (low : ℕ) (is-kept : l.kept ≡ state_cells actor) (is-saved : l.saved ≡ saved_from 0 actor.vars) (cleared : ClearsActions true actor fs low actions draft)
+    (bodies : AreRoutineBodies draft low) (few : length fs ≤ length l.code.routines)
+    (made : (firing : Bool) (r : ℕ) → r < callable_in l.code fs firing → IsAllowedAt (bounds_at (state_cells actor) (saved_from 0 actor.vars) [] firing) l.code r) where
   goes : GoesOn draft l.code []
   goes = (code.instrs ∙ sym (append-nil draft.instrs.items), code.routines)
 
   routines : (r : ℕ) → r < length l.code.routines → IsRoutineBody l.code low r
   routines = bodies l.code [] goes
 
-  sends-below : (a : ℕ) (one : ActionCode) → slice_get actions a ≡ Some one → (c : ClearedAction actor a kept low one draft) → SendsBelow l (coded.action_of one) c.firing.limit
+  bounds-same : (needs : List ℕ) (firing : Bool) → bounds_at (state_cells actor) (saved_from 0 actor.vars) needs firing ≡ bounds_at l.kept l.saved needs firing
+  bounds-same needs firing = ap (λ k. bounds_at k (saved_from 0 actor.vars) needs firing) (sym is-kept) ∙ ap (λ s. bounds_at l.kept s needs firing) (sym is-saved)
+
+  made-here : (firing : Bool) (r : ℕ) → r < callable_in l.code fs firing → IsAllowedAt (bounds_at l.kept l.saved [] firing) l.code r
+  made-here firing r less = subst (λ b. IsAllowedAt b l.code r) (bounds-same [] firing) (made firing r less)
+
+  sends-below : (a : ℕ) (one : ActionCode) → slice_get actions a ≡ Some one → (c : ClearedAction actor a fs low one draft) → SendsBelow l (coded.action_of one) c.firing.limit
   sends-below a one e c port k low-port less =
       let is : IsCodedAction actor a one draft = are.each a one e in
       let act = there actor.actions a (let up = below actions a one e in let many = are.count in omega (arith, up, many)) in
@@ -349,28 +377,33 @@ module _ (actor : Actor) (l : coded.Actor) (draft : Draft) (code : IsCodeOf draf
       let inside = c.firing.sends act.0 port act.1 in
       omega (arith, first, gives, given, inside, less)
 
-  body-at : (entry limit : ℕ) (end : Instr) → ClearedFrom kept low entry limit end draft → IsClearedBody l.code l.kept entry limit end
-  body-at entry limit end from = subst (λ n. IsClearedBody l.code n entry limit end) (sym is-kept) (from.body l.code [] goes)
+  body-at : (a : ℕ) (one : ActionCode) → slice_get actions a ≡ Some one → (firing : Bool) (entry limit : ℕ) (end : Instr) → ClearedFrom actor a fs firing low entry limit end draft
+      → IsClearedBody l.code (bounds_at l.kept l.saved one.needs.items firing) (callable_in l.code fs firing) l.kept entry limit end
+  body-at a one e firing entry limit end from =
+      let needs : needs_of actor a ≡ one.needs.items = sym (are.each a one e).rates.needs_are in
+      subst (λ n. IsClearedBody l.code (bounds_at l.kept l.saved one.needs.items firing) (callable_in l.code fs firing) n entry limit end) (sym is-kept)
+      (subst (λ b. IsClearedBody l.code b (callable_in l.code fs firing) (state_cells actor) entry limit end)
+      (ap (λ ns. bounds_at (state_cells actor) (saved_from 0 actor.vars) ns firing) needs ∙ bounds-same one.needs.items firing) (from.body l.code [] goes))
 
-  action-stands : (a : ℕ) (one : ActionCode) → slice_get actions a ≡ Some one → ActionMay l (coded.action_of one) → ActionStands l (coded.action_of one)
-  action-stands a one e may =
-      let c : ClearedAction actor a kept low one draft = cleared a one e refl in
+  action-stands : (a : ℕ) (one : ActionCode) → slice_get actions a ≡ Some one → ActionStands l (coded.action_of one)
+  action-stands a one e =
+      let c : ClearedAction actor a fs low one draft = cleared a one e refl in
       record {
         guards = all-here (GuardStands l (coded.action_of one)) one.guards.items (λ k entry at.
             let g = c.guards k entry at in
             record {
               limit = g.0;
-              stands = entry-stands l false one.needs.items entry g.0 low op.Answer answer-last refl (body-at entry g.0 op.Answer g.1) g.1.below routines
-                  (all-at (EntryMay l false one.needs.items) one.guards.items k entry may.guards at);
+              stands = entry-stands l false one.needs.items (length fs) entry g.0 low op.Answer answer-last refl (body-at a one e false entry g.0 op.Answer g.1) g.1.below few routines (made-here false);
             });
         firing = record {
           limit = c.firing.limit;
-          stands = entry-stands l true one.needs.items one.fire c.firing.limit low op.Done done-last refl (body-at one.fire c.firing.limit op.Done c.firing.from) c.firing.from.below routines may.firing;
+          stands = entry-stands l true one.needs.items (length l.code.routines) one.fire c.firing.limit low op.Done done-last refl (body-at a one e true one.fire c.firing.limit op.Done c.firing.from) c.firing.from.below (omega arith) routines
+              (made-here true);
           sends = sends-below a one e c;
         };
       }
 
-  pub all-stand : AllMay l → AllStand l
-  all-stand may = all-here (ActionStands l) l.actions (λ k action at.
+  pub all-stand : AllStand l
+  all-stand = all-here (ActionStands l) l.actions (λ k action at.
       let one = mapped coded.action_of actions k action (ap (λ xs. slice_get xs k) (sym same) ∙ at) in
-      subst (ActionStands l) one.2 (action-stands k one.0 one.1 (subst (ActionMay l) (sym one.2) (all-at (ActionMay l) l.actions k action may at))))
+      subst (ActionStands l) one.2 (action-stands k one.0 one.1))

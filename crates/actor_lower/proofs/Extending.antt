@@ -73,6 +73,9 @@ served-more actor rs old new grown served = record {
   stand = λ whole more goes. served.stand whole (grown.code ++ more) (goes-more old new whole more grown goes);
   called = λ whole more goes.
       subst (λ k. HasRunRoutines whole k served.high rs) (sym (ap length grown.routines)) (served.called whole (grown.code ++ more) (goes-more old new whole more grown goes));
+  count = ap length grown.routines ∙ served.count;
+  first = served.first;
+  next = served.next;
 }
 
 pub coded-more : (actor : Actor) (a : ℕ) (coded : ActionCode) (old new : Draft) → IsMore old new → IsCodedAction actor a coded old → IsCodedAction actor a coded new

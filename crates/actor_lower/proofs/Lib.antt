@@ -15,3 +15,5 @@ pub mod ClearedMade
 pub mod Together
 pub mod WholeRoutines
 pub mod WholeActors
+pub mod AllowedRoutines
+pub mod AllowedEntries

@@ -40,6 +40,7 @@ use Rattle.actor_lower.specs.Drafted.{AddsFunction, AddsProcedure, BeginsWith, H
 use Rattle.actor_lower.specs.Fitting.{AreBodies, body_more}
 use Rattle.actor_lower.specs.Settled.{calling}
 use Rattle.actor_lower.proofs.FiringFits.{has-more}
+use Rattle.actor_lower.proofs.Placed.{last-or-before}
 use Rattle.actor_lower.proofs.Rowed.{stood-in}
 
 -- ---- names
@@ -93,7 +94,7 @@ module _ {A : Type 0} (name : A → List ℕ) (named : List ℕ → List A → O
       by false f = f
 
   -- one more behind them
-  named-or-last : (xs : List A) (x : A) (text : List ℕ) (y : A) → named text (xs ++ x ∷ []) ≡ Some y → (named text xs ≡ Some y) ⊎ (x ≡ y)
+  pub named-or-last : (xs : List A) (x : A) (text : List ℕ) (y : A) → named text (xs ++ x ∷ []) ≡ Some y → (named text xs ≡ Some y) ⊎ (x ≡ y)
   named-or-last [] x text y e = by (bytes_eq (name x) text) (sym (more text x []) ∙ e)
     where
       by : (b : Bool) → (if b then Some x else named text []) ≡ Some y → (named text [] ≡ Some y) ⊎ (x ≡ y)
@@ -254,6 +255,14 @@ module _ (actor : Actor) (sound : IsSound actor) where
             routine_fits whole (length old.routines.items) whole.cells globals fs f g base old.cells new.cells one.code has (below-cells old.cells holds.state) sized room (stood-in whole old.instrs.items new.instrs.items one.code b.more one.is b.instrs) one.has in
             record { body = fit.body; is = fit.is; fits = subst (λ n. Fits whole (length old.routines.items) whole.cells base 0 fit.body n (base + length fit.body) n) (sym one.results) fit.fits });
         count = let c = holds.count in let l = length-append fs (g ∷ []) in omega (arith, many, c, l);
+        first = λ j h e.
+            ⊎_elim (λ (before : slice_get fs j ≡ Some h). holds.first j h before)
+            (λ (last : (j ≡ length fs) × (g ≡ h)).
+            let place = last.0 in
+            let c = holds.count in
+            let number = one.number in
+            let same : g.routine ≡ h.routine = ap (λ (x : Function). x.routine) last.1 in
+            omega (arith, place, c, number, same)) (last-or-before fs g j h e);
       })
 
   pub procedures-more : (fs : List Function) (ps now : List Procedure) (k : ℕ) (p : Proc) (old new : Draft) → HoldsProcedures actor fs ps old → slice_get actor.procs k ≡ Some p → AddsProcedure globals fs p ps now old new
@@ -301,6 +310,15 @@ module _ (actor : Actor) (sound : IsSound actor) where
             (stood-in whole old.instrs.items new.instrs.items one.code b.more one.is b.instrs) one.has in
             record { body = fit.body; is = fit.is; fits = subst (λ n. Fits whole (length old.routines.items) whole.cells base 0 fit.body n (base + length fit.body) n) (sym one.results) fit.fits });
         count = let c = holds.count in let l = length-append ps (g ∷ []) in omega (arith, many, c, l);
+        first = holds.first;
+        next = λ j h e.
+            ⊎_elim (λ (before : slice_get ps j ≡ Some h). holds.next j h before)
+            (λ (last : (j ≡ length ps) × (g ≡ h)).
+            let place = last.0 in
+            let c = holds.count in
+            let number = one.number in
+            let same : g.routine ≡ h.routine = ap (λ (x : Procedure). x.routine) last.1 in
+            omega (arith, place, c, number, same)) (last-or-before ps g j h e);
       })
 
   -- ---- at first, and behind all
@@ -315,6 +333,7 @@ module _ (actor : Actor) (sound : IsSound actor) where
         subst (λ es. AreBodies whole 0 0 (es ++ rest)) (sym begin)
         (subst (λ n. AreBodies whole n 0 rest) (ap length instrs) (subst (λ k. AreBodies whole (length draft.instrs.items) k rest) (ap length routines) rows));
     count = ap length routines;
+    first = λ k g e. cc;
   }
 
   pub no-procedures : (fs : List Function) (draft : Draft) → HoldsFunctions actor fs draft → HoldsProcedures actor fs [] draft
@@ -324,6 +343,8 @@ module _ (actor : Actor) (sound : IsSound actor) where
     called = λ whole b. record { functions = holds.called whole b; procedures = λ text p e. absurd (cc) };
     bodies = holds.bodies;
     count = let c = holds.count in omega (arith, c);
+    first = holds.first;
+    next = λ k g e. cc;
   }
 
   pub all-served : (fs : List Function) (ps : List Procedure) (draft : Draft) → HoldsProcedures actor fs ps draft → IsServed actor (calling fs ps) draft
@@ -333,4 +354,7 @@ module _ (actor : Actor) (sound : IsSound actor) where
     below = omega arith;
     stand = λ whole more goes. holds.stand whole (record { more = more; instrs = goes.0; others = []; routines = goes.1 ∙ sym (append-nil draft.routines.items) });
     called = λ whole more goes. holds.called whole (record { more = more; instrs = goes.0; others = []; routines = goes.1 ∙ sym (append-nil draft.routines.items) });
+    count = holds.count;
+    first = holds.first;
+    next = holds.next;
   }

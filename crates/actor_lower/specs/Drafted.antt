@@ -37,6 +37,16 @@ HoldsRoutines draft = (whole : Code) (rest : List ℕ) → BeginsWith draft whol
     → AreBodies whole (length draft.instrs.items) (length draft.routines.items) rest
     → AreBodies whole 0 0 (starts draft ++ rest)
 
+-- ---- numbers of routines
+
+-- the routines of these functions are the first ones, in this order
+abbrev pub AreFirst : List Function → Type 0
+AreFirst fs = (k : ℕ) (g : Function) → slice_get fs k ≡ Some g → g.routine ≡ k
+
+-- .. and those of these procedures come behind so many others
+abbrev pub AreNext : ℕ → List Procedure → Type 0
+AreNext n ps = (k : ℕ) (g : Procedure) → slice_get ps k ≡ Some g → g.routine ≡ n + k
+
 -- ---- functions
 
 -- a draft holds the routines of these functions
@@ -48,6 +58,7 @@ pub record HoldsFunctions (actor : Actor) (fs : List Function) (draft : Draft) :
       → HasRoutines whole (length draft.routines.items) draft.cells fs
   pub bodies : HoldsRoutines draft
   pub count : length draft.routines.items ≡ length fs
+  pub first : AreFirst fs
 
 -- one function more has a routine
 pub record AddsFunction (globals : List Name) (f : Fun) (before now : List Function) (old new : Draft) : Type 0 where
@@ -95,6 +106,8 @@ pub record HoldsProcedures (actor : Actor) (fs : List Function) (ps : List Proce
       → HasRunRoutines whole (length draft.routines.items) draft.cells (calling fs ps)
   pub bodies : HoldsRoutines draft
   pub count : length draft.routines.items ≡ length fs + length ps
+  pub first : AreFirst fs
+  pub next : AreNext (length fs) ps
 
 pub record AddsProcedure (globals : List Name) (fs : List Function) (p : Proc) (before now : List Procedure) (old new : Draft) : Type 0 where
   pub procedure : Procedure
@@ -129,7 +142,8 @@ abbrev pub GoesOn : Draft → Code → List Instr → Type 0
 GoesOn draft whole more = (whole.instrs ≡ draft.instrs.items ++ more)
     × (whole.routines ≡ draft.routines.items)
 
--- A draft has the routines of all that may be called, with their cells behind the state cells.
+-- A draft has the routines of all that may be called, with their cells behind the state cells, those of functions before
+-- those of procedures.
 pub record IsServed (actor : Actor) (rs : Routines) (draft : Draft) : Type 0 where
   pub high : ℕ
   pub state : state_cells actor ≤ high
@@ -139,3 +153,6 @@ pub record IsServed (actor : Actor) (rs : Routines) (draft : Draft) : Type 0 whe
       rs.functions rs.procedures high
   pub called : (whole : Code) (more : List Instr) → GoesOn draft whole more
       → HasRunRoutines whole (length draft.routines.items) high rs
+  pub count : length draft.routines.items ≡ length rs.functions + length rs.procedures
+  pub first : AreFirst rs.functions
+  pub next : AreNext (length rs.functions) rs.procedures

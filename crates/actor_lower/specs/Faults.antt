@@ -1,5 +1,5 @@
 -- Why an actor isn't lowered.
--- Trusted but for `OnlyMemory`, `IsPartsFault`, `IsWhyAction` and `IsWhyActions`: part of what a promise means.
+-- Trusted but for `OnlyMemory`, `IsWhyAction` and `IsWhyActions`: part of what a promise means.
 use Rattle.std.specs.Prelude.{◌≡◌, ℕ, ◌<◌, List, length, Option, None, Some}
 use Rattle.cal_model.specs.declared.bound.Bound.{Bound}
 use Rattle.cal_model.specs.View.{actor_of}
@@ -9,13 +9,9 @@ use Rattle.expr_lower.specs.Growing.{◌or_else◌}
 use Rattle.stmt_lower.specs.Procedures.{Routines}
 use Rattle.action_lower.specs.GuardWords.{left_out_action}
 use Rattle.action_lower.specs.FiringWords.{left_out_of}
-use Rattle.lowered_actor.specs.declared.parts.Parts.{Parts}
-use Rattle.lowered_actor.specs.Actor.{actor_of as parts_view}
-use Rattle.actor_lower.specs.May.{AllMay}
 use Rattle.actor_lower.specs.Settled.{AreSettled}
-use Rattle.actor_lower.specs.Standing.{ArePartsOf}
 use Rattle.actor_lower.specs.declared.fault.ActorFault.{ActorFault}
-use Rattle.actor_lower.specs.declared.fault.ActorFault.TheVariants.{Memory, NotLowered, NotSeen}
+use Rattle.actor_lower.specs.declared.fault.ActorFault.TheVariants.{Memory, NotLowered}
 
 -- what a fault of a part is of the whole: more instructions or cells than 32 bits count are out of memory
 abbrev pub actor_fault : LowerFault → ActorFault
@@ -55,40 +51,22 @@ pub record IsWhole (b : Bound) : Type 0 where
   pub settled : AreSettled (actor_of b) routines
   pub actions : AreWhole routines b (length b.actions.items)
 
--- ---- what doesn't keep the facts
-
--- there are parts of the actor, and an instruction of their code may not stand where it does
-pub record HasMisfit (b : Bound) : Type 0 where
-  pub parts : Parts
-  pub are : ArePartsOf (actor_of b) parts
-  pub misfit : ¬ AllMay (parts_view parts)
-
 -- ---- causes
 
--- a part is left out only if it is the first one, and code that isn't seen to keep the facts is whole and has an
--- instruction that may not stand where it does
+-- a part is left out only if it is the first one
 abbrev pub IsActorFault : Bound → ActorFault → Type 0
 IsActorFault b Memory = Unit {0}
 IsActorFault b (NotLowered at) = IsPartLeftOut b at
-IsActorFault b NotSeen = IsWhole b × HasMisfit b
-
--- .. while the parts are made
-abbrev pub IsPartsFault : Bound → ActorFault → Type 0
-IsPartsFault b Memory = Unit {0}
-IsPartsFault b (NotLowered at) = IsPartLeftOut b at
-IsPartsFault b NotSeen = ⊥
 
 -- .. of all actions, if they may call these
 abbrev pub IsWhyActions : Routines → Bound → ActorFault → Type 0
 IsWhyActions rs b Memory = Unit {0}
 IsWhyActions rs b (NotLowered at) = IsLeftOut rs b at
-IsWhyActions rs b NotSeen = ⊥
 
 -- .. where nothing is left out
 abbrev pub OnlyMemory : ActorFault → Type 0
 OnlyMemory Memory = Unit {0}
 OnlyMemory (NotLowered at) = ⊥
-OnlyMemory NotSeen = ⊥
 
 -- .. of one action
 abbrev pub IsWhyAction : Routines → Bound → ℕ → LowerFault → Type 0

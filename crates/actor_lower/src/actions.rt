@@ -3,6 +3,7 @@
 ghost use Rattle.std.specs.Prelude.{◌≡◌, ℕ, ◌<◌, ◌≤◌, ◌++◌, ◌∷◌, [], IfErr, IfOk, None, OnOk, Some, length, true};
 ghost use Rattle.cal_model.specs.Sound.{IsSound};
 ghost use Rattle.cal_model.specs.View.{actor_of};
+ghost use Rattle.expr_lower.specs.Callees.{functions_view};
 ghost use Rattle.stmt_lower.specs.Procedures.{routines_of};
 ghost use Rattle.action_lower.specs.Seats.{state_cells};
 ghost use Rattle.actor_tables.specs.Tables.{AreRates, AreRatesOf};
@@ -52,7 +53,7 @@ pub(crate) fn lower_actions(
     ensures bodies { IfOk result
         (λ actions. AddsBodies (all_entries actions.items) draft.old draft.new) }
     ensures cleared { IfOk result (λ actions. ClearsActions clear (actor_of b.now)
-        (state_cells (actor_of b.now)) draft.old.cells actions.items draft.new) }
+        (functions_view callees.now) draft.old.cells actions.items draft.new) }
     ensures more { OnOk result (IsMore draft.old draft.new) }
     ensures whole { OnOk result (AreWhole (routines_of callees.now procedures.now) b.now
         (length b.now.actions.items)) }
@@ -98,7 +99,7 @@ fn lower_action(
     ensures coded { IfOk result (λ coded. IsCodedAction (actor_of b.now) action coded draft.new) }
     ensures bodies { IfOk result (λ coded. AddsBodies (entries_of coded) draft.old draft.new) }
     ensures cleared { IfOk result (λ coded. ClearsAction clear (actor_of b.now) action
-        (state_cells (actor_of b.now)) draft.old.cells coded draft.new) }
+        (functions_view callees.now) draft.old.cells coded draft.new) }
     ensures more { OnOk result (IsMore draft.old draft.new) }
     ensures whole { OnOk result
         (left_out_at (routines_of callees.now procedures.now) b.now action ≡ None) }
@@ -139,10 +140,10 @@ fn lower_entries(
     ensures fires { IfOk result (λ entries. FiresFrom (actor_of b.now) action entries.fire
         entries.firsts.items draft.new) }
     ensures guards_cleared { IfOk result (λ entries. clear ≡ true
-        → ClearedGuards (state_cells (actor_of b.now)) draft.old.cells entries.guards.items
-        draft.new) }
+        → ClearedGuards (actor_of b.now) action (functions_view callees.now) draft.old.cells
+        entries.guards.items draft.new) }
     ensures firing_cleared { IfOk result (λ entries. clear ≡ true
-        → ClearedFiring (actor_of b.now) action (state_cells (actor_of b.now)) draft.old.cells
+        → ClearedFiring (actor_of b.now) action (functions_view callees.now) draft.old.cells
         entries.fire entries.firsts.items draft.new) }
     ensures inside { IfOk result (λ entries. SendsInside (actor_of b.now) action
         entries.firsts.items draft.new) }

@@ -7,8 +7,7 @@ ghost use Rattle.kept_facts.specs.Clearing.{AllStand};
 ghost use Rattle.lowered_actor.specs.Actor.{actor_of as parts_view};
 ghost use Rattle.lowered_actor.specs.Facts.{FitTogether, RunRight};
 ghost use Rattle.actor_lower.specs.Coded.{IsMadeOf};
-ghost use Rattle.actor_lower.specs.Faults.{IsActorFault, IsPartsFault, IsWhole, OnlyMemory};
-ghost use Rattle.actor_lower.specs.May.{AllMay};
+ghost use Rattle.actor_lower.specs.Faults.{IsActorFault, IsWhole, OnlyMemory};
 ghost use Rattle.actor_lower.specs.Standing.{ArePartsOf, StandsForActor};
 
 use crate::actions::lower_actions;
@@ -19,7 +18,8 @@ use actor_tables::laws::{lowered_actors_behave_as_meant, runs_suffice, tables_ar
 use actor_tables::lower_tables;
 use cal_model::Bound;
 use expr_lower::Draft;
-use kept_facts::{keep_facts, stand};
+use kept_facts::keep_facts;
+use kept_facts::laws::standing_bodies_are_right;
 use lowered_actor::{Lowered, Parts};
 use std::alloc::Global;
 
@@ -27,18 +27,18 @@ use std::alloc::Global;
 /// hold the actor's variables from cell 0 on, scalar by scalar, and it behaves as the actor does (`stands_for`).
 ///
 /// Its guards and firings keep cells of their own behind the state cells. If it isn't seen that nothing depends on what
-/// these held before, all code is made once more, and each guard and each firing clears them before anything else.
+/// these held before, all code is made once more, and each guard and each firing clears them before anything else. Its
+/// instructions write no state cell that a firing, or a guard, may not change, and read no token behind those that the
+/// action takes; so they keep the facts of lowered actors.
 ///
 /// # Errors
 ///
 /// `Memory` if memory runs out, or if the code has 2 to the power of 32 instructions or routines or its cells can't be
-/// counted, which would take 60 gigabytes or more. All other answers say what can't be lowered yet (`fault`): `NotLowered` with the offset
-/// of the first part of a guard or a firing for which no code is made, in the first action that has one, as
+/// counted, which would take 60 gigabytes or more. The other answer says what can't be lowered yet (`fault`): `NotLowered`
+/// with the offset of the first part of a guard or a firing for which no code is made, in the first action that has one, as
 /// [`lower_guards`](action_lower::lower_guards) and [`lower_firing`](action_lower::lower_firing) say. A guard calls each
-/// function of which no part is left out, and a firing such a procedure too: a call of another one is such a part.
-/// `NotSeen` if code was made of all parts, but an instruction of a guard or a firing, or of a routine that it may call,
-/// may not stand there: it writes a state cell that a firing, or a guard, may not change, or reads a token behind those
-/// that the action takes. So it never comes if there are no actions. The code is always admitted.
+/// function of which no part is left out, and a firing such a procedure too: a call of another one is such a part. The
+/// code is always admitted.
 pub fn lower(alloc: Global, b: &Bound) -> Result<Lowered, ActorFault>
     requires sound { IsSound (actor_of b.now) }
     ensures stands_for { IfOk result (StandsForActor (actor_of b.now)) }
@@ -60,22 +60,20 @@ fn lower_cleared(alloc: Global, b: &Bound) -> Result<Lowered, ActorFault>
     ensures whole { OnOk result (IsWhole b.now) }
     ensures fault { IfErr result (IsActorFault b.now) }
 {
+    // it tells that such code keeps the facts
+    standing_bodies_are_right();
     let parts = parts_of(alloc, b, true)?;
-    if !stand(&parts) {
-        return Err(ActorFault::NotSeen);
-    }
     of_parts(alloc, parts)
 }
 
-/// The parts of a lowered actor that stands for an actor, if they keep the facts of one. If its guards and firings clear
-/// their cells before anything else, it depends on their instructions alone whether they do.
+/// The parts of a lowered actor that stands for an actor, if they keep the facts of one. They do if the guards and firings
+/// clear their cells before anything else: each of their instructions stands then.
 fn parts_of(alloc: Global, b: &Bound, clear: bool) -> Result<Parts, ActorFault>
     requires sound { IsSound (actor_of b.now) }
     ensures parts { IfOk result (ArePartsOf (actor_of b.now)) }
-    ensures stand { IfOk result (λ parts. clear ≡ true → AllMay (parts_view parts)
-        → AllStand (parts_view parts)) }
+    ensures stand { IfOk result (λ parts. clear ≡ true → AllStand (parts_view parts)) }
     ensures whole { OnOk result (IsWhole b.now) }
-    ensures fault { IfErr result (IsPartsFault b.now) }
+    ensures fault { IfErr result (IsActorFault b.now) }
 {
     // they tell that the tables, the guards and the firings make the behaviour, and what the firings send
     tables_are_meant();

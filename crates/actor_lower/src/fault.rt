@@ -4,7 +4,7 @@ use expr_lower::LowerFault;
 use rvc_base::Memory;
 use std::alloc::{AllocError, AllocFailed};
 
-/// Why an actor isn't lowered. All but `Memory` say what the lowering can't do yet.
+/// Why an actor isn't lowered. `NotLowered` says what the lowering can't do yet.
 #[derive(Clone, Copy, Debug, PartialEq, Eq)]
 pub enum ActorFault {
     /// Memory ran out: an allocation was refused, or the code has so many instructions or cells that 32 bits don't count
@@ -12,9 +12,6 @@ pub enum ActorFault {
     Memory,
     /// No code is made for the form of the part at this offset.
     NotLowered { at: u32 },
-    /// Code was made of all parts, but an instruction of it may not stand where it does, so it doesn't keep the facts of
-    /// a lowered actor ([`stand`](kept_facts::stand)).
-    NotSeen,
 }
 
 impl From<LowerFault> for ActorFault {

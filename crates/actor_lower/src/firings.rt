@@ -4,6 +4,7 @@ ghost use Rattle.std.specs.Prelude.{◌≡◌, ◌<◌, ◌≤◌, ◌∷◌, []
 ghost use Rattle.cal_model.specs.Sound.{IsSound};
 ghost use Rattle.cal_model.specs.View.{actor_of};
 ghost use Rattle.expr_lower.specs.declared.fault.LowerFault.TheVariants.{Memory};
+ghost use Rattle.expr_lower.specs.Callees.{functions_view};
 ghost use Rattle.stmt_lower.specs.Procedures.{routines_of};
 ghost use Rattle.action_lower.specs.FiringWords.{IsFiringFaultAt, left_out_of};
 ghost use Rattle.action_lower.specs.Seats.{state_cells};
@@ -37,7 +38,7 @@ pub(crate) fn put_firing(
     requires kept { kept ≡ state_cells (actor_of b.now) }
     requires served { IsServed (actor_of b.now) (routines_of callees.now procedures.now) draft.old }
     ensures cleared { IfOk result (λ f. clear ≡ true → ClearedFiring (actor_of b.now) action
-        (state_cells (actor_of b.now)) draft.old.cells f.entry f.firsts.items draft.new) }
+        (functions_view callees.now) draft.old.cells f.entry f.firsts.items draft.new) }
     ensures puts { IfOk result (λ f. PutsFiring (actor_of b.now) action f draft.old draft.new) }
     ensures more { OnOk result (IsMore draft.old draft.new) }
     ensures whole { OnOk result
@@ -93,7 +94,7 @@ fn put_cleared(
     requires kept { kept ≡ state_cells (actor_of b.now) }
     requires served { IsServed (actor_of b.now) (routines_of callees.now procedures.now) draft.old }
     ensures cleared { IfOk result (λ f. ClearedFiring (actor_of b.now) action
-        (state_cells (actor_of b.now)) draft.old.cells f.entry f.firsts.items draft.new) }
+        (functions_view callees.now) draft.old.cells f.entry f.firsts.items draft.new) }
     ensures puts { IfOk result (λ f. PutsFiring (actor_of b.now) action f draft.old draft.new) }
     ensures more { OnOk result (IsMore draft.old draft.new) }
     ensures whole { OnOk result

@@ -1,5 +1,3 @@
-mod Taking
-mod ListSteps
 mod NameLists
 mod Loops
 mod Steps
@@ -11,10 +9,4 @@ mod FileAnswers
 mod ImportPaths
 mod MemberLists
 mod Openings
-mod Climbing
-mod Nesting
-mod Going
-mod Chains
-mod Primaries
-mod Exits
-mod Pushed
+mod Starts

@@ -1,31 +1,21 @@
 -- Names that are taken one after the other.
-use Rattle.std.proofs.Common.{◌≡◌, ℕ, suc, ◌<◌, false, List, [], ◌∷◌, ◌++◌, map, length, string_bytes, Err, refl, sym, ap, ◌∙◌, arith}
+use Rattle.std.proofs.Common.{◌≡◌, ℕ, false, List, [], ◌∷◌, ◌++◌, map, string_bytes, Err, refl, sym, ap, ◌∙◌}
 use Rattle.look_ahead.specs.Program.{Gave, Refused, exec, ahead}
 use Rattle.cal_ast.specs.Tree.{listed}
 use Rattle.cal_ast.specs.View.{ident_tree}
 use Rattle.cal_ast.specs.declared.ident.Ident.{Ident}
 use Rattle.cal_lexer.specs.Lexeme.{Lexeme, placed, plain_tokens}
 use Rattle.cal_lexer.specs.declared.token.Token.{Token}
-use Rattle.cal_parser.specs.Cursor.{Took, TookName, Stays, stands}
+use Rattle.cal_expr.specs.Cursor.{Took, TookName, Stays, stands}
 use Rattle.cal_parser.specs.SoFar.{IsSoFar}
 use Rattle.cal_grammar.specs.Spells.{Mark, mark, separated, a_name}
 use Rattle.cal_grammar.specs.Token.{here, names, same_word}
 use Rattle.cal_grammar.specs.Rules.{part, read}
-use Rattle.cal_parser.specs.Tells.{before, TellsNames}
-use Rattle.cal_parser.specs.declared.fault.Fault.{Fault}
-use Rattle.cal_parser.specs.declared.fault.Fault.TheVariants as faults
-use Rattle.cal_parser.proofs.ListSteps
+use Rattle.cal_expr.specs.Tells.{before, TellsNames}
+use Rattle.cal_expr.specs.declared.fault.Fault.{Fault}
+use Rattle.cal_expr.specs.declared.fault.Fault.TheVariants as faults
+use Rattle.cal_expr.proofs.ListSteps
 use Rattle.cal_grammar.proofs.Reading.{read_is}
-
-pub length-plain : (ts : List Token) → length (plain_tokens ts) ≡ length ts
-length-plain [] = refl
-length-plain (t ∷ ts) = ap suc (length-plain ts)
-
--- what was taken is gone
-pub took_less : (k : Lexeme) (at : ℕ) (old new : List Token) → Took k at old new → length new < length old
-took_less k at old new e =
-    let sizes : length (plain_tokens old) ≡ suc (length (plain_tokens new)) = ap length e in
-    omega (arith, length-plain old, length-plain new)
 
 map-append : (xs : List Ident) (x : Ident) → map ident_tree (xs ++ x ∷ []) ≡ map ident_tree xs ++ ident_tree x ∷ []
 map-append [] x = refl

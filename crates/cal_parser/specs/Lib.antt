@@ -1,11 +1,7 @@
-pub mod Cursor
-pub mod Tells
 pub mod Separator
 pub mod SoFar
 pub mod ImportPath
 pub mod MembersSoFar
 pub mod Bodies
 pub mod Pieces
-pub mod Leading
-pub mod Steps
 pub mod Answers

@@ -1,28 +1,18 @@
 //! From tokens to the tree of a file.
 //!
-//! The code does what the programs of `cal_grammar` do, and is told by a clause each: see `specs/Tells.antt`.
+//! The code does what the programs of `cal_grammar` do, and is told by a clause each: see `specs/Tells.antt` of
+//! `cal_expr`, which reads the expressions and the types.
 #![tactic(auto)]
 
 mod actions;
-mod cursor;
 mod decls;
-mod ends;
-mod expr;
-mod fault;
 mod files;
-mod forms;
-mod leading;
-mod leaves;
 mod lists;
 mod members;
 mod names;
-mod operators;
-mod pairs;
 mod parse;
 mod schedules;
 mod stmts;
-mod tall;
-mod types;
 
 pub use cal_grammar::one_tree;
 pub use parse::{MAX_HEIGHT, parse_file};

@@ -9,9 +9,9 @@ ghost use Rattle.cal_grammar.specs.Refusals.{IsRightly, place_in};
 ghost use Rattle.cal_parser.specs.Answers.{answer_of};
 ghost use Rattle.cal_grammar.specs.Spells.{spells};
 
-use crate::fault::Fault;
 use crate::files::whole;
 use cal_ast::File;
+use cal_expr::fault::Fault;
 use cal_lexer::Token;
 use rvc_base::{Front, Place, Refusal, Rule};
 use std::alloc::Global;

@@ -97,6 +97,21 @@ file T.xdf <XDF name=\"T\"><Port kind=\"Input\" name=\"In\"><Type name=\"int\"/>
 file T.xdf <XDF name=\"T\"><Port kind=\"Input\" name=\"In\"><Type name=\"int\"/></Port><Instance id=\"a\"><Class name=\"Copy\"/></Instance><Connection src=\"\" src-port=\"In\" dst=\"a\" dst-port=\"In\"><Attribute name=\"bufferSize\"><Expr kind=\"Literal\" literal-kind=\"Integer\" value=\"0\"/></Attribute></Connection></XDF>
 file Copy.cal actor Copy() int In ==> int Out : action In:[x] ==> Out:[x] end end";
 
+/// Actors inside which something isn't constant. If that is all, it is reported; else another rule is, wherever it stands.
+const NOT_CONSTANT: &str = "
+# T9 B.cal 56
+file B.cal actor B() int In ==> : int x := 1; action In:[y] repeat x ==> end end
+# T1 B.cal 90
+file B.cal actor B() int In ==> : int x := 1; action In:[y] repeat x ==> end action In:[y] ==> guard 1 end end
+# A3 B.cal 75
+file B.cal actor B() int In ==> : int x := 1; action In:[y] repeat x ==> end priority t > u; end end
+# T1 B.cal 122
+file B.cal actor B() int In ==> : int x := 1; function g(int a) --> int var List(type:int, size=x) l : a end action In:[y] ==> guard 1 end end
+# T1 B.cal 107
+file B.cal actor B() ==> : function g(int a) --> int var List(type:int, size=x) l : a end function f(int a) --> int : true end int x := f(1); end
+# T1 B.cal 51
+file B.cal actor B() int In ==> : function f(int a) --> int : true end int x := f(1); action In:[y] repeat x ==> end end";
+
 /// The text before a mark, and the text behind it.
 fn cut<'a>(text: &'a str, mark: &str) -> (&'a str, &'a str) {
     text.split_once(mark).unwrap_or((text, ""))
@@ -162,6 +177,11 @@ fn hold<R: Abort>(rt: &R, alloc: Global, table: &str) -> Result<(), Fail> {
 #[test]
 fn actors_break_each_rule(rt: HostRuntime) -> Result<(), Fail> {
     hold(&rt, rt.alloc(), ACTORS)
+}
+
+#[test]
+fn what_is_not_constant_is_reported_last(rt: HostRuntime) -> Result<(), Fail> {
+    hold(&rt, rt.alloc(), NOT_CONSTANT)
 }
 
 #[test]

@@ -266,7 +266,7 @@ module _ (code : Code) (callable limit : ℕ) where
       seat_wider size (Cell c) h = omega (arith, h, le)
       seat_wider size (Tokens port first step) h = tt
 
-  deep_below : (n : ℕ) (names : List Name) (e : Tree) (l : ItemList) → deep_named names e ≡ Some l → AreBelow n names → n ≤ limit → SeatIsBelow limit l.size l.seat
+  pub deep_below : (n : ℕ) (names : List Name) (e : Tree) (l : ItemList) → deep_named names e ≡ Some l → AreBelow n names → n ≤ limit → SeatIsBelow limit l.size l.seat
   deep_below n names e l g below le =
       let d : IsDeep names e l = deep_found names e l g in
       let f : IsPartOf names d.part = part_found names e d.part d.is in

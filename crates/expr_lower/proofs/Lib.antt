@@ -20,6 +20,8 @@ pub mod FittedRoutines
 pub mod Finding
 pub mod Grown
 pub mod Coded
+pub mod AllowedCode
+pub mod AllowedRoutines
 pub mod Fitted
 pub mod Whole
 pub mod Adding
@@ -34,3 +36,4 @@ pub mod Erased
 pub mod Seeing
 pub mod AddingRoutines
 pub mod Written
+pub mod BoundWhole

@@ -72,7 +72,7 @@ small_num k less =
     grind (arith, nat_tests, less, more)
 
 -- an item of a part is one of a list inside it
-item_inside : (names : List Name) (env : Env) (q : Part) (n : ℕ) (items : Shape) (vs : Values) (k i : ℕ) (u : Value) → q.shape ≡ Many n items → IsInside names env q (Items vs) k → value_at vs i ≡ Some u
+pub item_inside : (names : List Name) (env : Env) (q : Part) (n : ℕ) (items : Shape) (vs : Values) (k i : ℕ) (u : Value) → q.shape ≡ Many n items → IsInside names env q (Items vs) k → value_at vs i ≡ Some u
     → IsInside names env (part_at q.seat items q.size) u (k + i * scalars_of_type items)
 item_inside names env q n items vs k i u shape f e =
     let kinds : HasKind (kind_of_type (Many n items)) (Items vs) = subst (λ t. HasKind (kind_of_type t) (Items vs)) shape f.of_type in
@@ -146,7 +146,7 @@ module _ (names : List Name) (env : Env) (q p : Part) (r : Rows) (items : Shape)
   row_acts (Items vs) (Items us) z f e = tt
 
 -- the item of the part on which an index is put
-row_item : (names : List Name) (e place : Tree) (at : ℕ) (r : Rows) (p : Part) → (h : HasRows names e r) → part_named names (tree.index e place at) ≡ Some p → part_at h.part.seat h.items h.part.size ≡ p
+pub row_item : (names : List Name) (e place : Tree) (at : ℕ) (r : Rows) (p : Part) → (h : HasRows names e r) → part_named names (tree.index e place at) ≡ Some p → part_at h.part.seat h.items h.part.size ≡ p
 row_item names e place at r p h g =
     let one : ◌≡◌ {A = Option Part} (Some (part_at h.part.seat h.items h.part.size)) (Some p) =
     sym (ap (λ (o : Option Part). elim o [ None ↦ None | Some q ↦ item_of q ]) h.is ∙ ap (λ t. item_in h.part.seat h.part.size t) h.shape) ∙ g

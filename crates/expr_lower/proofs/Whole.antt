@@ -8,6 +8,7 @@ use Rattle.expr_lower.specs.Coding.{IsCode}
 use Rattle.expr_lower.specs.Callees.{Function}
 use Rattle.expr_lower.specs.Calling.{IsLoweredWith}
 use Rattle.expr_lower.specs.Lowered.{Adds, IsLowered}
+use Rattle.expr_lower.proofs.AllowedCode.{code_allowed}
 use Rattle.expr_lower.proofs.Coded.{evaluates, evaluates_with, grows}
 use Rattle.expr_lower.proofs.Fitted.{fits, fits_in}
 
@@ -32,5 +33,6 @@ lowered_with fs names e old new below a = record {
     cells = grows a.has;
     evaluates = evaluates_with names e (length old.instrs.items) old.cells new.cells a.code below a.has;
     fits = λ whole callable h has at. fits_in whole callable new.cells fs has names h below (omega arith) at a.has;
+    allowed = λ bounds h. code_allowed bounds fs names h a.has;
   };
 }

@@ -14,6 +14,7 @@ use Rattle.code_ir.specs.Code.{Code, results_of}
 use Rattle.code_ir.specs.Running.{State, Reaches, Ends}
 use Rattle.expr_lower.specs.declared.callees.Formal.{Formal}
 use Rattle.expr_lower.specs.Callees.{Function, function_named}
+use Rattle.expr_lower.specs.Allowing.{KeepsAllowed}
 use Rattle.expr_lower.specs.Fitting.{Fits}
 use Rattle.expr_lower.specs.Flat.{flat}
 use Rattle.expr_lower.specs.Following.{CutsOff, EndsAs, Follows, MayUse, Pushes}
@@ -132,10 +133,11 @@ HasRoutines whole callable limit fs = (text : List ℕ) (f : Function)
     → (f.routine < callable) × (results_of whole f.routine ≡ 1) × HasFormals 0 limit f
 
 -- The instructions evaluate the expression and push its value. In any code that has the routines they fit if one
--- operand more fits.
+-- operand more fits. They write no cells but their own and those of formals, and read no tokens but those of names.
 pub record IsLoweredWith (fs : List Function) (names : List Name) (e : Tree) (base n : ℕ) (code : List Instr) (m : ℕ) : Type 0 where
   pub cells : n ≤ m
   pub evaluates : EvaluatesWith fs names e base n m code
   pub fits : (whole : Code) (callable h : ℕ) → HasRoutines whole callable m fs
       → StandsAt whole.instrs base code
       → Fits whole callable m base h code (h + 1) (base + length code) (h + 1)
+  pub allowed : KeepsAllowed fs names n code

@@ -25,6 +25,7 @@ use Rattle.cal_model.specs.Env.{Env}
 use Rattle.cal_model.specs.Expression.{eval}
 use Rattle.code_ir.specs.Code.{Code}
 use Rattle.expr_lower.specs.Calling.{EvaluatesWith, HasRoutines, Prepared, Serves}
+use Rattle.expr_lower.specs.Allowing.{KeepsAllowed}
 use Rattle.expr_lower.specs.Fitting.{Fits}
 use Rattle.expr_lower.specs.Following.{MayUse}
 use Rattle.expr_lower.specs.Held.{AreBelow}
@@ -95,7 +96,7 @@ aimed out op.Done = op.JumpIfNot out
 aimed out i = i
 
 -- Code that evaluates an expression in any other way: what is known of it is that it pushes the value, which is a
--- single one, that it fits where it stands, and that it has no jump whose target isn't known.
+-- single one, that it fits where it stands, that it has no jump whose target isn't known, and what it writes and reads.
 pub record IsOtherCode (fs : List Function) (names : List Name) (e : Tree) (base n : ℕ) (code : List Instr) (m : ℕ) : Type 0 where
   pub cells : n ≤ m
   pub evaluates : AreBelow n names → EvaluatesWith fs names e base n m code
@@ -108,6 +109,7 @@ pub record IsOtherCode (fs : List Function) (names : List Name) (e : Tree) (base
       → AreBelow n names → m ≤ limit → StandsAt whole.instrs base code
       → Fits whole callable limit base h code (h + 1) (base + length code) (h + 1)
   pub aims : (out : ℕ) → map (aimed out) code ≡ code
+  pub allowed : KeepsAllowed fs names n code
 
 mutual
   -- Code of an expression that stands at a place. It pushes the value. Of the cells, it uses those from n to m.

@@ -5,6 +5,7 @@ pub mod Held
 pub mod Placed
 pub mod Following
 pub mod Fitting
+pub mod Allowing
 pub mod Lowered
 pub mod Calling
 pub mod Single

@@ -11,6 +11,7 @@ use Rattle.code_ir.specs.Running.{State, Reaches}
 use Rattle.expr_lower.specs.declared.names.Seat.TheVariants.{Cell}
 use Rattle.expr_lower.specs.Callees.{Function}
 use Rattle.expr_lower.specs.Calling.{HasRoutines, Prepared, Serves}
+use Rattle.expr_lower.specs.Allowing.{KeepsAllowed}
 use Rattle.expr_lower.specs.Fitting.{Fits}
 use Rattle.expr_lower.specs.Flat.{flat}
 use Rattle.expr_lower.specs.Following.{CutsOff, Follows}
@@ -29,7 +30,7 @@ pub record Starts (w : World) (t : Shape) (c m : ℕ) (s : State) (end : ℕ) (v
 
 -- Wherever these instructions stand, in code that has the routines, they do what starting the local does: they put its
 -- first value, stored in its type, into the cells from c on, or trap, after as many turns; and they fit there. Of the
--- cells, they use those from c to m and those of routines.
+-- cells, they use those from c to m and those of routines; of the tokens, they read those of names.
 pub record StartsList (fs : List Function) (names : List Name) (x : Local) (c base : ℕ) (code : List Instr) (m : ℕ) : Type 0 where
   pub cells : c + scalars_of_type x.shape ≤ m
   pub starts : AreBelow c names
@@ -43,3 +44,4 @@ pub record StartsList (fs : List Function) (names : List Name) (x : Local) (c ba
   pub fits : (whole : Code) (callable limit : ℕ) → HasRoutines whole callable limit fs
       → AreBelow c names → m ≤ limit → StandsAt whole.instrs base code
       → Fits whole callable limit base 0 code 0 (base + length code) 0
+  pub allowed : KeepsAllowed fs names c code

@@ -3,5 +3,5 @@ pub mod Facts
 pub mod Looping
 pub mod Spans
 pub mod Clearing
-pub mod Deciding
+pub mod BodyEnds
 pub mod Whole

@@ -1,4 +1,3 @@
 pub mod Rows
 pub mod Fitting
 pub mod Clearing
-pub mod ClearWords

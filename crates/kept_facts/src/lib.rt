@@ -7,8 +7,8 @@
 //! cells that are set where it is called, as those of its arguments; it keeps the facts as a part of the bodies that
 //! call it.
 //!
-//! Where that isn't seen, code can clear these cells before anything else. Then nothing depends on what they held, and
-//! whether a body keeps the facts can be seen from each of its instructions alone ([`stand`]).
+//! Where that isn't seen, code can clear these cells before anything else. Then nothing depends on what they held, and a
+//! body keeps the facts if each of its instructions may stand where it does ([`laws`]).
 #![tactic(auto)]
 
 mod bodies;
@@ -17,9 +17,8 @@ mod edges;
 mod finding;
 mod instrs;
 mod keeping;
-mod standing;
+pub mod laws;
 mod stores;
 
 pub use body::Last;
 pub use keeping::keep_facts;
-pub use standing::stand;

@@ -18,10 +18,8 @@ pub(crate) fn may_stand(
     last: Last,
     instr: &Instr,
 ) -> bool
-    ensures yes { IsTrue result
+    ensures { IsTrue result
         → MayStand (actor_of parts.now) firing needs.now last instr.now }
-    ensures no { MayStand (actor_of parts.now) firing needs.now last instr.now
-        → IsTrue result }
 {
     match *instr {
         Instr::Const(_) => true,
@@ -80,8 +78,7 @@ fn needed(needs: &[u32], port: u32) -> u32
 
 /// Whether so many tokens, each so many places behind the one before, are among those that are needed.
 fn are_needed(first: u32, step: u32, count: u32, needed: u32) -> bool
-    ensures yes { IsTrue result → (j : ℕ) → j < count → first + j * step < needed }
-    ensures no { ((j : ℕ) → j < count → first + j * step < needed) → IsTrue result }
+    ensures { IsTrue result → (j : ℕ) → j < count → first + j * step < needed }
 {
     let mut at = first as u64;
     'tokens: for j in 0..count {
@@ -102,8 +99,7 @@ fn may_store(parts: &Parts, firing: bool, cell: usize) -> bool
 
 /// Whether each of so many cells may be written.
 fn may_store_each(parts: &Parts, firing: bool, cell: u32, count: u32) -> bool
-    ensures yes { IsTrue result → MayStoreEach (actor_of parts.now) firing cell count }
-    ensures no { MayStoreEach (actor_of parts.now) firing cell count → IsTrue result }
+    ensures { IsTrue result → MayStoreEach (actor_of parts.now) firing cell count }
 {
     for k in 0..count as usize {
         if !may_store(parts, firing, cell as usize + k) {

@@ -23,6 +23,7 @@ use Rattle.expr_lower.specs.Parted.{sized}
 use Rattle.expr_lower.specs.Placed.{StandsAt, World, state}
 use Rattle.expr_lower.proofs.Adding.{length_join}
 use Rattle.expr_lower.proofs.Aimed.{join_unaimed, unaimed}
+use Rattle.expr_lower.proofs.AllowedCode.{allowed_then, allows_more, code_allowed, own_all}
 use Rattle.expr_lower.proofs.Coded.{ends_as, grows}
 use Rattle.expr_lower.proofs.Fitted.{fits_in, fits_one, plain_then}
 use Rattle.expr_lower.proofs.Keeping.{below_more}
@@ -32,6 +33,7 @@ use Rattle.expr_lower.proofs.Singles.{IsSingleValue}
 use Rattle.list_lower.specs.Filling.{IsFill, apart_list}
 use Rattle.list_lower.specs.Reserving.{HasMore, one_at_least}
 use Rattle.list_lower.proofs.ApartForms.{does_apart}
+use Rattle.list_lower.proofs.AllowedFills.{fill_allowed}
 use Rattle.list_lower.proofs.Filled.{fills_in, grows_fill}
 use Rattle.list_lower.proofs.Fitted.{fits_fill}
 use Rattle.list_lower.proofs.Forms.{Ready}
@@ -93,6 +95,9 @@ module _ (fs : List Function) (names : List Name) (e place : Tree) (t : Scalar) 
         (plain_then whole callable limit (base + length a) h (h + 1) (h + 1) b (i ∷ []) (fits_in whole callable limit fs has names h (below_more n k names (omega (arith, wide)) below) le (stands_left whole.instrs (base + length a) b (i ∷ []) rest) coded)
         (fits_one whole callable limit (base + length a + length b) (h + 1) (h + 1) i (omega arith) (omega arith) refl (omega (arith, wide, ge, le)) tt tt tt));
     aims = λ out. join_unaimed out a (b ++ op.LoadAt n many ∷ []) (fill_unaimed out filled) (join_unaimed out b (op.LoadAt n many ∷ []) (unaimed out coded) refl);
+    allowed = λ bounds r.
+        allowed_then bounds a (b ++ op.LoadAt n many ∷ []) (fill_allowed bounds fs (allows_more (n + room) (omega arith) r) (own_all n (scalars_of_type (Many many (Single t))) (omega arith) r) filled)
+        (allowed_then bounds b (op.LoadAt n many ∷ []) (code_allowed bounds fs names (allows_more k (omega (arith, wide)) r) coded) (tt, tt));
   }
 
 least_some : (n : ℕ) → 0 < one_at_least n

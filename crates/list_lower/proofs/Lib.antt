@@ -14,6 +14,7 @@ pub mod Going
 pub mod Elements
 pub mod Loops
 pub mod Filled
+pub mod AllowedFills
 pub mod FittedJumps
 pub mod FittedParts
 pub mod Fitted
@@ -30,3 +31,4 @@ pub mod Whole
 pub mod StartingLists
 pub mod AddingFunctions
 pub mod Deeper
+pub mod FixedPlaces

@@ -27,6 +27,7 @@ use Rattle.expr_lower.specs.Held.{AreBelow}
 use Rattle.expr_lower.specs.ListStarts.{Starts, StartsList}
 use Rattle.expr_lower.specs.Names.{Name}
 use Rattle.expr_lower.specs.Placed.{StandsAt, World, state}
+use Rattle.expr_lower.proofs.AllowedCode.{allows_more, own_all}
 use Rattle.expr_lower.proofs.Fitted.{Plain, fits_one, plain_then}
 use Rattle.expr_lower.proofs.Keeping.{flat_length, keeps_join, scalars_same}
 use Rattle.expr_lower.proofs.Routined.{zero_kind}
@@ -34,6 +35,7 @@ use Rattle.expr_lower.proofs.Runs.{follows_then, reaches_join, stands_left, stan
 use Rattle.expr_lower.proofs.Written.{Written, written_keeps}
 use Rattle.list_lower.specs.Filled.{Fills}
 use Rattle.list_lower.specs.ListStarting.{IsListStart, all_filled, all_zero, leaf_of}
+use Rattle.list_lower.proofs.AllowedFills.{list_start_allowed}
 use Rattle.list_lower.proofs.Filled.{fills_in, grows_fill}
 use Rattle.list_lower.proofs.Fitted.{fits_fill}
 use Rattle.list_lower.proofs.Forms.{Ready}
@@ -161,4 +163,5 @@ start_code {fs = fs} {names = names} {c = c} x typed coded = record {
       list_starts fs globals w serves frames names env x.shape c x.start typed coded stack cells left stands
       (record { below = (below, p.globals_below); apart = (p.apart, p.globals_apart); free = free; room = room; held = (p.holds, p.holds_globals, p.room) });
   fits = λ whole callable limit has below le stands. fits_list_start whole callable limit fs has names x.shape c 0 typed (omega arith) below le stands coded;
+  allowed = λ bounds r. list_start_allowed bounds fs (allows_more (c + scalars_of_type x.shape) (omega arith) r) (own_all c (scalars_of_type x.shape) (omega arith) r) coded;
 }

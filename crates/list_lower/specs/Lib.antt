@@ -11,3 +11,4 @@ pub mod ListStarting
 pub mod Telling
 pub mod StartWords
 pub mod Indexing
+pub mod FixedItems

@@ -15,6 +15,7 @@ ghost use Rattle.expr_lower.specs.Words.{AddsLowered, AddsLoweredWith, IsFaultOf
 ghost use Rattle.expr_lower.specs.Words.{and_of, binary_of, call_of, if_of, index_of, or_of};
 
 use crate::apart::{items_seen, list_type, one_type};
+use crate::fixed::fixed_item;
 use crate::indexes::Indexes;
 use crate::lists::fill;
 use crate::taking::{one_at_least, take_row};
@@ -60,9 +61,29 @@ fn paren(scope: &Scope, inner: &Expr, draft: &mut Draft) -> Result<(), LowerFaul
     lower(scope, inner, draft)
 }
 
-/// Appends an item of a list: its place, and the instruction that reads it.
+/// Appends an item of a list, which one instruction reads if its places are written out and lie within the list.
 #[cycle(lower)]
 fn item(
+    scope: &Scope,
+    base: &Expr,
+    place: &Expr,
+    at: u32,
+    draft: &mut Draft,
+) -> Result<(), LowerFault>
+    ensures ok { OnOk result
+        (Lowers scope.now (index_of base.now place.now at) draft.old draft.new) }
+    ensures whole { OnOk result (IsAll scope.now (index_of base.now place.now at)) }
+    ensures fault { IfErr result (IsWhy scope.now (index_of base.now place.now at) draft.new) }
+{
+    match fixed_item(scope, base, place) {
+        Some(instr) => put(draft, instr),
+        None => any_item(scope, base, place, at, draft),
+    }
+}
+
+/// Appends an item of a list: its place, and the instruction that reads it.
+#[cycle(lower)]
+fn any_item(
     scope: &Scope,
     base: &Expr,
     place: &Expr,

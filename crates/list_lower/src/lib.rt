@@ -8,6 +8,7 @@ mod apart;
 mod bounds;
 mod counting;
 mod exprs;
+mod fixed;
 mod generators;
 mod indexes;
 pub mod laws;

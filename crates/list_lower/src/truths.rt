@@ -113,7 +113,14 @@ fn prefix_gives(scope: &Scope, op: PrefixOp, of: &Expr, depth: &Indexes, sort: S
 
 /// Whether an operator between two operands gives such values.
 #[cycle(gives)]
-fn binary_gives(scope: &Scope, op: BinOp, left: &Expr, right: &Expr, depth: &Indexes, sort: Sort) -> bool
+fn binary_gives(
+    scope: &Scope,
+    op: BinOp,
+    left: &Expr,
+    right: &Expr,
+    depth: &Indexes,
+    sort: Sort,
+) -> bool
     ensures { result ≡ gives_at sort (number_of depth.now) (called scope.now) (seen scope.now)
         (binary_of op left.now right.now 0) }
 {
@@ -132,8 +139,7 @@ fn both_give(scope: &Scope, left: &Expr, right: &Expr) -> bool
     ensures { result ≡ both_single (called scope.now) (seen scope.now)
         (expr_tree left.now) (expr_tree right.now) }
 {
-    gives(scope, left, &Indexes::None, Sort::Any)
-        && gives(scope, right, &Indexes::None, Sort::Any)
+    gives(scope, left, &Indexes::None, Sort::Any) && gives(scope, right, &Indexes::None, Sort::Any)
 }
 
 /// Whether an operator gives truth values.
@@ -205,7 +211,14 @@ fn under_gens(scope: &Scope, item: &Expr, gens: &[Gen], depth: &Indexes, sort: S
 
 /// .. and first that of this one, if it counts.
 #[cycle(gives)]
-fn under_gen(scope: &Scope, item: &Expr, first: &Gen, rest: &[Gen], depth: &Indexes, sort: Sort) -> bool
+fn under_gen(
+    scope: &Scope,
+    item: &Expr,
+    first: &Gen,
+    rest: &[Gen],
+    depth: &Indexes,
+    sort: Sort,
+) -> bool
     ensures { result ≡ of_elements sort (number_of depth.now) (called scope.now) (seen scope.now)
         (gens_of (first.now ∷ rest.now)) (expr_tree item.now) }
 {

@@ -97,6 +97,12 @@ pub trait Firing: Drop {
             (cell self.old).inbox_capacities port }
         ensures accepts { Accepts (cell self.old) port token (cell self.new) };
 
+    /// Takes back the token that came last before an input port: the cell is what it was before `accept` put it there.
+    fn take_back(&mut self, port: u32) -> Num
+        requires port { port < (cell self.old).actor.ins }
+        requires some { 1 ≤ length (tokens_on (cell self.old).inboxes port) }
+        ensures takes_back { Accepts (cell self.new) port result (cell self.old) };
+
     /// How many tokens were sent on an output port and haven't left yet.
     fn sent(&self, port: u32) -> u32
         requires port { port < (cell self.now).actor.outs }

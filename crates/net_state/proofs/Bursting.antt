@@ -1,6 +1,6 @@
 -- A burst of one cell: the state that it leads to, and what stays true of what is held.
 use Rattle.std.proofs.Common.{◌≡◌, ◌≢◌, ℕ, zero, suc, ◌+◌, ◌-◌, ◌<◌, ◌≤◌, true, false, List, [], ◌∷◌, ◌++◌, ℤ, length, map, drop, refl, sym, ap, subst, ◌∙◌, ⊎_elim, inl, inr, arith, length-append, length-drop, append-nil, append_assoc}
-use Rattle.std.specs.Prelude.{None, Some, slice_get, slice_set, slice_index_or}
+use Rattle.std.specs.Prelude.{Option, None, Some, slice_get, slice_set, slice_index_or}
 use Rattle.std.proofs.lemmas.Bool.{cases_eq, cases_lt}
 use Rattle.std.proofs.lemmas.List.{length-set}
 use Rattle.rvc_base.specs.Storing.{conv}
@@ -27,6 +27,7 @@ use Rattle.net_model.specs.Paced.{Halt, HaltsAt, HasRoomIn, IsBurst}
 use Rattle.net_model.proofs.Arriving.{set_twice}
 use Rattle.net_state.specs.Moving.{IsWriter, SameActors, SameMarks, sent_from, sent_of}
 use Rattle.net_state.specs.Held.{HasRooms, IsLeft, IsReader, IsWorking, held_of}
+use Rattle.net_state.specs.TakingBack.{NoMoreWait, waits_at}
 use Rattle.net_state.specs.Standing.{IsNetOf, IsOpened, LiesIn, Stands, StandsIn, StandsSince}
 use Rattle.net_state.specs.Working.{AreFed, BurstsAt, DoesSome, EndsSeeHalt, GoesOn, HasAction, IsAtRest, LookedAt, LooksAt, LooksFed, LooksIn, NamesAction, NamesLacking, TriedAt, TriesAt, TriesIn, WorksAt, halt_of, journal_of, traps, tried_traps}
 use Rattle.net_state.proofs.Gaining.{actor_then, some_is, there_too, get_set_same, get_set_other, same_actor}
@@ -39,6 +40,9 @@ use Rattle.net_state.proofs.Roomy.{IsRow, are_rooms, has_room_in, passes_room, r
 
 some_none : {A : Type 0} {x : A} → Some x ≡ None → ⊥
 some_none h = cc
+
+same_length : {A : Type 0} {xs ys : List A} → xs ≡ ys → length xs ≤ length ys
+same_length {A} {xs} {ys} same = let is : length xs ≡ length ys = ap (λ ts. length ts) same in omega (arith, is)
 
 -- One cell is set.
 
@@ -672,6 +676,24 @@ module _ {X : Type 0} (cells : List (Cell X)) (links : List Link) (capacities wa
 
     pub tried_working : IsWorking new links capacities waited
     tried_working = subst (λ cs. IsWorking cs links capacities waited) (sym b.is) (tried_working_by result b.tries)
+
+    -- before no port more wait than before
+    fewer_by : (t : Tried) → Tries row a b.before t b.after → (p : ℕ) → p < b.before.actor.ins → length (tokens_on b.after.inboxes p) ≤ length (tokens_on b.before.inboxes p)
+    fewer_by tried.Fired tries p low =
+        let is : length (tokens_on b.after.inboxes p) ≡ length (tokens_on b.before.inboxes p) - b.before.actor.need a p =
+        ap (λ ts. length ts) (tries.1.taken p low) ∙ length-drop (b.before.actor.need a p) (tokens_on b.before.inboxes p) in
+        omega (arith, is)
+    fewer_by (tried.Trap cause) tries p low = same_length (tries.1.inboxes p low)
+    fewer_by tried.NotExposed tries p low = same_length (tries.1.inboxes p low)
+    fewer_by (tried.NoRoom port) tries p low = same_length (tries.2.inboxes p low)
+
+    pub tried_fewer : NoMoreWait (held_of cells links capacities waited) (held_of new links capacities waited)
+    tried_fewer l = of_link (slice_get links l) refl
+      where
+        of_link : (o : Option Link) → slice_get links l ≡ o → waits_at new o ≤ waits_at cells o
+        of_link None at = omega arith
+        of_link (Some link) at = subst (λ cs. length (waiting_at cs link.to) ≤ length (waiting_at cells link.to)) (sym b.is)
+            (waits_set cells i b.before b.after b.at (λ m n. m ≤ n) (fewer_by result b.tries) (λ n. omega arith) link.to (working.fits l link at).reader)
 
     pub tried_rooms : HasRooms new links capacities waited table
     tried_rooms = moved_rooms cells new links capacities waited waited table table tried_same rooms (same_shape table) rooms.rooms

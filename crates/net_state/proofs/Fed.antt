@@ -81,30 +81,20 @@ module _ {X : Type 0} (old new : List (Cell X)) (links : List Link) (capacities 
         ∙ (ap (λ ts. length ts) (stands.inboxes j on.0 on.1 q on.2 ∙ inbox_at j q net.links s.flows l link flow apart_here at_net there leads)
         ∙ length_waiting flow held_here.arrived)
 
-    module _ (count : ℕ) (ts : List ℤ) (come : unarrived (Some flow) ≡ map (conv link.kind) ts) (few : count ≤ length ts)
-        (gains : EachGains (only_to j q (map (conv link.kind) (take count ts))) old new) where
-      abbrev pub stored : List ℤ
-      stored = map (conv link.kind) (take count ts)
-
-      abbrev pub now : Flow
+    -- the next tokens that were sent came
+    module _ (count : ℕ) (stored : List ℤ) (next : take count (drop flow.arrived flow.sent) ≡ stored) (fits : flow.arrived + count ≤ length flow.sent)
+        (gains : EachGains (only_to j q stored) old new) where
+      abbrev now : Flow
       now = after_arrival count link flow
 
-      left_is : length flow.sent - flow.arrived ≡ length ts
-      left_is = sym (length-drop flow.arrived flow.sent) ∙ (ap (λ us. length us) come ∙ length-map ts (conv link.kind))
-
-      pub fits_sent : flow.arrived + count ≤ length flow.sent
-      fits_sent = omega (arith, left_is, few, held_here.arrived)
-
       waits_now : waiting now ≡ waiting flow ++ stored
-      waits_now =
-          waits_arrived count link flow not_out held_here.taken held_here.arrived
-          ∙ ap (λ us. waiting flow ++ us) (ap (take count) come ∙ take-map (conv link.kind) count ts)
+      waits_now = waits_arrived count link flow not_out held_here.taken held_here.arrived ∙ ap (λ us. waiting flow ++ us) next
 
       flow_now : slice_get (slice_set s.flows l now) l ≡ Some now
       flow_now = get_set_same s.flows l flow now there
 
-      pub fed_stands : Stands net new capacities (arrived s l count link flow)
-      fed_stands = record {
+      pub came_stands : Stands net new capacities (arrived s l count link flow)
+      came_stands = record {
         actors = record {
           count = stands.actors.count ∙ sym gains.count;
           each = λ i after that free.
@@ -157,7 +147,7 @@ module _ {X : Type 0} (old new : List (Cell X)) (links : List Link) (capacities 
           held_now = record {
             lies = of_input link.from (drop now.arrived now.sent) input;
             capacity_is = held_here.capacity_is;
-            arrived = fits_sent;
+            arrived = fits;
             taken = omega (arith, taken_is, held_here.taken);
             gone = λ out. let no : true ≡ false = sym out ∙ not_out in cc;
           }
@@ -166,14 +156,34 @@ module _ {X : Type 0} (old new : List (Cell X)) (links : List Link) (capacities 
               of_input (AtNet port) us outside = tt
               of_input (AtLeaf inst port) us outside = cc
 
-      pub fed_opened : IsOpened net.links waited s.flows s.flows → IsOpened net.links waited (slice_set s.flows l now) (slice_set s.flows l now)
+    module _ (count : ℕ) (ts : List ℤ) (come : unarrived (Some flow) ≡ map (conv link.kind) ts) (few : count ≤ length ts)
+        (gains : EachGains (only_to j q (map (conv link.kind) (take count ts))) old new) where
+      abbrev pub stored : List ℤ
+      stored = map (conv link.kind) (take count ts)
+
+      abbrev pub arrived_so : Flow
+      arrived_so = after_arrival count link flow
+
+      left_is : length flow.sent - flow.arrived ≡ length ts
+      left_is = sym (length-drop flow.arrived flow.sent) ∙ (ap (λ us. length us) come ∙ length-map ts (conv link.kind))
+
+      pub fits_sent : flow.arrived + count ≤ length flow.sent
+      fits_sent = omega (arith, left_is, few, held_here.arrived)
+
+      next_are : take count (drop flow.arrived flow.sent) ≡ stored
+      next_are = ap (take count) come ∙ take-map (conv link.kind) count ts
+
+      pub fed_stands : Stands net new capacities (arrived s l count link flow)
+      fed_stands = came_stands count stored next_are fits_sent gains
+
+      pub fed_opened : IsOpened net.links waited s.flows s.flows → IsOpened net.links waited (slice_set s.flows l arrived_so) (slice_set s.flows l arrived_so)
       fed_opened opened = record {
-        whole = length-set s.flows l now ∙ opened.whole;
+        whole = length-set s.flows l arrived_so ∙ opened.whole;
         each = λ m other before that here inner there' that'.
             let differ : m ≢ l = λ same.
             (let other_is : other ≡ link = some_is other link (sym here ∙ (ap (slice_get net.links) same ∙ at_net)) in
             let no : true ≡ false = sym input ∙ (sym (ap is_input other_is) ∙ inner) in cc) in
-            opened.each m other before that here inner (sym (get_set_other s.flows m l now differ) ∙ there') (sym (get_set_other s.flows m l now differ) ∙ that');
+            opened.each m other before that here inner (sym (get_set_other s.flows m l arrived_so differ) ∙ there') (sym (get_set_other s.flows m l arrived_so differ) ∙ that');
       }
 
       -- the port holds so many more

@@ -174,6 +174,24 @@ each_gains_at j q tokens cells old new at gains = record {
       (cases_eq i j);
 }
 
+-- one cell of them had fewer tokens
+pub each_gains_before : {X : Type 0} (j q : ℕ) (tokens : List ℤ) (cells : List (Cell X)) (less now : Cell X) → slice_get cells j ≡ Some now
+    → Gains (only_to j q tokens j) less now → EachGains (only_to j q tokens) (slice_set cells j less) cells
+each_gains_before j q tokens cells less now at gains = record {
+  count = sym (length-set cells j less);
+  each = λ i before after was is. ⊎_elim
+      (λ same.
+      let before_is : before ≡ less = some_is before less (sym was ∙ (ap (slice_get (slice_set cells j less)) same ∙ get_set_same cells j now less at)) in
+      let after_is : after ≡ now = some_is after now (sym is ∙ (ap (slice_get cells) same ∙ at)) in
+      subst (λ k. Gains (only_to j q tokens k) before after) (sym same)
+      (subst (λ c. Gains (only_to j q tokens j) c after) (sym before_is) (subst (λ c. Gains (only_to j q tokens j) less c) (sym after_is) gains)))
+      (λ differ.
+      let same : before ≡ after = some_is before after (sym was ∙ (get_set_other cells i j less differ ∙ is)) in
+      subst (λ c. Gains (only_to j q tokens i) before c) same
+      (gains_nothing (only_to j q tokens i) before (λ p. other_cell j q tokens i p differ)))
+      (cases_eq i j);
+}
+
 pub only_more : (j q : ℕ) (tokens more : List ℤ) (i p : ℕ) → only_to j q tokens i p ++ only_to j q more i p ≡ only_to j q (tokens ++ more) i p
 only_more j q tokens more i p = joined ((i == j) && (p == q))
   where

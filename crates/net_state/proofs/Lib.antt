@@ -25,3 +25,6 @@ pub mod Shared
 pub mod Alone
 pub mod Arriving
 pub mod Noted
+pub mod Returned
+pub mod PutBack
+pub mod Stacked

@@ -187,7 +187,7 @@ named_after cells i (survey.Lacks inst first) (look.Ready action) named here = t
 named_after cells i (survey.Lacks inst first) (look.GuardTrap action cause) named here = tt
 named_after cells i (survey.Moves inst) o named here = tt
 
-same_all : {X : Type 0} (cells : List (Cell X)) → SameActors cells cells
+pub same_all : {X : Type 0} (cells : List (Cell X)) → SameActors cells cells
 same_all cells = record {
   count = refl;
   each = λ i before after was is. subst (IsSameActor before) (some_is before after (sym was ∙ is)) (same_actor before);

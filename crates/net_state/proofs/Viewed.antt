@@ -11,7 +11,7 @@ use Rattle.net_model.specs.declared.firing.BurstEnd.{BurstEnd}
 use Rattle.rvc_base.specs.Lawful.{IsLawful}
 use Rattle.net_state.specs.Working.{BurstsAt, LookedAt, TriedAt}
 use Rattle.net_state.specs.Moving.{EachGains, ClearsAt, only_to}
-use Rattle.net_state.proofs.Gaining.{some_is, get_set_same, get_set_other, each_gains_at, gains_token}
+use Rattle.net_state.proofs.Gaining.{some_is, get_set_same, get_set_other, each_gains_at, each_gains_before, gains_token}
 
 module _ {C X : Type 0} (view : C → Cell X) where
   -- the cell at a place
@@ -26,6 +26,14 @@ module _ {C X : Type 0} (view : C → Cell X) where
       subst (EachGains (only_to i p (token ∷ [])) (map view cells)) (sym (map-set view cells i new))
       (each_gains_at i p (token ∷ []) (map view cells) (view (slice_index_or cells i d)) (view new) (viewed cells i d low)
       (gains_token i p token (view (slice_index_or cells i d)) (view new) accepts))
+
+  -- the token that came last was taken back
+  pub taken_back : (cells : List C) (i p : ℕ) (token : ℤ) (d new : C) → i < length cells → Accepts (view new) p token (view (slice_index_or cells i d))
+      → EachGains (only_to i p (token ∷ [])) (map view (slice_set cells i new)) (map view cells)
+  taken_back cells i p token d new low accepts =
+      subst (λ cs. EachGains (only_to i p (token ∷ [])) cs (map view cells)) (sym (map-set view cells i new))
+      (each_gains_before i p (token ∷ []) (map view cells) (view new) (view (slice_index_or cells i d)) (viewed cells i d low)
+      (gains_token i p token (view new) (view (slice_index_or cells i d)) accepts))
 
   pub cleared_at : (cells : List C) (i : ℕ) (d new : C) → i < length cells → Clears (view (slice_index_or cells i d)) (view new)
       → ClearsAt i (map view cells) (map view (slice_set cells i new))

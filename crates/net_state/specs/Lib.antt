@@ -9,3 +9,4 @@ pub mod Surveyed
 pub mod Made
 pub mod Sharing
 pub mod Reopening
+pub mod TakingBack

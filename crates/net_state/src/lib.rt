@@ -15,6 +15,7 @@ mod reopening;
 mod rooms;
 mod sharing;
 mod tables;
+mod taking_back;
 mod waiting;
 mod working;
 

@@ -1,6 +1,6 @@
 //! A network at work.
 
-ghost use Rattle.std.specs.Prelude.{◌≡◌, ◌<◌, ◌≤◌, ◌+◌, ◌*◌, ◌^◌, ℕ, true, IfNone, IfOk, IfSome, OnErr, Some, length, map, min, slice_get, slice_index_or, slice_set};
+ghost use Rattle.std.specs.Prelude.{◌≡◌, [], ◌<◌, ◌≤◌, ◌+◌, ◌*◌, ◌^◌, ℕ, true, IfNone, IfOk, IfSome, OnErr, Some, length, map, min, slice_get, slice_index_or, slice_set};
 ghost use Rattle.rvc_io.specs.Feeds.{PullsOnly, ReadFails};
 ghost use Rattle.net_model.specs.Paced.{count_picked};
 ghost use Rattle.port_files.specs.Coming.{EndIsTrue};
@@ -12,6 +12,7 @@ ghost use Rattle.net_state.specs.Reopening.{FitWaited, OpensAgain};
 ghost use Rattle.net_state.specs.Moving.{IsFromCell, IsOutput, SameActors, SameMarks, carried_on};
 ghost use Rattle.net_state.specs.Sharing.{AreFresh, AreShares, HaveArrived, WorkEach, share_of};
 ghost use Rattle.net_state.specs.Surveyed.{AreSettled, AreUntrapped, IsOutlook, NamesFound, NamesLink, StallsAt, StillStand, Tells};
+ghost use Rattle.net_state.specs.TakingBack.{NoMoreWait, PutsAll, PutsBack, TakesAll, TakesBack, WaitElsewhere, waits_on};
 ghost use Rattle.net_state.specs.Working.{CanHold, GrewTo, HasAction, IsAtRest, IsLowestLacking, LacksAsEnds, LacksAt, LooksAt, MayBurst, MayWork, TriesAt, WorksAt, journal_of};
 ghost use Rattle.net_state.specs.Standing.{AreAllOut, IsTrueOfUnarrived, LeadInside, StandAtStart};
 
@@ -25,6 +26,8 @@ use crate::outlook::{Outlook, Survey, with_look};
 use crate::reopening::open_again;
 use crate::sharing::{Crew, Part, Shares, burst_part};
 use crate::tables::{first_capacities, room_table, zeros};
+use crate::taking_back::{put_back_along, take_back_along};
+use crate::waiting::waiting_before;
 use crate::working::{burst_at, look_at, try_at};
 use net_model::{BurstEnd, Firing, Link, Look, Tried};
 use port_files::TokenFeed;
@@ -33,6 +36,7 @@ use rvc_io::{Failed, Feeds, Gate};
 use std::alloc::Global;
 use std::marker::Model;
 use std::thread::Threads;
+use token_ring::Ring;
 
 /// The cells of a network, its links, and how many tokens each link can hold now.
 ///
@@ -238,6 +242,7 @@ impl<A: Firing> NetState<A> {
         requires may { MayWork (map A.cell self.old.cells) inst.0 }
         ensures tries { TriesAt inst.0 action.0 result (seen A.cell self.old)
             (seen A.cell self.new) }
+        ensures fewer { NoMoreWait (seen A.cell self.old) (seen A.cell self.new) }
         ensures same_actors { SameActors (map A.cell self.old.cells) (map A.cell self.new.cells) }
         ensures links { self.new.links ≡ self.old.links }
         ensures capacities { self.new.capacities ≡ self.old.capacities }
@@ -319,6 +324,103 @@ impl<A: Firing> NetState<A> {
             feed,
             feeds,
         )
+    }
+
+    /// How many tokens wait before the port to which a link leads. They are no more than the link can hold.
+    pub fn waiting(&self, link: LinkId) -> u32
+        requires there { link.0 < length self.now.links }
+        ensures count { result ≡ waits_on (seen A.cell self.now) link.0 }
+        ensures within { result ≤ slice_index_or self.now.capacities link.0 0 }
+    {
+        waiting_before(&self.cells, &self.links[link.0 as usize].to)
+    }
+
+    /// Takes back the token that arrived last on an input link: each state that stood but for its arrival stands.
+    pub fn take_back(&mut self, link: LinkId) -> Num
+        requires input { IsInputLink (slice_get self.old.links link.0) }
+        requires some { 1 ≤ waits_on (seen A.cell self.old) link.0 }
+        ensures takes_back { TakesBack link.0 result (seen A.cell self.old) (seen A.cell self.new) }
+        ensures one_less { waits_on (seen A.cell self.new) link.0 + 1
+            ≡ waits_on (seen A.cell self.old) link.0 }
+        ensures rests { IsAtRest (seen A.cell self.old) → IsAtRest (seen A.cell self.new) }
+        ensures elsewhere { WaitElsewhere link.0 (seen A.cell self.old) (seen A.cell self.new) }
+        ensures same_actors { SameActors (map A.cell self.old.cells) (map A.cell self.new.cells) }
+        ensures same_marks { SameMarks (map A.cell self.old.cells) (map A.cell self.new.cells) }
+        ensures links { self.new.links ≡ self.old.links }
+        ensures capacities { self.new.capacities ≡ self.old.capacities }
+        ensures waited { self.new.waited ≡ self.old.waited }
+    {
+        take_back_along(&mut self.cells, &self.links[link.0 as usize])
+    }
+
+    /// Puts back a token that was taken back from an input link: each state whose next token it is there goes on by its
+    /// arrival.
+    pub fn put_back(&mut self, link: LinkId, token: Num)
+        requires input { IsInputLink (slice_get self.old.links link.0) }
+        requires room { waits_on (seen A.cell self.old) link.0
+            < slice_index_or self.old.capacities link.0 0 }
+        ensures puts_back { PutsBack link.0 token (seen A.cell self.old) (seen A.cell self.new) }
+        ensures one_more { waits_on (seen A.cell self.new) link.0
+            ≡ waits_on (seen A.cell self.old) link.0 + 1 }
+        ensures elsewhere { WaitElsewhere link.0 (seen A.cell self.old) (seen A.cell self.new) }
+        ensures same_actors { SameActors (map A.cell self.old.cells) (map A.cell self.new.cells) }
+        ensures same_marks { SameMarks (map A.cell self.old.cells) (map A.cell self.new.cells) }
+        ensures links { self.new.links ≡ self.old.links }
+        ensures capacities { self.new.capacities ≡ self.old.capacities }
+        ensures waited { self.new.waited ≡ self.old.waited }
+    {
+        put_back_along(&mut self.cells, &self.links[link.0 as usize], token);
+    }
+
+    /// Takes back the tokens that arrived last on an input link, so many, and puts them on a stack: each state that stood
+    /// but for their arrival stands.
+    pub fn take_back_all(&mut self, link: LinkId, count: u32, stack: &mut Ring)
+        requires input { IsInputLink (slice_get self.old.links link.0) }
+        requires some { count ≤ waits_on (seen A.cell self.old) link.0 }
+        requires room { length stack.old.tokens + count ≤ stack.old.capacity }
+        ensures takes_back { TakesAll link.0 count stack.old.tokens stack.new.tokens
+            (seen A.cell self.old) (seen A.cell self.new) }
+        ensures longer { length stack.new.tokens ≡ length stack.old.tokens + count }
+        ensures as_much { stack.new.capacity ≡ stack.old.capacity }
+        ensures less { waits_on (seen A.cell self.new) link.0 + count
+            ≡ waits_on (seen A.cell self.old) link.0 }
+        ensures rests { IsAtRest (seen A.cell self.old) → IsAtRest (seen A.cell self.new) }
+        ensures elsewhere { WaitElsewhere link.0 (seen A.cell self.old) (seen A.cell self.new) }
+        ensures same_actors { SameActors (map A.cell self.old.cells) (map A.cell self.new.cells) }
+        ensures same_marks { SameMarks (map A.cell self.old.cells) (map A.cell self.new.cells) }
+        ensures links { self.new.links ≡ self.old.links }
+        ensures capacities { self.new.capacities ≡ self.old.capacities }
+        ensures waited { self.new.waited ≡ self.old.waited }
+    {
+        for _k in 0..count {
+            let token = self.take_back(link);
+            stack.push(token);
+        }
+    }
+
+    /// Puts back on an input link all tokens of a stack, the one on top first: each state whose next tokens they are there
+    /// goes on by their arrival.
+    pub fn put_back_all(&mut self, link: LinkId, stack: &mut Ring)
+        requires input { IsInputLink (slice_get self.old.links link.0) }
+        requires room { waits_on (seen A.cell self.old) link.0 + length stack.old.tokens
+            ≤ slice_index_or self.old.capacities link.0 0 }
+        ensures puts_back { PutsAll link.0 stack.old.tokens (seen A.cell self.old)
+            (seen A.cell self.new) }
+        ensures emptied { stack.new.tokens ≡ [] }
+        ensures as_much { stack.new.capacity ≡ stack.old.capacity }
+        ensures more { waits_on (seen A.cell self.new) link.0
+            ≡ waits_on (seen A.cell self.old) link.0 + length stack.old.tokens }
+        ensures elsewhere { WaitElsewhere link.0 (seen A.cell self.old) (seen A.cell self.new) }
+        ensures same_actors { SameActors (map A.cell self.old.cells) (map A.cell self.new.cells) }
+        ensures same_marks { SameMarks (map A.cell self.old.cells) (map A.cell self.new.cells) }
+        ensures links { self.new.links ≡ self.old.links }
+        ensures capacities { self.new.capacities ≡ self.old.capacities }
+        ensures waited { self.new.waited ≡ self.old.waited }
+    {
+        for _k in 0..stack.len() {
+            let token = stack.take_back();
+            self.put_back(link, token);
+        }
     }
 
     /// Lets a link grow: its present capacity is doubled, at most up to the limit, and the rooms are fixed anew.

@@ -45,6 +45,27 @@ pub(crate) fn store_at<A: Firing>(
     cells[inst.0 as usize].accept(port, conv(kind, token));
 }
 
+/// Takes back the token that came last before an input port of a cell.
+pub(crate) fn take_back_at<A: Firing>(cells: &mut [A], inst: InstId, port: u32) -> Num
+    requires there { inst.0 < length cells.old }
+    requires input { IsInput (map A.cell cells.old) inst.0 port }
+    requires some { 1 ≤ length (tokens_of (slice_get (map A.cell cells.old) inst.0) port) }
+    ensures { EachGains (only_to inst.0 port (result ∷ [])) (map A.cell cells.new)
+        (map A.cell cells.old) }
+{
+    cells[inst.0 as usize].take_back(port)
+}
+
+/// Puts a token behind those before an input port of a cell, as it is.
+pub(crate) fn put_at<A: Firing>(cells: &mut [A], inst: InstId, port: u32, token: Num)
+    requires there { inst.0 < length cells.old }
+    requires room { HasRoomBefore (map A.cell cells.old) inst.0 port 1 }
+    ensures { EachGains (only_to inst.0 port (token ∷ [])) (map A.cell cells.old)
+        (map A.cell cells.new) }
+{
+    cells[inst.0 as usize].accept(port, token);
+}
+
 /// How many tokens wait before an input port of a cell.
 pub(crate) fn held_at<A: Firing>(cells: &[A], inst: InstId, port: u32) -> u32
     requires there { inst.0 < length cells.now }

@@ -3,6 +3,7 @@
 ghost use Rattle.std.specs.Prelude.{◌≡◌, ◌≤◌, true, OnErr, length, map};
 ghost use Rattle.rvc_io.specs.Channels.{WriteFails, WritesOnly};
 ghost use Rattle.trace_text.specs.Text.{line_text, IsWhole};
+ghost use Rattle.trace_text.specs.declared.line.Line.TheVariants.{Fire as FireLine};
 ghost use Rattle.round_runner.specs.Firings.{firings_of, journal_text};
 ghost use Rattle.round_runner.specs.Writing.{Noted, NotedFront};
 
@@ -62,7 +63,8 @@ pub fn note_firings<A: Firing, D: Drains>(
     Ok(())
 }
 
-/// Writes a line for each of these firings of an instance, in order.
+/// Writes a line for each of these firings of an instance, in order. Firings of one action in a row have the same line, which
+/// is made once.
 fn note_journal<D: Drains>(
     inst: InstId,
     actions: &[u16],
@@ -77,12 +79,44 @@ fn note_journal<D: Drains>(
     ensures failed { OnErr result (WriteFails D.channels drains.old drains.new) }
     ensures elsewhere { WritesOnly D.channels drains.old drains.new TRACE_CHANNEL }
 {
+    let Some(&first) = actions.first() else {
+        return Ok(());
+    };
+    let mut line = line_of_firing(inst, first);
     for k in 0..actions.len() {
-        let line = Line::Fire {
-            inst: inst.0,
-            action: actions[k],
-        };
-        note(&line, trace, drains)?;
+        turn_to(&mut line, inst, actions[k]);
+        trace.write(drains, TRACE_CHANNEL, line.text.as_slice())?;
     }
     Ok(())
+}
+
+/// The line of a firing of an instance.
+#[derive(Drop)]
+struct FiringLine {
+    action: u16,
+    text: ArrayVec<u8, 64>,
+}
+
+fn line_of_firing(inst: InstId, action: u16) -> FiringLine
+    ensures action { result.action ≡ action }
+    ensures text { result.text.items ≡ line_text (FireLine inst.0 action) }
+{
+    let line = Line::Fire {
+        inst: inst.0,
+        action,
+    };
+    let mut text = ArrayVec::new();
+    write_line(&line, &mut text);
+    FiringLine { action, text }
+}
+
+/// Makes the line of a firing of an instance that of a firing of this action.
+fn turn_to(line: &mut FiringLine, inst: InstId, action: u16)
+    requires { line.old.text.items ≡ line_text (FireLine inst.0 line.old.action) }
+    ensures action { line.new.action ≡ action }
+    ensures text { line.new.text.items ≡ line_text (FireLine inst.0 action) }
+{
+    if line.action != action {
+        *line = line_of_firing(inst, action);
+    }
 }

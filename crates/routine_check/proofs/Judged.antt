@@ -1,5 +1,5 @@
 -- A part that breaks a rule breaks it in the whole.
-use Rattle.std.proofs.Common.{◌≡◌, ℕ, ap}
+use Rattle.std.proofs.Common.{ℕ, ap}
 use Rattle.cal_model.specs.Value.{Shape}
 use Rattle.cal_model.specs.Kinding.{Judged, and_so}
 use Rattle.const_eval.specs.Judging.{Breaks}

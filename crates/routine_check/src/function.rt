@@ -1,5 +1,5 @@
 //! Functions.
-#![tactic(auto, using(crate::proofs::Judged::breaks_on))]
+#![tactic(auto, using(crate::proofs::Judged::breaks_on, stmt_check::proofs::Said::said_none))]
 
 ghost use Rattle.std.specs.Prelude.{◌≡◌, IfOk};
 ghost use Rattle.cal_ast.specs.View.{expr_tree, function_tree, type_tree};
@@ -8,6 +8,7 @@ ghost use Rattle.cal_model.specs.View.{kind_view};
 ghost use Rattle.const_eval.specs.Counting.{names_view};
 ghost use Rattle.const_eval.specs.Judging.{Judges};
 ghost use Rattle.cal_check.specs.Routines.{fun_broken, fun_inside, head_judged, single_type};
+ghost use Rattle.cal_check.specs.Violations.{said};
 ghost use Rattle.stmt_check.specs.Declaring.{seen_behind};
 ghost use Rattle.stmt_check.specs.Judging.{Checks};
 ghost use Rattle.routine_check.specs.Heads.{AreSeen, body_broken, head_view, value_broken, vars_tree};
@@ -18,7 +19,7 @@ use cal_ast::{Expr, Function, TypeExpr, VarDecl};
 use cal_model::Kind;
 use const_eval::{Inside, KindFault, Names, Variable};
 use rvc_base::Scalar;
-use stmt_check::{stored, vars};
+use stmt_check::{check_stored, check_vars};
 
 /// The head of a function: its formals and the type of its result.
 #[derive(Debug, Drop)]
@@ -56,64 +57,80 @@ fn single_behind(names: &Names, before: &[Variable], shape: &TypeExpr) -> Result
 }
 
 /// What is inside a function: its locals, and its body, whose value is stored in the type of its result. Nothing is
-/// said of it if its head breaks a rule.
+/// said of it if its head breaks a rule. What isn't constant is passed over if `passes`.
 ///
 /// # Errors
 ///
 /// `Broken` if a local or the body breaks a rule: one of those that are broken, and its place. `Memory` if memory runs
 /// out.
-pub fn check_function(names: &Names, f: &Function) -> Result<(), KindFault>
-    ensures { Checks result (fun_broken (function_tree f.now) (names_view names.now)) }
+pub fn check_function(names: &Names, f: &Function, passes: bool) -> Result<(), KindFault>
+    ensures { Checks result (said passes
+        (fun_broken (function_tree f.now) (names_view names.now))) }
 {
     match head(names, f) {
-        Ok(head) => inside(names, &head, f),
+        Ok(head) => inside(names, &head, f, passes),
         Err(KindFault::Broken { .. }) => Ok(()),
         Err(KindFault::Memory) => Err(KindFault::Memory),
     }
 }
 
 /// What is inside a function of a head.
-fn inside(names: &Names, head: &FunHead, f: &Function) -> Result<(), KindFault>
+fn inside(names: &Names, head: &FunHead, f: &Function, passes: bool) -> Result<(), KindFault>
     requires { AreSeen head.now.formals names.now }
-    ensures { Checks result (fun_inside (function_tree f.now) (names_view names.now)
-        (head_view head.now)) }
+    ensures { Checks result (said passes
+        (fun_inside (function_tree f.now) (names_view names.now) (head_view head.now))) }
 {
     let inside = Inside {
         variables: &head.formals.seen,
         gens: &[],
         outer: names.inner,
     };
-    body(&names.under(&inside), &f.vars, head.result, &f.body)
+    body(&names.under(&inside), &f.vars, head.result, &f.body, passes)
 }
 
 /// Locals, and an expression behind them whose value is stored in a type.
-fn body(names: &Names, declared: &[VarDecl], t: Scalar, e: &Expr) -> Result<(), KindFault>
-    ensures { Checks result (body_broken (vars_tree declared.now) t (expr_tree e.now)
-        (names_view names.now)) }
+#[tactic(auto, using(stmt_check::proofs::Said::said_none, stmt_check::proofs::Said::said_on, stmt_check::proofs::Said::said_behind, stmt_check::proofs::Said::said_next))]
+fn body(
+    names: &Names,
+    declared: &[VarDecl],
+    t: Scalar,
+    e: &Expr,
+    passes: bool,
+) -> Result<(), KindFault>
+    ensures { Checks result (said passes
+        (body_broken (vars_tree declared.now) t (expr_tree e.now) (names_view names.now))) }
 {
-    let variables = vars(names, declared)?;
-    value_behind(names, &variables, t, e)
+    let Some(variables) = check_vars(names, declared, passes)? else {
+        return Ok(());
+    };
+    value_behind(names, &variables, t, e, passes)
 }
 
 /// An expression behind variables whose value is stored in a type.
-fn value_behind(names: &Names, variables: &[Variable], t: Scalar, e: &Expr) -> Result<(), KindFault>
-    ensures { Checks result
-        (value_broken t (expr_tree e.now) (seen_behind variables.now names.now)) }
+fn value_behind(
+    names: &Names,
+    variables: &[Variable],
+    t: Scalar,
+    e: &Expr,
+    passes: bool,
+) -> Result<(), KindFault>
+    ensures { Checks result (said passes
+        (value_broken t (expr_tree e.now) (seen_behind variables.now names.now))) }
 {
     let inside = Inside {
         variables,
         gens: &[],
         outer: names.inner,
     };
-    value(&names.under(&inside), t, e)
+    value(&names.under(&inside), t, e, passes)
 }
 
 /// An expression whose value is stored in a type.
-#[tactic(auto, using(stmt_check::proofs::Checked::checks_judged))]
-fn value(names: &Names, t: Scalar, e: &Expr) -> Result<(), KindFault>
-    ensures { Checks result (value_broken t (expr_tree e.now) (names_view names.now)) }
+fn value(names: &Names, t: Scalar, e: &Expr, passes: bool) -> Result<(), KindFault>
+    ensures { Checks result (said passes
+        (value_broken t (expr_tree e.now) (names_view names.now))) }
 {
-    stored(names, &kind_of_scalar(t), e)
+    check_stored(names, &kind_of_scalar(t), e, passes)
 }
 
 /// The kind of the values of a single type.

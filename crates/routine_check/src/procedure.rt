@@ -5,6 +5,7 @@ ghost use Rattle.cal_ast.specs.View.{procedure_tree};
 ghost use Rattle.cal_model.specs.View.{proc_view};
 ghost use Rattle.const_eval.specs.Counting.{names_view};
 ghost use Rattle.cal_check.specs.Routines.{proc_broken, proc_inside};
+ghost use Rattle.cal_check.specs.Violations.{said};
 ghost use Rattle.stmt_check.specs.Judging.{Checks};
 ghost use Rattle.routine_check.specs.Heads.{AreSeen, formals_view};
 
@@ -15,18 +16,24 @@ use const_eval::{Inside, KindFault, Names};
 use stmt_check::block;
 
 /// What is inside a procedure: its locals and its statements, which may call these procedures. Nothing is said of it if
-/// its formals break a rule.
+/// its formals break a rule. What isn't constant is passed over if `passes`.
 ///
 /// # Errors
 ///
 /// `Broken` if a local or a statement breaks a rule: one of those that are broken, and its place. `Memory` if memory
 /// runs out.
-pub fn check_procedure(names: &Names, procs: &[BoundProc], p: &Procedure) -> Result<(), KindFault>
-    ensures { Checks result
-        (proc_broken (procedure_tree p.now) (map proc_view procs.now) (names_view names.now)) }
+#[tactic(auto, using(stmt_check::proofs::Said::said_none))]
+pub fn check_procedure(
+    names: &Names,
+    procs: &[BoundProc],
+    p: &Procedure,
+    passes: bool,
+) -> Result<(), KindFault>
+    ensures { Checks result (said passes
+        (proc_broken (procedure_tree p.now) (map proc_view procs.now) (names_view names.now))) }
 {
     match formals(names, &p.formals) {
-        Ok(formals) => inside(names, procs, &formals, p),
+        Ok(formals) => inside(names, procs, &formals, p, passes),
         Err(KindFault::Broken { .. }) => Ok(()),
         Err(KindFault::Memory) => Err(KindFault::Memory),
     }
@@ -38,15 +45,16 @@ fn inside(
     procs: &[BoundProc],
     formals: &FoundFormals,
     p: &Procedure,
+    passes: bool,
 ) -> Result<(), KindFault>
     requires { AreSeen formals.now names.now }
-    ensures { Checks result (proc_inside (procedure_tree p.now) (map proc_view procs.now)
-        (names_view names.now) (formals_view formals.now)) }
+    ensures { Checks result (said passes (proc_inside (procedure_tree p.now)
+        (map proc_view procs.now) (names_view names.now) (formals_view formals.now))) }
 {
     let inside = Inside {
         variables: &formals.seen,
         gens: &[],
         outer: names.inner,
     };
-    block(&names.under(&inside), procs, &p.vars, &p.body)
+    block(&names.under(&inside), procs, &p.vars, &p.body, passes)
 }

@@ -4,6 +4,7 @@ ghost use Rattle.std.specs.Prelude.{ℕ, map};
 ghost use Rattle.cal_model.specs.View.{proc_view};
 ghost use Rattle.const_eval.specs.Counting.{names_view};
 ghost use Rattle.cal_check.specs.Actors.{formals_broken, funs_broken, funs_in, heads_broken, procs_broken, procs_in};
+ghost use Rattle.cal_check.specs.Violations.{said};
 ghost use Rattle.stmt_check.specs.Judging.{Checks};
 ghost use Rattle.routine_check.specs.Heads.{members_tree};
 ghost use Rattle.routine_check.specs.Judging.{ChecksIn};
@@ -66,30 +67,33 @@ pub fn check_functions(names: &Names, members: &[Member]) -> Result<(), KindFaul
     let mut rest = members;
     'members: while let Some((first, others)) = rest.split_first() {
         if let Member::Function(f) = first {
-            check_function(names, f)?;
+            check_function(names, f, false)?;
         }
         rest = others;
     }
     Ok(())
 }
 
-/// What is inside the procedures among members, which may call these procedures, as [`check_procedure`] judges each.
+/// What is inside the procedures among members, which may call these procedures, as [`check_procedure`] judges each. What
+/// isn't constant is passed over if `passes`.
 ///
 /// # Errors
 ///
 /// As those of [`check_procedure`].
+#[tactic(auto, using(stmt_check::proofs::Said::said_none, stmt_check::proofs::Said::said_on, stmt_check::proofs::Said::said_next))]
 pub fn check_procedures(
     names: &Names,
     procs: &[BoundProc],
     members: &[Member],
+    passes: bool,
 ) -> Result<(), KindFault>
-    ensures { Checks result (procs_broken (procs_in (members_tree members.now))
-        (map proc_view procs.now) (names_view names.now)) }
+    ensures { Checks result (said passes (procs_broken (procs_in (members_tree members.now))
+        (map proc_view procs.now) (names_view names.now))) }
 {
     let mut rest = members;
     'members: while let Some((first, others)) = rest.split_first() {
         if let Member::Procedure(p) = first {
-            check_procedure(names, procs, p)?;
+            check_procedure(names, procs, p, passes)?;
         }
         rest = others;
     }

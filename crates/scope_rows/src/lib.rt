@@ -15,6 +15,4 @@ mod names;
 #[cfg(test)]
 mod rows;
 #[cfg(test)]
-mod scopes;
-#[cfg(test)]
 mod table;

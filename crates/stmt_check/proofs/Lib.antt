@@ -1,4 +1,5 @@
 pub mod Judged
 pub mod Checked
+pub mod Said
 pub mod Walks
 pub mod StmtWeights

@@ -1,5 +1,5 @@
 //! Assignments.
-#![tactic(auto, using(crate::proofs::Judged::breaks_on))]
+#![tactic(auto, using(crate::proofs::Judged::breaks_on, crate::proofs::Said::said_none, crate::proofs::Said::said_on, crate::proofs::Said::said_behind))]
 
 ghost use Rattle.std.specs.Prelude.{◌≡◌, ◌++◌, map, string_bytes};
 ghost use Rattle.cal_ast.specs.Tree.{listed};
@@ -9,29 +9,47 @@ ghost use Rattle.cal_model.specs.View.{kind_view};
 ghost use Rattle.const_eval.specs.Counting.{names_view};
 ghost use Rattle.const_eval.specs.Judging.{Judges};
 ghost use Rattle.cal_check.specs.Statements.{assigned_kind, assignment_judged, kind_at_places, may_be_assigned};
-ghost use Rattle.cal_check.specs.Violations.{broken};
+ghost use Rattle.cal_check.specs.Violations.{broken, said};
 ghost use Rattle.stmt_check.specs.Judging.{Checks};
 
-use crate::part::stored;
+use crate::part::{passed, stored};
 use cal_ast::{Expr, Ident};
 use cal_model::Kind;
 use const_eval::{KindFault, Names, item_kind, kind};
 use rvc_base::Rule;
 
-/// An assignment to a variable, or to a place in one.
+/// An assignment to a variable, or to a place in one. What isn't constant is passed over if `passes`.
 pub(crate) fn assign(
     names: &Names,
     name: &Ident,
     places: &[Expr],
     value: &Expr,
     at: u32,
+    passes: bool,
 ) -> Result<(), KindFault>
-    ensures { Checks result (broken (assignment_judged (string_bytes name.now.text) name.now.at
-        (listed (map expr_tree places.now)) (expr_tree value.now) (names_view names.now))
-        ++ may_be_assigned (meant_by (string_bytes name.now.text) (names_view names.now)) at) }
+    ensures { Checks result (said passes (broken (assignment_judged (string_bytes name.now.text)
+        name.now.at (listed (map expr_tree places.now)) (expr_tree value.now) (names_view names.now))
+        ++ may_be_assigned (meant_by (string_bytes name.now.text) (names_view names.now)) at)) }
 {
-    assigned(names, name, places, value)?;
-    may_be_assigned(names, name.text.as_str(), at)
+    check_assigned(names, name, places, value, passes)?;
+    may_be_assigned(names, name.text.as_str(), at, passes)
+}
+
+/// The places, and what is stored there. What isn't constant is passed over if `passes`.
+fn check_assigned(
+    names: &Names,
+    name: &Ident,
+    places: &[Expr],
+    value: &Expr,
+    passes: bool,
+) -> Result<(), KindFault>
+    ensures { Checks result (said passes (broken (assignment_judged (string_bytes name.now.text)
+        name.now.at (listed (map expr_tree places.now)) (expr_tree value.now) (names_view names.now)))) }
+{
+    match assigned(names, name, places, value) {
+        Ok(()) => Ok(()),
+        Err(fault) => passed(fault, passes),
+    }
 }
 
 /// The places, and what is stored there.
@@ -45,7 +63,16 @@ fn assigned(names: &Names, name: &Ident, places: &[Expr], value: &Expr) -> Resul
 }
 
 /// That what is assigned isn't a constant.
-fn may_be_assigned(names: &Names, name: &str, at: u32) -> Result<(), KindFault>
+#[tactic(auto, using(crate::proofs::Said::assigned_checked))]
+fn may_be_assigned(names: &Names, name: &str, at: u32, passes: bool) -> Result<(), KindFault>
+    ensures { Checks result (said passes
+        (may_be_assigned (meant_by name.now (names_view names.now)) at)) }
+{
+    changes(names, name, at)
+}
+
+/// The same.
+fn changes(names: &Names, name: &str, at: u32) -> Result<(), KindFault>
     ensures { Checks result (may_be_assigned (meant_by name.now (names_view names.now)) at) }
 {
     match names.meant(name) {

@@ -1,7 +1,8 @@
 //! The rules that statements and what stands in them break.
 //!
 //! Each call judges a part over the names that it sees. It answers Ok exactly if the part breaks no rule, and else one
-//! that it breaks, with its place.
+//! that it breaks, with its place. Some are told whether they pass over what isn't constant: then they answer Ok exactly
+//! if the part breaks no other rule.
 #![tactic(auto)]
 
 mod assign;
@@ -11,6 +12,6 @@ mod proc_call;
 mod stmt;
 
 pub use assign::kinds;
-pub use inner_vars::vars;
-pub use part::{stored, test};
+pub use inner_vars::{check_vars, vars};
+pub use part::{check_stored, is_passed, passed, stored, test};
 pub use stmt::{block, optional_stmts, stmts};

@@ -8,16 +8,37 @@ ghost use Rattle.cal_model.specs.Statement.{proc_named};
 ghost use Rattle.cal_model.specs.View.{proc_view};
 ghost use Rattle.const_eval.specs.Counting.{names_view};
 ghost use Rattle.cal_check.specs.Statements.{call_judged};
-ghost use Rattle.cal_check.specs.Violations.{broken};
+ghost use Rattle.cal_check.specs.Violations.{broken, said};
 ghost use Rattle.stmt_check.specs.Judging.{Checks};
 
+use crate::part::passed;
 use cal_ast::Expr;
 use cal_model::BoundProc;
 use const_eval::{KindFault, Names, arguments_fit};
 use rvc_base::Rule;
 
-/// A call of a procedure.
+/// A call of a procedure. What isn't constant is passed over if `passes`.
+#[tactic(auto, using(crate::proofs::Said::said_none))]
 pub(crate) fn call(
+    names: &Names,
+    procs: &[BoundProc],
+    name: &str,
+    args: &[Expr],
+    at: u32,
+    passes: bool,
+) -> Result<(), KindFault>
+    ensures { Checks result (said passes (broken (call_judged
+        (proc_named name.now (map proc_view procs.now)) (listed (map expr_tree args.now)) at
+        (names_view names.now)))) }
+{
+    match first_call(names, procs, name, args, at) {
+        Ok(()) => Ok(()),
+        Err(fault) => passed(fault, passes),
+    }
+}
+
+/// A call of a procedure.
+fn first_call(
     names: &Names,
     procs: &[BoundProc],
     name: &str,

@@ -12,7 +12,8 @@ use Rattle.code_ir.specs.declared.instr.Instr.TheVariants as op
 use Rattle.cal_model.specs.View.{shape_view}
 use Rattle.stmt_lower.specs.declared.counter.Counter.{Counter}
 use Rattle.stmt_lower.specs.declared.targets.Target.{Target}
-use Rattle.stmt_lower.specs.SeenStmts.{IsTarget, put_code}
+use Rattle.stmt_lower.specs.declared.counter.Span.{Span}
+use Rattle.stmt_lower.specs.SeenStmts.{CountsSpan, IsTarget, put_code}
 use Rattle.expr_lower.specs.Parted.{Part, alike, number_of, part_named, sized}
 use Rattle.list_lower.specs.FillWords.{HasCells}
 use Rattle.list_lower.specs.Filling.{IsFill}
@@ -40,13 +41,14 @@ use Rattle.expr_lower.specs.Meant.{single_meant}
 use Rattle.list_lower.specs.ShapeMeant.{shape_meant}
 use Rattle.stmt_lower.specs.ListStarting.{left_out_list_start, local_of}
 use Rattle.stmt_lower.specs.StartWords.{TakesListStart}
-use Rattle.stmt_lower.specs.Stating.{IsKept, IsStmt, copy_code, no_place, part_tail, place_more, set_filled, set_items, set_list, set_part, set_part_list, set_whole, step_code, AreStmts, set, set_item, if_alone, if_else, while_code, each_code, none, one_more, IsBlock, variable_more, counter_at, each_bounds, each_head, each_less, each_next, each_tail, each_turn, call, run_code, list_more}
+use Rattle.stmt_lower.specs.Stating.{IsKept, IsStmt, copy_code, no_place, part_tail, place_more, set_filled, set_items, set_list, set_part, set_part_list, set_whole, step_code, AreStmts, set, set_item, if_alone, if_else, while_code, each_code, each_counted, none, one_more, IsBlock, variable_more, count_first, count_next, counter_at, each_bounds, each_head, each_less, each_next, each_tail, each_turn, call, run_code, list_more}
 use Rattle.expr_lower.specs.Starting.{IsStart, left_out_start}
 use Rattle.stmt_lower.specs.Reserving.{HasMore, HasTaken}
 use Rattle.expr_lower.specs.Taking.{HasOneMore}
 use Rattle.expr_lower.specs.Callees.{Function}
 use Rattle.stmt_lower.specs.StmtGrowing.{left_out_chosen, left_out_deep, left_out_each, left_out_filled, left_out_items, left_out_part, left_out_put, left_out_set, left_out_stmt, left_out_all, left_out_vars}
 use Rattle.expr_lower.proofs.Adding.{length_join, put_adds}
+use Rattle.expr_lower.proofs.BoundWhole.{bound_whole}
 use Rattle.list_lower.specs.LeftOut.{left_out_fill}
 use Rattle.stmt_lower.proofs.DeepItems.{grows_kept, part_leaf, part_sized}
 use Rattle.stmt_lower.proofs.ErasedStmts.{any_cell, any_cell_vars}
@@ -736,6 +738,51 @@ pub each_fault : (rs : Routines) (names : List Name) (shape from to body : Tree)
     → IsFault (left_out_stmt rs names (tree.foreach_stmt shape (tree.ident text place) from to body at)) draft fault
 each_fault rs names shape from to body text place at c t k draft fault meant is e f h =
     subst (λ o. IsFault o draft fault) (sym (each_open rs names shape from to body text place at c t k meant is e f)) h
+
+-- ---- a `foreach` that counts in the cell of its variable
+
+pub counted_adds : {rs : Routines} (names : List Name) (shape from to body : Tree) (text : List ℕ) (place at : ℕ) (span : Span) (c : ℕ) (old d1 d2 d3 d4 new : Draft) (turn : ℕ)
+    → CountsSpan shape from to span → HasOneMore old d1 c → IsPut (count_first c span.low) d1 d2 → turn ≡ length d2.instrs.items → IsPut (op.Turn ∷ []) d2 d3
+    → Adds (AreStmts rs (local text span.kind c ∷ names) body) d3 d4 → IsPut (count_next c span.high turn) d4 new
+    → Adds (IsStmt rs names (tree.foreach_stmt shape (tree.ident text place) from to body at)) old new
+counted_adds {rs = rs} names shape from to body text place at span c old d1 d2 d3 d4 new turn counts taken p2 turn_is p3 b p5 =
+    let n : ℕ = old.cells in
+    let base : ℕ = length old.instrs.items in
+    let q2 : IsPut (count_first n span.low) d1 d2 = subst (λ x. IsPut (count_first x span.low) d1 d2) taken.is p2 in
+    let q4 : Adds (AreStmts rs (local text span.kind n ∷ names) body) d3 d4 = subst (λ x. Adds (AreStmts rs (local text span.kind x ∷ names) body) d3 d4) taken.is b in
+    let q5 : IsPut (count_next n span.high turn) d4 new = subst (λ x. IsPut (count_next x span.high turn) d4 new) taken.is p5 in
+    let i0 : List Instr = old.instrs.items in
+    let e2 : d2.instrs.items ≡ i0 ++ count_first n span.low = q2.is ∙ ap (λ xs. xs ++ count_first n span.low) taken.instrs in
+    let e3 : d3.instrs.items ≡ (i0 ++ count_first n span.low) ++ op.Turn ∷ [] = p3.is ∙ ap (λ xs. xs ++ op.Turn ∷ []) e2 in
+    let e4 : d4.instrs.items ≡ ((i0 ++ count_first n span.low) ++ op.Turn ∷ []) ++ q4.code = q4.is ∙ ap (λ xs. xs ++ q4.code) e3 in
+    let e5 : new.instrs.items ≡ (((i0 ++ count_first n span.low) ++ op.Turn ∷ []) ++ q4.code) ++ count_next n span.high turn = q5.is ∙ ap (λ xs. xs ++ count_next n span.high turn) e4 in
+    let s1 : length d1.instrs.items ≡ base = ap length taken.instrs in
+    let s2 : length d2.instrs.items ≡ length d1.instrs.items + 2 = length_join d1.instrs.items d2.instrs.items (count_first n span.low) q2.is in
+    let s3 : length d3.instrs.items ≡ length d2.instrs.items + 1 = length_join d2.instrs.items d3.instrs.items (op.Turn ∷ []) p3.is in
+    let turn_at : turn ≡ base + 2 = omega (arith, turn_is, s1, s2) in
+    let start_at : length d3.instrs.items ≡ base + 3 = omega (arith, s1, s2, s3) in
+    let cells_at : d3.cells ≡ n + 1 = p3.cells ∙ q2.cells ∙ taken.cells in
+    let code : ℕ → List Instr = λ back. count_first n span.low ++ op.Turn ∷ (q4.code ++ count_next n span.high back) in
+    let made : IsStmt rs names (tree.foreach_stmt shape (tree.ident text place) from to body at) base n (code (base + 2)) d4.cells =
+    each_counted names shape from to body text place at base n d4.cells span.low span.high q4.code span.kind counts.kind counts.low counts.high counts.held
+    (subst (λ p. AreStmts rs (local text span.kind n ∷ names) body p (n + 1) q4.code d4.cells) start_at (subst (λ x. AreStmts rs (local text span.kind n ∷ names) body (length d3.instrs.items) x q4.code d4.cells) cells_at q4.has)) in
+    record {
+      code = code turn;
+      is = e5 ∙ simp append_assoc;
+      routines = q5.routines ∙ q4.routines ∙ p3.routines ∙ q2.routines ∙ taken.routines;
+      has = subst (λ m. IsStmt rs names (tree.foreach_stmt shape (tree.ident text place) from to body at) base n (code turn) m) (sym q5.cells)
+          (subst (λ back. IsStmt rs names (tree.foreach_stmt shape (tree.ident text place) from to body at) base n (code back) d4.cells) (sym turn_at) made);
+    }
+
+pub counted_whole : (rs : Routines) (names : List Name) (shape from to body : Tree) (text : List ℕ) (place at c : ℕ) (span : Span) → CountsSpan shape from to span
+    → left_out_all rs (local text span.kind c ∷ names) body ≡ None → left_out_stmt rs names (tree.foreach_stmt shape (tree.ident text place) from to body at) ≡ None
+counted_whole rs names shape from to body text place at c span counts whole =
+    each_whole rs names shape from to body text place at c span.kind span.kind counts.kind refl (bound_whole rs.functions names from span.low counts.low) (bound_whole rs.functions names to span.high counts.high) whole
+
+pub counted_fault : (rs : Routines) (names : List Name) (shape from to body : Tree) (text : List ℕ) (place at c : ℕ) (span : Span) (draft : Draft) (fault : LowerFault) → CountsSpan shape from to span
+    → IsFault (left_out_all rs (local text span.kind c ∷ names) body) draft fault → IsFault (left_out_stmt rs names (tree.foreach_stmt shape (tree.ident text place) from to body at)) draft fault
+counted_fault rs names shape from to body text place at c span draft fault counts h =
+    each_fault rs names shape from to body text place at c span.kind span.kind draft fault counts.kind refl (bound_whole rs.functions names from span.low counts.low) (bound_whole rs.functions names to span.high counts.high) h
 
 -- ---- blocks
 

@@ -51,7 +51,7 @@ at_last i high e = grind (arith, ints, e)
 not_last : (i high : ℤ) (q : ℕ) → high ≡ i +ℤ pos (suc q) → int_lt i high ≡ true
 not_last i high q e = grind (arith, ints, e)
 
-next_high : (i high : ℤ) (q : ℕ) → high ≡ i +ℤ pos (suc q) → high ≡ (i +ℤ pos 1) +ℤ pos q
+pub next_high : (i high : ℤ) (q : ℕ) → high ≡ i +ℤ pos (suc q) → high ≡ (i +ℤ pos 1) +ℤ pos q
 next_high i high q e = e ∙ omega (arith, ints)
 
 next_num : (i high : ℤ) (q : ℕ) → high ≡ i +ℤ pos (suc q) → IsNum i → IsNum high → IsNum (i +ℤ pos 1)

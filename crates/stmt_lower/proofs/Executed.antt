@@ -17,7 +17,7 @@ use Rattle.expr_lower.specs.Names.{Name, named, local}
 use Rattle.expr_lower.specs.Held.{AreBelow, AllApart, AreApart}
 use Rattle.stmt_lower.specs.Changing.{AreTyped, HoldsVars, KeepsBut, NamesApart}
 use Rattle.expr_lower.specs.Coding.{AreArgs, IsCode, IsTest}
-use Rattle.stmt_lower.specs.Stating.{IsStmt, AreStmts, IsKept, call, set, set_filled, set_item, set_items, set_list, set_part, set_part_list, set_whole, if_alone, if_else, while_code, each_code, block_code, none, one_more, IsBlock, list_more, no_more, variable_more}
+use Rattle.stmt_lower.specs.Stating.{IsStmt, AreStmts, IsKept, call, set, set_filled, set_item, set_items, set_list, set_part, set_part_list, set_whole, if_alone, if_else, while_code, each_code, each_counted, block_code, none, one_more, IsBlock, list_more, no_more, variable_more}
 use Rattle.expr_lower.specs.Starting.{IsStart, at_zero, at_value}
 use Rattle.expr_lower.specs.Placed.{StandsAt, World, state}
 use Rattle.expr_lower.specs.Following.{Follows}
@@ -43,6 +43,8 @@ use Rattle.stmt_lower.specs.ListStarting.{IsListStart, local_of}
 use Rattle.stmt_lower.proofs.Blocking.{block_more, block_none, blocked}
 use Rattle.stmt_lower.proofs.ListBlocks.{block_list}
 use Rattle.stmt_lower.proofs.ListStarting.{grows_list_start}
+use Rattle.stmt_lower.proofs.Constants.{all_constant}
+use Rattle.stmt_lower.proofs.CountedTurns.{counted_performs}
 use Rattle.stmt_lower.proofs.Eaching.{each_performs}
 use Rattle.stmt_lower.specs.Procedures.{Routines, no_routines}
 use Rattle.expr_lower.specs.Calling.{Serves}
@@ -192,6 +194,7 @@ mutual
   grows_stmt (if_else names test first other at base n k h m else_at end a b c g d q e f) = let x = grows_test g in let y = grows_all d in let z = grows_all q in omega (arith, x, y, z)
   grows_stmt (while_code names test body at base n k m head out a b d g e f) = let x = grows_all d in let y = grows_test g in omega (arith, x, y)
   grows_stmt (each_code names shape from to body text place at base n k j m turn_at start out a b c t e g d q f1 f2 f3) = let x = grows g in let y = grows d in let z = grows_all q in omega (arith, x, y, z)
+  grows_stmt (each_counted names shape from to body text place at base n m low high c t e f g held q) = let x = grows_all q in omega (arith, x)
   grows_stmt (block_code names vars body at base n m code g) = grows_block g
 
   pub grows_block : {rs : Routines} {names : List Name} {vars body : Tree} {base n m : ℕ} {code : List Instr} → IsBlock rs names vars body base n code m → n ≤ m
@@ -239,6 +242,9 @@ module _ (rs : Routines) (outer : List Name) (w : World) (serves : Serves w oute
         each_performs rs outer w serves frames runs inner shape from to text (λ env left. exec_all body w.calls runs env left) base n k j j m turn_at start out a b c t e
         (subst (λ ns. IsCode rs.functions ns from base (n + 3) a k) is g) (subst (λ ns. IsCode rs.functions ns to (base + length a) k b j) is d) f1 f2 f3 (omega arith) (grows_all q)
         (performs_all (local text t (n + 2) ∷ inner) (ap (λ ns. local text t (n + 2) ∷ ns) is) q)
+    performs inner is (each_counted names shape from to body text place at base n m low high c t e f g held q) =
+        counted_performs rs outer w serves frames runs inner shape from to text (λ env left. exec_all body w.calls runs env left) base n (n + 1) m low high c t e f g held (omega arith) (grows_all q)
+        (λ env left. all_constant w.calls runs q env left) (performs_all (local text t n ∷ inner) (ap (λ ns. local text t n ∷ ns) is) q)
     performs inner is (block_code names vars body at base n m code g) = performs_block inner is g
 
     pub performs_block : {names : List Name} {vars body : Tree} {base n m : ℕ} {code : List Instr} (inner : List Name) → names ≡ inner ++ outer → IsBlock rs names vars body base n code m

@@ -1,14 +1,14 @@
 -- Code of a `foreach` fits where it stands.
-use Rattle.std.proofs.Common.{◌≡◌, ℕ, ◌+◌, ◌≤◌, List, [], ◌∷◌, ◌++◌, length, refl, sym, ap, ◌∙◌, subst, None, Some, arith, append_assoc, length-append}
+use Rattle.std.proofs.Common.{◌≡◌, ℕ, zero, suc, ◌+◌, ◌<◌, ◌≤◌, inl, inr, ⊎_elim, ℤ, List, [], ◌∷◌, ◌++◌, length, refl, sym, ap, ◌∙◌, subst, None, Some, arith, append_assoc, length-append}
 use Rattle.std.specs.Prelude.{slice_get, pos}
 use Rattle.rvc_base.specs.declared.scalar.Scalar.{Scalar}
 use Rattle.rvc_base.specs.Storing.{IsSize}
 use Rattle.code_ir.specs.declared.instr.Instr.{Instr}
 use Rattle.code_ir.specs.declared.instr.Instr.TheVariants as op
 use Rattle.code_ir.specs.Code.{Code}
-use Rattle.expr_lower.specs.Fitting.{Fits}
-use Rattle.stmt_lower.specs.Stating.{each_head, each_tail}
-use Rattle.expr_lower.proofs.Fitted.{Plain, fits_branch, fits_const, fits_one, plain_then}
+use Rattle.expr_lower.specs.Fitting.{FitsAt, Fits}
+use Rattle.stmt_lower.specs.Stating.{count_first, count_next, each_head, each_tail}
+use Rattle.expr_lower.proofs.Fitted.{Plain, fits_branch, fits_const, fits_like, fits_one, get_append, glued, glued_before, glued_from, plain_then}
 use Rattle.list_lower.proofs.FittedJumps.{fits_back}
 use Rattle.list_lower.proofs.FittedParts.{compared, fits_wide, load, store, store_in, then_exit, then_plain}
 
@@ -70,3 +70,80 @@ module _ (code : Code) (callable limit : ℕ) where
       ∙ ap (λ xs. a ++ (b ++ (each_head n t out ++ xs))) (append_assoc c (e1 ++ (h2 ++ e3)) (op.Jump turn ∷ [])) in
       subst (λ is. Whole base h is h) whole
       (fits_back code callable limit base h turn out (a ++ (b ++ tail)) sa.0 (omega (arith, size, sized_tail, far)) (omega (arith, turn_at)) (omega (arith, turn_at, size, sized_tail)) at_turn turns)
+
+  -- ---- counted in the cell of the variable
+
+  -- a jump back to a turn if a condition is false, behind a part that leaves the condition
+  fits_again : (base h back out e : ℕ) (a : List Instr) (x : Fit base h a (h + 1) out e) → out ≡ base + length a → base ≤ back → back ≤ base + length a → x.height back ≡ h
+      → slice_get code.instrs back ≡ Some op.Turn → Whole base h (a ++ op.JumpIfNot back ∷ []) h
+  fits_again base h back out e a x out_is ge le at_back turns = record {
+    height = now;
+    first = glued_before x.height (λ p. h) (base + length a + 1) base (omega arith) ∙ x.first;
+    last = glued_from x.height (λ p. h) (base + length a + 1) (base + length (a ++ op.JumpIfNot back ∷ [])) (omega (arith, size));
+    exit = glued_from x.height (λ p. h) (base + length a + 1) (base + length (a ++ op.JumpIfNot back ∷ [])) (omega (arith, size));
+    at = λ j i g. ⊎_elim (λ (l : (j < length a) × (slice_get a j ≡ Some i)). before j i l.0 l.1)
+        (λ (l : (q : ℕ) × (j ≡ length a + q) × (slice_get (op.JumpIfNot back ∷ []) q ≡ Some i)). last_one j l.0 i l.1 l.2) (get_append a (op.JumpIfNot back ∷ []) j i g);
+  }
+    where
+      now : ℕ → ℕ
+      now p = glued x.height (λ q. h) (base + length a + 1) p
+
+      size : length (a ++ op.JumpIfNot back ∷ []) ≡ length a + 1
+      size = length-append a (op.JumpIfNot back ∷ [])
+
+      before : (j : ℕ) (i : Instr) → j < length a → slice_get a j ≡ Some i → FitsAt code callable limit base (base + length (a ++ op.JumpIfNot back ∷ [])) (base + length (a ++ op.JumpIfNot back ∷ [])) now (base + j) i
+      before j i less g =
+          fits_like code callable limit base (base + length a) out base (base + length (a ++ op.JumpIfNot back ∷ [])) (base + length (a ++ op.JumpIfNot back ∷ [])) x.height now (base + j) i (x.at j i g)
+          (glued_before x.height (λ q. h) (base + length a + 1) (base + j) (omega (arith, less)))
+          (λ on. glued_before x.height (λ q. h) (base + length a + 1) (base + j + 1) (omega (arith, less)))
+          (λ t low into.
+          let near : t ≤ base + length a = ⊎_elim (λ (w : t ≤ base + length a). w) (λ (w : t ≡ out). omega (arith, w, out_is)) into in
+          (glued_before x.height (λ q. h) (base + length a + 1) t (omega (arith, near)), low, inl (omega (arith, near, size))))
+
+      last_one : (j q : ℕ) (i : Instr) → j ≡ length a + q → slice_get (op.JumpIfNot back ∷ []) q ≡ Some i → FitsAt code callable limit base (base + length (a ++ op.JumpIfNot back ∷ [])) (base + length (a ++ op.JumpIfNot back ∷ [])) now (base + j) i
+      last_one j zero i l g =
+          let same : op.JumpIfNot back ≡ i = cc in
+          let place : base + j ≡ base + length a = omega (arith, l) in
+          let here : now (base + j) ≡ h + 1 = glued_before x.height (λ q. h) (base + length a + 1) (base + j) (omega (arith, place)) ∙ ap x.height place ∙ x.last in
+          let after : now (base + j + 1) ≡ h = glued_from x.height (λ q. h) (base + length a + 1) (base + j + 1) (omega (arith, place)) in
+          let there : now back ≡ h = glued_before x.height (λ q. h) (base + length a + 1) back (omega (arith, le)) ∙ at_back in
+          subst (λ y. FitsAt code callable limit base (base + length (a ++ op.JumpIfNot back ∷ [])) (base + length (a ++ op.JumpIfNot back ∷ [])) now (base + j) y) same (record {
+            enough = omega (arith, here);
+            next = λ on. omega (arith, here, after);
+            jump = λ t f. let is : back ≡ t = cc in let target : now t ≡ h = subst (λ u. now u ≡ h) is there in omega (arith, target, here);
+            inside = λ t f. let is : back ≡ t = cc in (inr (subst (λ u. slice_get code.instrs u ≡ Some op.Turn) is turns), omega (arith, is, ge), inl (omega (arith, is, le, size)));
+            cells = tt;
+            calls = tt;
+            inner = tt;
+            sized = tt;
+          })
+      last_one j (suc q) i l g = cc
+
+  pub fits_counted : (base h n : ℕ) (low high : ℤ) (c : List Instr) → n + 1 ≤ limit → Whole (base + 3) h c h → slice_get code.instrs (base + 2) ≡ Some op.Turn
+      → Whole base h (count_first n low ++ op.Turn ∷ (c ++ count_next n high (base + 2))) h
+  fits_counted base h n low high c le body turns =
+      let e1 : List Instr = op.Load n ∷ op.Const (pos 1) ∷ op.Add ∷ op.Store n None ∷ [] in
+      let e2 : List Instr = op.Load n ∷ op.Const high ∷ op.Gt ∷ [] in
+      let p : ℕ = base + 2 in
+      let q : ℕ = p + 1 + length c in
+      let r : ℕ = q + length e1 in
+      let head : Whole base h (count_first n low) h = plain_then code callable limit base h (h + 1) h (op.Const low ∷ []) (op.Store n None ∷ []) (fits_const code callable limit base h low) (store code callable limit (base + 1) h n le) in
+      let next : Whole q h e1 h =
+      plain_then code callable limit q h (h + 1) h (op.Load n ∷ []) (op.Const (pos 1) ∷ op.Add ∷ op.Store n None ∷ []) (load code callable limit q h n le)
+      (plain_then code callable limit (q + 1) (h + 1) (h + 1 + 1) h (op.Const (pos 1) ∷ []) (op.Add ∷ op.Store n None ∷ []) (fits_const code callable limit (q + 1) (h + 1) (pos 1))
+      (plain_then code callable limit (q + 1 + 1) (h + 1 + 1) (h + 1) h (op.Add ∷ []) (op.Store n None ∷ []) (fits_one code callable limit (q + 1 + 1) (h + 1 + 1) (h + 1) op.Add (omega arith) (omega arith) refl tt tt tt tt)
+      (store code callable limit (q + 1 + 1 + 1) h n le))) in
+      let tested : Whole r h e2 (h + 1) =
+      plain_then code callable limit r h (h + 1) (h + 1) (op.Load n ∷ []) (op.Const high ∷ op.Gt ∷ []) (load code callable limit r h n le)
+      (plain_then code callable limit (r + 1) (h + 1) (h + 1 + 1) (h + 1) (op.Const high ∷ []) (op.Gt ∷ []) (fits_const code callable limit (r + 1) (h + 1) high)
+      (fits_one code callable limit (r + 1 + 1) (h + 1 + 1) (h + 1) op.Gt (omega arith) (omega arith) refl tt tt tt tt)) in
+      let inner : Whole (p + 1) h c h = subst (λ b. Whole b h c h) (let e : base + 3 ≡ p + 1 = omega arith in e) body in
+      let counted : Whole (p + 1) h (c ++ (e1 ++ e2)) (h + 1) = plain_then code callable limit (p + 1) h h (h + 1) c (e1 ++ e2) inner (plain_then code callable limit q h h (h + 1) e1 e2 next tested) in
+      let loop : Whole p h (op.Turn ∷ (c ++ (e1 ++ e2))) (h + 1) =
+      plain_then code callable limit p h h (h + 1) (op.Turn ∷ []) (c ++ (e1 ++ e2)) (fits_one code callable limit p h h op.Turn (omega arith) (omega arith) refl tt tt tt tt) counted in
+      let tail : List Instr = op.Turn ∷ (c ++ (e1 ++ e2)) in
+      let all = then_plain code callable limit base h h (h + 1) (p + length tail) (h + 1) (count_first n low) tail head loop (omega arith) in
+      let whole : (count_first n low ++ tail) ++ op.JumpIfNot p ∷ [] ≡ count_first n low ++ op.Turn ∷ (c ++ count_next n high p) =
+      ap (λ is. count_first n low ++ op.Turn ∷ is) (append_assoc c (e1 ++ e2) (op.JumpIfNot p ∷ [])) in
+      subst (λ is. Whole base h is h) whole
+      (fits_again base h p (p + length tail) (h + 1) (count_first n low ++ tail) all.0 (omega arith) (omega arith) (omega arith) (all.1 p (omega arith) ∙ loop.first) turns)

@@ -18,14 +18,14 @@ use Rattle.stmt_lower.specs.Changing.{AreTyped}
 use Rattle.expr_lower.specs.Fitting.{Fits}
 use Rattle.expr_lower.specs.Parted.{number_of, sized}
 use Rattle.expr_lower.specs.Placed.{StandsAt}
-use Rattle.stmt_lower.specs.Stating.{IsKept, IsStmt, AreStmts, copy_code, no_place, part_tail, place_more, set, set_filled, set_item, set_items, set_list, set_part, set_part_list, set_whole, step_code, step_in, if_alone, if_else, while_code, each_code, each_head, each_tail, block_code, none, one_more, IsBlock, list_more, no_more, variable_more, call, run_code}
+use Rattle.stmt_lower.specs.Stating.{IsKept, IsStmt, AreStmts, copy_code, no_place, part_tail, place_more, set, set_filled, set_item, set_items, set_list, set_part, set_part_list, set_whole, step_code, step_in, if_alone, if_else, while_code, count_next, each_code, each_counted, each_head, each_tail, block_code, none, one_more, IsBlock, list_more, no_more, variable_more, call, run_code}
 use Rattle.expr_lower.specs.Starting.{IsStart, at_zero, at_value}
 use Rattle.expr_lower.proofs.Coded.{grows, grows_test}
 use Rattle.stmt_lower.proofs.DeepItems.{grows_kept, part_typed}
 use Rattle.expr_lower.proofs.PartValues.{sized_is}
 use Rattle.stmt_lower.proofs.Executed.{grows_stmt, grows_all, grows_block, grows_start}
 use Rattle.expr_lower.proofs.Fitted.{Plain, branch, fits_args, fits_const, fits_formals, fits_in, fits_jump, fits_one, fits_test_in, fits_then, list_below, plain_then}
-use Rattle.stmt_lower.proofs.FittedEach.{fits_each}
+use Rattle.stmt_lower.proofs.FittedEach.{fits_counted, fits_each}
 use Rattle.list_lower.proofs.Filled.{grows_fill}
 use Rattle.list_lower.proofs.Fitted.{fits_fill}
 use Rattle.stmt_lower.specs.Targets.{leaf_of}
@@ -278,6 +278,15 @@ module _ (code : Code) (callable limit : ℕ) where
           (fits_in code callable limit rs.functions has.functions names h (below_more n (n + 3) names few below) (omega (arith, y, z, le)) (stands_left code.instrs base a (b ++ (each_head n t out ++ (c ++ each_tail n turn out))) stands) g) (fits_in code callable limit rs.functions has.functions names (h + 1) (below_more n k names wide below) (omega (arith, z, le)) (stands_left code.instrs (base + length a) b (each_head n t out ++ (c ++ each_tail n turn out)) rest) d)
           (fits_all h (local_below n j names text t (omega (arith, x, y)) below) (local_typed (n + 2) names text t sized typed) le (stands_left code.instrs start c (each_tail n turn out) there) q)
           refl f1 f2 f3 (subst (λ p. slice_get code.instrs p ≡ Some op.Turn) at_turn last.1.1.1.1.1.1.0)
+      fits_stmt h below typed le stands (each_counted names shape from to body text place at base n m low high c t e f g held q) =
+          let x = grows_all q in
+          let sized : IsSize t = meant_sized shape t e in
+          let at_turn : base + 1 + 1 ≡ base + 2 = omega arith in
+          let at_body : base + 1 + 1 + 1 ≡ base + 3 = omega arith in
+          let there : StandsAt code.instrs (base + 3) c = subst (λ p. StandsAt code.instrs p c) at_body (stands_left code.instrs (base + 1 + 1 + 1) c (count_next n high (base + 2)) stands.1.1.1) in
+          fits_counted code callable limit base h n low high c (omega (arith, x, le))
+          (fits_all h (cell_below n (n + 1) names text t (omega arith) below) (local_typed n names text t sized typed) le there q)
+          (subst (λ p. slice_get code.instrs p ≡ Some op.Turn) at_turn stands.1.1.0)
       fits_stmt h below typed le stands (block_code names vars body at base n m code g) = fits_block h below typed le stands g
 
       pub fits_block : {names : List Name} {vars body : Tree} {base n m : ℕ} {instrs : List Instr} (h : ℕ) → AreBelow n names → AreTyped names → m ≤ limit → StandsAt code.instrs base instrs → IsBlock rs names vars body base n instrs m → Plain code callable limit base h instrs h

@@ -31,3 +31,6 @@ pub mod ProcServed
 pub mod FittedProcs
 pub mod Readied
 pub mod ProcRows
+pub mod AllowedStmts
+pub mod Constants
+pub mod CountedTurns

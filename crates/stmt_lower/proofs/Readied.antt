@@ -20,6 +20,7 @@ use Rattle.stmt_lower.specs.Bodies.{CutShort, EndsOn, ExecutesCalling, GoesOn, H
 use Rattle.stmt_lower.specs.Changing.{AreTyped, HoldsVars}
 use Rattle.stmt_lower.specs.Procedures.{Routines}
 use Rattle.stmt_lower.specs.Stating.{AreStmts}
+use Rattle.stmt_lower.proofs.AllowedStmts.{all_allowed}
 use Rattle.stmt_lower.proofs.Executed.{grows_all, performs_all}
 use Rattle.stmt_lower.proofs.FittedStmts.{fits_all}
 use Rattle.stmt_lower.proofs.Performing.{Moves}
@@ -93,5 +94,6 @@ executed_calling rs names body old new below typed a = record {
     cells = grows_all a.has;
     executes = executes_calling rs names body (length old.instrs.items) old.cells new.cells a.code a.has;
     fits = λ whole callable h has stands. fits_all whole callable new.cells rs has h below typed (omega arith) stands a.has;
+    allowed = λ bounds procs known h changes ok. all_allowed bounds rs procs known h changes ok a.has;
   };
 }

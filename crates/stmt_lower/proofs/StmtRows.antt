@@ -1,5 +1,5 @@
--- The code of a loop with an assignment in it, and of a call, put together by the definitions.
-use Rattle.std.proofs.Common.{ℕ, ◌+◌, pos, List, [], ◌∷◌, Some, refl}
+-- The code of loops with an assignment in them, and of a call, put together by the definitions.
+use Rattle.std.proofs.Common.{ℕ, ◌+◌, pos, List, [], ◌∷◌, None, Some, refl}
 use Rattle.std.specs.Prelude.{codes}
 use Rattle.rvc_base.specs.declared.scalar.Scalar.TheVariants as scalar
 use Rattle.cal_ast.specs.declared.expr.BinOp.TheVariants as binaries
@@ -9,8 +9,8 @@ use Rattle.cal_model.specs.Value.{Single}
 use Rattle.code_ir.specs.declared.instr.Instr.TheVariants as op
 use Rattle.expr_lower.specs.declared.names.Seat.TheVariants.{Cell}
 use Rattle.expr_lower.specs.Coding.{arg_more, binary, no_arg, number, variable, tested}
-use Rattle.expr_lower.specs.Names.{Name}
-use Rattle.stmt_lower.specs.Stating.{IsStmt, call, set, while_code, none, one_more}
+use Rattle.expr_lower.specs.Names.{Name, local}
+use Rattle.stmt_lower.specs.Stating.{IsStmt, call, each_counted, set, while_code, none, one_more}
 use Rattle.stmt_lower.specs.Procedures.{Procedure, Routines, no_routines}
 
 abbrev pub a : List ℕ
@@ -49,6 +49,25 @@ loop_row =
     (binary binaries.Lt op.Lt (tree.variable a 0) (tree.number 3 0) 0 6 5 5 5 (op.Load 0 ∷ []) (op.Const (pos 3) ∷ []) refl
     (variable a 0 6 5 (record { text = codes "a"; shape = Single (scalar.Int 8); seat = Cell 0 }) refl tt) (number 3 0 7 5 refl)))
     refl refl
+
+-- what is seen inside a `foreach` over `uint i`, whose variable is in cell 5
+abbrev inside : List Name
+inside = local (codes "i") (scalar.Uint 32) 5 ∷ names
+
+-- the code of the step, inside
+inner_row : (base : ℕ) → IsStmt no_routines inside step base 6 (op.Load 0 ∷ op.Const (pos 1) ∷ op.Add ∷ op.Store 0 (Some (scalar.Int 8)) ∷ []) 6
+inner_row base =
+    set inside a sum 0 0 base 6 6 0 (op.Load 0 ∷ op.Const (pos 1) ∷ op.Add ∷ []) (record { text = codes "a"; shape = Single (scalar.Int 8); seat = Cell 0 }) (scalar.Int 8) refl refl refl
+    (binary binaries.Add op.Add (tree.variable a 0) (tree.number 1 0) 0 base 6 6 6 (op.Load 0 ∷ []) (op.Const (pos 1) ∷ []) refl
+    (variable a 0 base 6 (record { text = codes "a"; shape = Single (scalar.Int 8); seat = Cell 0 }) refl tt) (number 1 0 (base + 1) 6 refl))
+
+-- `foreach uint i in 1 .. 3 do a := a + 1; end`
+pub counted_row : IsStmt no_routines names (tree.foreach_stmt (tree.type_of (tree.ident (codes "uint") 0) tree.nil 0) (tree.ident (codes "i") 0) (tree.number 1 0) (tree.number 3 0) (tree.cons step tree.nil) 0) 0 5
+    (op.Const (pos 1) ∷ op.Store 5 None ∷ op.Turn ∷ op.Load 0 ∷ op.Const (pos 1) ∷ op.Add ∷ op.Store 0 (Some (scalar.Int 8)) ∷ op.Load 5 ∷ op.Const (pos 1) ∷ op.Add ∷ op.Store 5 None ∷ op.Load 5 ∷ op.Const (pos 3) ∷ op.Gt ∷ op.JumpIfNot 2 ∷ []) 6
+counted_row =
+    each_counted names (tree.type_of (tree.ident (codes "uint") 0) tree.nil 0) (tree.number 1 0) (tree.number 3 0) (tree.cons step tree.nil) (codes "i") 0 0 0 5 6 (pos 1) (pos 3)
+    (op.Load 0 ∷ op.Const (pos 1) ∷ op.Add ∷ op.Store 0 (Some (scalar.Int 8)) ∷ []) (scalar.Uint 32) refl refl refl refl
+    (one_more inside step tree.nil 3 6 6 6 (op.Load 0 ∷ op.Const (pos 1) ∷ op.Add ∷ op.Store 0 (Some (scalar.Int 8)) ∷ []) [] (inner_row 3) (none inside 7 6))
 
 -- a procedure of two formals of 8 bits
 abbrev p : Procedure

@@ -29,6 +29,7 @@ use Rattle.expr_lower.specs.Names.{Name, names_view}
 use Rattle.expr_lower.specs.Placed.{StandsAt, World, state}
 use Rattle.stmt_lower.specs.declared.callees.ProcCallee.{ProcCallee}
 use Rattle.stmt_lower.specs.Acting.{ServesRuns}
+use Rattle.stmt_lower.specs.AllowingRuns.{RunsKeepAllowed}
 use Rattle.stmt_lower.specs.Calls.{HasRunRoutines}
 use Rattle.stmt_lower.specs.Changing.{AreTyped, HoldsVars, IsOfNone, NamesApart}
 use Rattle.stmt_lower.specs.Procedures.{Routines, routines_of}
@@ -133,12 +134,15 @@ pub record ExecutesCalling (rs : Routines) (names : List Name) (body : Tree) (ba
       (exec_all body w.calls runs env left) o last
 
 -- The instructions execute the statements. In any code that has the routines they fit where they stand, at any height.
+-- They write no cells but their own, those of formals and those of names that may be assigned, and read no tokens but
+-- those of names.
 pub record IsExecutedCalling (rs : Routines) (names : List Name) (body : Tree) (base n : ℕ) (code : List Instr) (m : ℕ) : Type 0 where
   pub cells : n ≤ m
   pub executes : ExecutesCalling rs names body base n m code
   pub fits : (whole : Code) (callable h : ℕ) → HasRunRoutines whole callable m rs
       → StandsAt whole.instrs base code
       → Fits whole callable m base h code h (base + length code) h
+  pub allowed : RunsKeepAllowed rs names body n code
 
 -- ---- what a call does
 

@@ -16,4 +16,5 @@ pub mod Reserving
 pub mod SeenStmts
 pub mod Proceeding
 pub mod ProcWords
+pub mod AllowingRuns
 pub mod Bodies

@@ -1,6 +1,7 @@
 -- The words of the contracts of the parts that lower statements, over what they see.
 -- Not trusted: no promise is read with it.
-use Rattle.std.specs.Prelude.{◌≡◌, ℕ, pos, List, [], ◌∷◌, ◌++◌, map, Option, None, Some, string_bytes}
+use Rattle.std.specs.Prelude.{◌≡◌, ℕ, pos, true, List, [], ◌∷◌, ◌++◌, map, Option, None, Some, string_bytes}
+use Rattle.rvc_base.specs.declared.scalar.Scalar.{Scalar}
 use Rattle.cal_model.specs.Value.{Shape}
 use Rattle.cal_model.specs.View.{shape_view}
 use Rattle.code_ir.specs.declared.instr.Instr.{Instr}
@@ -19,14 +20,16 @@ use Rattle.stmt_lower.specs.Procedures.{Routines}
 use Rattle.expr_lower.specs.Growing.{IsFault}
 use Rattle.expr_lower.specs.Lowered.{Adds}
 use Rattle.expr_lower.specs.Names.{Name, local}
+use Rattle.expr_lower.specs.Bounds.{bound_of}
 use Rattle.expr_lower.specs.Callees.{Function}
+use Rattle.expr_lower.specs.Meant.{single_meant}
 use Rattle.expr_lower.specs.Parted.{Part, part_named, sized}
 use Rattle.expr_lower.specs.PartView.{places_of}
 use Rattle.stmt_lower.specs.ListStarting.{local_of}
 use Rattle.stmt_lower.specs.StmtSeen.{called, seen}
-use Rattle.stmt_lower.specs.declared.counter.Counter.{Counter}
+use Rattle.stmt_lower.specs.declared.counter.Span.{Span}
 use Rattle.stmt_lower.specs.declared.targets.Target.{Target}
-use Rattle.stmt_lower.specs.Stating.{AreStmts, IsBlock, IsKept, IsStmt, step_code}
+use Rattle.stmt_lower.specs.Stating.{AreStmts, IsBlock, IsKept, IsStmt, counts_in_place, step_code}
 use Rattle.stmt_lower.specs.StmtGrowing.{left_out_all, left_out_deep, left_out_each, left_out_stmt, left_out_vars}
 use Rattle.stmt_lower.specs.StmtWords.{body_of, set_items_of}
 use Rattle.stmt_lower.specs.Targets.{part_in, whole_cells_in}
@@ -92,22 +95,31 @@ AreWhyNot scope body draft fault = IsFault (left_out_all (called scope) (seen sc
 
 -- ---- the body of a `foreach`
 
--- the names that it sees
-abbrev pub in_each : Ident → Counter → StmtScope → List Name
-in_each name c scope = local (string_bytes name.text) c.kind c.variable ∷ seen scope
+-- the names that it sees, with its variable in a cell
+abbrev pub in_each : Ident → ℕ → Scalar → StmtScope → List Name
+in_each name cell kind scope = local (string_bytes name.text) kind cell ∷ seen scope
 
 -- its code was added
-abbrev pub AddsBody : Ident → Counter → StmtScope → Tree → Draft → Draft → Type 0
-AddsBody name c scope body old new = Adds (AreStmts (called scope) (in_each name c scope) body) old new
+abbrev pub AddsBody : Ident → ℕ → Scalar → StmtScope → Tree → Draft → Draft → Type 0
+AddsBody name cell kind scope body old new =
+    Adds (AreStmts (called scope) (in_each name cell kind scope) body) old new
 
 -- no part of it is left out
-abbrev pub IsAllOfBody : Ident → Counter → StmtScope → Tree → Type 0
-IsAllOfBody name c scope body = left_out_all (called scope) (in_each name c scope) body ≡ None
+abbrev pub IsAllOfBody : Ident → ℕ → Scalar → StmtScope → Tree → Type 0
+IsAllOfBody name cell kind scope body =
+    left_out_all (called scope) (in_each name cell kind scope) body ≡ None
 
 -- why it isn't lowered
-abbrev pub IsWhyNoBody : Ident → Counter → StmtScope → Tree → Draft → LowerFault → Type 0
-IsWhyNoBody name c scope body draft fault =
-    IsFault (left_out_all (called scope) (in_each name c scope) body) draft fault
+abbrev pub IsWhyNoBody : Ident → ℕ → Scalar → StmtScope → Tree → Draft → LowerFault → Type 0
+IsWhyNoBody name cell kind scope body draft fault =
+    IsFault (left_out_all (called scope) (in_each name cell kind scope) body) draft fault
+
+-- a `foreach` of a type and with bounds that counts in the cell of its variable
+pub record CountsSpan (shape from to : Tree) (span : Span) : Type 0 where
+  pub kind : single_meant shape ≡ Some span.kind
+  pub low : bound_of from ≡ Some span.low
+  pub high : bound_of to ≡ Some span.high
+  pub held : counts_in_place span.kind span.low span.high ≡ true
 
 -- ---- blocks
 

@@ -1,7 +1,9 @@
 -- The code of each form of a statement. It stands at a place of the code, since jumps name places.
 -- Trusted: part of what a promise means.
-use Rattle.std.specs.Prelude.{◌≡◌, ℕ, ◌+◌, pos, Bool, true, List, [], ◌∷◌, ◌++◌, length, Option, None, Some}
+use Rattle.std.specs.Prelude.{◌≡◌, ℕ, ◌+◌, ℤ, pos, int_lt, Bool, true, not, ◌&&◌, List, [], ◌∷◌, ◌++◌, length, Option, None, Some}
+use Rattle.std.specs.Ordering.{int_eq}
 use Rattle.rvc_base.specs.declared.scalar.Scalar.{Scalar}
+use Rattle.rvc_base.specs.Storing.{conv}
 use Rattle.cal_ast.specs.Tree as tree
 use Rattle.cal_ast.specs.Tree.{Tree}
 use Rattle.cal_model.specs.Value.{Shape, Single, Many, scalars_of_type}
@@ -11,6 +13,7 @@ use Rattle.stmt_lower.specs.declared.counter.Counter.{Counter}
 use Rattle.expr_lower.specs.declared.names.ItemList.{ItemList}
 use Rattle.expr_lower.specs.declared.names.Seat.{Seat}
 use Rattle.expr_lower.specs.declared.names.Seat.TheVariants.{Cell, Tokens}
+use Rattle.expr_lower.specs.Bounds.{bound_of}
 use Rattle.expr_lower.specs.Callees.{Function}
 use Rattle.expr_lower.specs.Names.{Name, named, local}
 use Rattle.expr_lower.specs.Starting.{IsStart}
@@ -57,6 +60,27 @@ abbrev pub each_tail : ℕ → ℕ → ℕ → List Instr
 each_tail n turn out =
     op.Load n ∷ op.Load (n + 1) ∷ op.Lt ∷ op.JumpIfNot out
     ∷ op.Load n ∷ op.Const (pos 1) ∷ op.Add ∷ op.Store n None ∷ op.Jump turn ∷ []
+
+-- ---- parts of the code of a `foreach` that counts in the cell of its variable
+
+-- a type holds a number as it is
+abbrev pub holds_number : Scalar → ℤ → Bool
+holds_number t z = int_eq (conv t z) z
+
+-- there is a number from the first to the last one, and the type of the variable holds both
+abbrev pub counts_in_place : Scalar → ℤ → ℤ → Bool
+counts_in_place t low high =
+    not (int_lt high low) && (holds_number t low && holds_number t high)
+
+-- the variable gets the first number
+abbrev pub count_first : ℕ → ℤ → List Instr
+count_first c low = op.Const low ∷ op.Store c None ∷ []
+
+-- The next number, and a jump back to the turn unless that is past the last one. It is stored without a type, which may
+-- not hold it.
+abbrev pub count_next : ℕ → ℤ → ℕ → List Instr
+count_next c high turn = op.Load c ∷ op.Const (pos 1) ∷ op.Add ∷ op.Store c None
+    ∷ op.Load c ∷ op.Const high ∷ op.Gt ∷ op.JumpIfNot turn ∷ []
 
 -- ---- lists that are stored whole
 
@@ -198,6 +222,14 @@ mutual
         → turn ≡ base + length a + length b + 6 → start ≡ turn + 3 → out ≡ start + length c + 9
         → IsStmt rs names (tree.foreach_stmt shape (tree.ident text place) from to body at) base n
         (a ++ (b ++ (each_head n t out ++ (c ++ each_tail n turn out)))) m
+    -- Bounds that are written out, between which the variable's own cell counts; for each number a turn and the body.
+    each_counted : (names : List Name) (shape from to body : Tree) (text : List ℕ)
+        (place at base n m : ℕ) (low high : ℤ) (c : List Instr) (t : Scalar)
+        → single_meant shape ≡ Some t → bound_of from ≡ Some low → bound_of to ≡ Some high
+        → counts_in_place t low high ≡ true
+        → AreStmts rs (local text t n ∷ names) body (base + 3) (n + 1) c m
+        → IsStmt rs names (tree.foreach_stmt shape (tree.ident text place) from to body at) base n
+        (count_first n low ++ op.Turn ∷ (c ++ count_next n high (base + 2))) m
     block_code : (names : List Name) (vars body : Tree) (at base n m : ℕ) (code : List Instr)
         → IsBlock rs names vars body base n code m
         → IsStmt rs names (tree.block vars body at) base n code m

@@ -57,6 +57,11 @@ foreach_of shape name from to body at =
     tree.foreach_stmt (type_tree shape) (ident_tree name) (expr_tree from) (expr_tree to)
     (body_of body) at
 
+-- .. whatever type and bounds it has
+abbrev pub counted_of : Tree → Ident → Tree → Tree → List Stmt → ℕ → Tree
+counted_of shape name from to body at =
+    tree.foreach_stmt shape (ident_tree name) from to (body_of body) at
+
 -- ---- what a call does
 
 -- code was added that executes statements and fits

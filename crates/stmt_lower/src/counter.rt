@@ -1,14 +1,20 @@
 //! The cells of a `foreach`, and the parts of its code that are the same for every body.
 
-ghost use Rattle.std.specs.Prelude.{◌≡◌, ◌+◌, ◌<◌, ◌^◌, ◌≤◌, IfErr, IfOk, IfSome, OnOk};
+ghost use Rattle.std.specs.Prelude.{◌≡◌, ◌∷◌, [], ◌+◌, ◌<◌, ◌^◌, ◌≤◌, IfErr, IfOk, IfSome, OnOk};
+ghost use Rattle.cal_ast.specs.View.{expr_tree, type_tree};
+ghost use Rattle.code_ir.specs.declared.instr.Instr.TheVariants as op;
 ghost use Rattle.expr_lower.specs.declared.fault.LowerFault.TheVariants.{Memory, TooManyCells};
 ghost use Rattle.expr_lower.specs.Lowered.{IsPut};
+ghost use Rattle.stmt_lower.specs.Stating.{count_first, count_next};
 ghost use Rattle.stmt_lower.specs.Stating.{each_bounds, each_less, each_next, each_turn};
 ghost use Rattle.stmt_lower.specs.Reserving.{HasMore, HasTaken};
+ghost use Rattle.stmt_lower.specs.SeenStmts.{CountsSpan};
 
+use cal_ast::{Expr, TypeExpr};
 use code_ir::Instr;
-use expr_lower::{Draft, LowerFault, put_all};
-use rvc_base::Scalar;
+use expr_lower::{Draft, LowerFault, put, put_all};
+use list_lower::{bound_of, single_meant};
+use rvc_base::{Num, Scalar, conv};
 
 /// The cells of a `foreach`: the number at which it is, the last one, and its variable, which is stored in its type.
 #[derive(Clone, Copy)]
@@ -123,6 +129,69 @@ pub(crate) fn put_next(c: Counter, turn: u32, draft: &mut Draft) -> Result<(), L
             Instr::Add,
             Instr::Store(c.number, None),
             Instr::Jump(turn),
+        ],
+    )
+}
+
+/// What a `foreach` counts in the cell of its variable: the numbers from one to another, which are of its type.
+#[derive(Clone, Copy)]
+pub(crate) struct Span {
+    pub kind: Scalar,
+    pub low: Num,
+    pub high: Num,
+}
+
+/// The numbers of a `foreach` whose bounds are written out, if there is one and the type of its variable holds them.
+pub(crate) fn span_of(shape: &TypeExpr, from: &Expr, to: &Expr) -> Option<Span>
+    ensures counts { IfSome result
+        (CountsSpan (type_tree shape.now) (expr_tree from.now) (expr_tree to.now)) }
+{
+    let kind = single_meant(shape)?;
+    let low = bound_of(from)?;
+    let high = bound_of(to)?;
+    if high < low || conv(kind, low) != low || conv(kind, high) != high {
+        return None;
+    }
+    Some(Span { kind, low, high })
+}
+
+/// Appends the instructions that put the first number into the variable.
+pub(crate) fn put_first(cell: u32, low: Num, draft: &mut Draft) -> Result<(), LowerFault>
+    ensures added { OnOk result (IsPut (count_first cell low) draft.old draft.new) }
+    ensures memory { IfErr result (λ fault. fault ≡ Memory) }
+{
+    put_all(draft, &[Instr::Const(low), Instr::Store(cell, None)])
+}
+
+/// Appends a turn alone.
+pub(crate) fn put_turn_alone(draft: &mut Draft) -> Result<(), LowerFault>
+    ensures added { OnOk result (IsPut (op.Turn ∷ []) draft.old draft.new) }
+    ensures memory { IfErr result (λ fault. fault ≡ Memory) }
+{
+    put(draft, Instr::Turn)
+}
+
+/// Appends the instructions that count, and jump back to the turn unless the last number is passed.
+pub(crate) fn put_count(
+    cell: u32,
+    high: Num,
+    turn: u32,
+    draft: &mut Draft,
+) -> Result<(), LowerFault>
+    ensures added { OnOk result (IsPut (count_next cell high turn) draft.old draft.new) }
+    ensures memory { IfErr result (λ fault. fault ≡ Memory) }
+{
+    put_all(
+        draft,
+        &[
+            Instr::Load(cell),
+            Instr::Const(1),
+            Instr::Add,
+            Instr::Store(cell, None),
+            Instr::Load(cell),
+            Instr::Const(high),
+            Instr::Gt,
+            Instr::JumpIfNot(turn),
         ],
     )
 }

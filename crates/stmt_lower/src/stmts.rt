@@ -1,6 +1,7 @@
 //! Statements as code: one small function a form.
 
 ghost use Rattle.std.specs.Prelude.{◌≡◌, ◌∷◌, [], ℕ, IfErr, None, OnOk, Some, string_bytes};
+ghost use Rattle.cal_ast.specs.Tree.{Tree};
 ghost use Rattle.cal_ast.specs.View.{stmt_tree, type_tree};
 ghost use Rattle.cal_model.specs.View.{shape_view};
 ghost use Rattle.expr_lower.specs.Meant.{single_meant};
@@ -13,13 +14,16 @@ ghost use Rattle.stmt_lower.specs.Targets.{cell_named};
 ghost use Rattle.stmt_lower.specs.StmtSeen.{called, seen};
 ghost use Rattle.stmt_lower.specs.SeenStmts.{AddsBlock, behind, left_out_block};
 ghost use Rattle.stmt_lower.specs.SeenStmts.{AddsBody, AddsStmt, AddsStmts, AreAllOf, AreWhyNot};
-ghost use Rattle.stmt_lower.specs.SeenStmts.{IsAllOf, IsAllOfBody, IsWhyNoBody, IsWhyNot};
+ghost use Rattle.stmt_lower.specs.SeenStmts.{CountsSpan, IsAllOf, IsAllOfBody, IsWhyNoBody, IsWhyNot};
 ghost use Rattle.stmt_lower.specs.StmtWords.{AddsExecuted, AreWhole, IsFaultAmong};
-ghost use Rattle.stmt_lower.specs.StmtWords.{alone_of, body_of, branch_of, foreach_of, fork_of};
+ghost use Rattle.stmt_lower.specs.StmtWords.{alone_of, body_of, branch_of, counted_of, foreach_of, fork_of};
 ghost use Rattle.stmt_lower.specs.StmtWords.{run_of, set_of, set_one_of, while_of};
 
 use crate::callees::{ProcCallee, procedure_for, put_run};
-use crate::counter::{Counter, put_bounds, put_less, put_next, put_turn, take_cells};
+use crate::counter::{
+    Span, put_bounds, put_count, put_first, put_less, put_next, put_turn, put_turn_alone, span_of,
+    take_cells,
+};
 use crate::deep::set_part;
 use crate::jumps::{exit_at, jump_at};
 use crate::lists::{set_copy, set_filled, set_items};
@@ -289,10 +293,61 @@ fn repeat(
     Ok(())
 }
 
+/// Appends a `foreach`. If its bounds are written out, the cell of its variable counts.
+#[cycle(lower_stmt)]
+fn each(
+    scope: &StmtScope,
+    shape: &TypeExpr,
+    name: &Ident,
+    from: &Expr,
+    to: &Expr,
+    body: &[Stmt],
+    at: u32,
+    draft: &mut Draft,
+) -> Result<(), LowerFault>
+    ensures ok { OnOk result (AddsStmt scope.now
+        (foreach_of shape.now name.now from.now to.now body.now at) draft.old draft.new) }
+    ensures whole { OnOk result
+        (IsAllOf scope.now (foreach_of shape.now name.now from.now to.now body.now at)) }
+    ensures fault { IfErr result (IsWhyNot scope.now
+        (foreach_of shape.now name.now from.now to.now body.now at) draft.new) }
+{
+    match span_of(shape, from, to) {
+        Some(span) => each_counted(scope, name, span, body, draft),
+        None => each_between(scope, shape, name, from, to, body, at, draft),
+    }
+}
+
+/// Appends a `foreach` whose variable counts: its first number, and for each number a turn and the body.
+#[cycle(lower_stmt)]
+fn each_counted(
+    scope: &StmtScope,
+    name: &Ident,
+    span: Span,
+    body: &[Stmt],
+    draft: &mut Draft,
+) -> Result<(), LowerFault>
+    ensures ok { (shape from to : Tree) (at : ℕ) → CountsSpan shape from to span
+        → OnOk result (AddsStmt scope.now
+        (counted_of shape name.now from to body.now at) draft.old draft.new) }
+    ensures whole { (shape from to : Tree) (at : ℕ) → CountsSpan shape from to span
+        → OnOk result (IsAllOf scope.now (counted_of shape name.now from to body.now at)) }
+    ensures fault { (shape from to : Tree) (at : ℕ) → CountsSpan shape from to span
+        → IfErr result (IsWhyNot scope.now
+        (counted_of shape name.now from to body.now at) draft.new) }
+{
+    let cell = take_cell(draft)?;
+    put_first(cell, span.low, draft)?;
+    let turn = next_place(draft)?;
+    put_turn_alone(draft)?;
+    each_body(scope, name, cell, span.kind, body, draft)?;
+    put_count(cell, span.high, turn, draft)
+}
+
 /// Appends a `foreach`: the bounds, and for each number a turn and the body. At the last number it ends, so that the
 /// number is never one too great.
 #[cycle(lower_stmt)]
-fn each(
+fn each_between(
     scope: &StmtScope,
     shape: &TypeExpr,
     name: &Ident,
@@ -320,7 +375,7 @@ fn each(
     put(draft, Instr::JumpIfNot(0))?;
     let turn = next_place(draft)?;
     put_turn(counter, draft)?;
-    each_body(scope, name, counter, body, draft)?;
+    each_body(scope, name, counter.variable, counter.kind, body, draft)?;
     put_less(counter, draft)?;
     let exit = draft.instrs.len();
     put(draft, Instr::JumpIfNot(0))?;
@@ -336,21 +391,22 @@ fn each(
 fn each_body(
     scope: &StmtScope,
     name: &Ident,
-    counter: Counter,
+    cell: u32,
+    kind: Scalar,
     body: &[Stmt],
     draft: &mut Draft,
 ) -> Result<(), LowerFault>
     ensures ok { OnOk result
-        (AddsBody name.now counter scope.now (body_of body.now) draft.old draft.new) }
-    ensures whole { OnOk result (IsAllOfBody name.now counter scope.now (body_of body.now)) }
+        (AddsBody name.now cell kind scope.now (body_of body.now) draft.old draft.new) }
+    ensures whole { OnOk result (IsAllOfBody name.now cell kind scope.now (body_of body.now)) }
     ensures fault { IfErr result
-        (IsWhyNoBody name.now counter scope.now (body_of body.now) draft.new) }
+        (IsWhyNoBody name.now cell kind scope.now (body_of body.now) draft.new) }
 {
-    let shape = Shape::Scalar(counter.kind);
+    let shape = Shape::Scalar(kind);
     let frame = Frame {
         name: name.text.as_str(),
         shape: &shape,
-        cell: counter.variable,
+        cell,
         outer: scope.values.frame,
     };
     let inner = scope.under(&frame);
@@ -463,10 +519,10 @@ fn behind(
 /// Code is made for assignments to variables of single values, to lists at any depth, and to their parts, be they single
 /// values or lists, `if`, `while`, and `foreach` and blocks whose types are written without names, over the expressions
 /// for which [`lower_expr`](list_lower::lower_expr) or, of lists, [`lower_list`](list_lower::lower_list) makes code. The
-/// variables of a block may be lists at any depth. A `foreach` uses three cells more, a variable of a block one for each
-/// of its numbers, a part of a list in lists one for each of its places and one for each number of its value, and a list
-/// that isn't copied from a name one for each of its numbers, beside those of its generators; they are added to the
-/// draft.
+/// variables of a block may be lists at any depth. A `foreach` uses three cells more, or one if its bounds are written out
+/// and its type holds them, a variable of a block one for each of its numbers, a part of a list in lists one for each of
+/// its places and one for each number of its value, and a list that isn't copied from a name one for each of its numbers,
+/// beside those of its generators; they are added to the draft.
 ///
 /// # Errors
 ///

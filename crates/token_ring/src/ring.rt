@@ -90,6 +90,17 @@ impl Ring {
         let _ = self.tokens.push_back(v);
     }
 
+    /// Takes back the token that came last.
+    pub fn take_back(&mut self) -> Num
+        requires { 1 ≤ length self.old.tokens }
+        ensures { self.old ≡ record {
+          tokens = self.new.tokens ++ result ∷ [];
+          capacity = self.new.capacity;
+        } }
+    {
+        self.tokens.pop_back().unwrap()
+    }
+
     /// Drops the first `n` tokens.
     pub fn take(&mut self, n: u32)
         requires { n ≤ length self.old.tokens }

@@ -5,6 +5,7 @@ pub mod Traces
 pub mod Excluded
 pub mod Judged
 pub mod Once
+pub mod Again
 pub mod Scanned
 pub mod Reached
 pub mod Heads

@@ -1,6 +1,8 @@
 pub mod Judging
 pub mod Laws
 pub mod Coming
+pub mod Spelled
+pub mod Again
 pub mod Scanning
 pub mod Reading
 pub mod Head

@@ -1,6 +1,6 @@
 //! The bytes of a recorded trace, pulled in pieces.
 
-ghost use Rattle.std.specs.Prelude.{◌≡◌, ◌≤◌, ◌<◌, ℕ, List, [], true, false, IfOk, OnOk, OnErr, IsSome, IfSome, IfNone, length, vec_len};
+ghost use Rattle.std.specs.Prelude.{◌≡◌, ◌≤◌, ◌<◌, ◌++◌, ℕ, List, [], true, false, IfOk, OnOk, OnErr, IsSome, IfSome, IfNone, length, vec_len};
 ghost use Rattle.rvc_io.specs.Feeds.{PullsOnly, ReadFails};
 ghost use Rattle.port_files.specs.Coming.{KeepsComing, NothingLeft};
 ghost use Rattle.trace_replay.specs.Coming.{GivesNext, StartsWith};
@@ -78,6 +78,18 @@ impl TraceBytes {
             };
         }
         Ok(self.pop())
+    }
+
+    /// Takes this text if the bytes that were pulled begin with it. Whether they do.
+    pub(crate) fn skip(&mut self, text: &[u8]) -> bool
+        ensures yes { result ≡ true → self.old ≡ text.now ++ self.new }
+        ensures no { result ≡ false → self.new ≡ self.old }
+    {
+        if !self.bytes[self.start..self.end].starts_with(text) {
+            return false;
+        }
+        self.start += text.len();
+        true
     }
 
     /// Pulls a piece once none of the last one is left.

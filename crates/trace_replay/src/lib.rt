@@ -13,6 +13,7 @@ mod events;
 mod growing;
 mod growth;
 mod head;
+mod last_firing;
 mod laws;
 mod reading;
 mod replayed;

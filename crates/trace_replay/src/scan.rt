@@ -1,15 +1,17 @@
 //! Reads a trace line by line.
 
-ghost use Rattle.std.specs.Prelude.{◌≡◌, ◌<◌, ◌≤◌, ◌++◌, ◌∷◌, ℕ, List, [], true, false, IfOk, OnErr, Some, length, slice_get};
+ghost use Rattle.std.specs.Prelude.{◌≡◌, ◌<◌, ◌≤◌, ◌++◌, ◌∷◌, ℕ, List, [], true, false, IfOk, IfNone, IfSome, OnErr, Some, length, slice_get};
 ghost use Rattle.rvc_io.specs.Feeds.{PullsOnly, ReadFails};
 ghost use Rattle.port_files.specs.Coming.{coming_on};
 ghost use Rattle.trace_text.specs.Text.{line_feed};
+ghost use Rattle.trace_replay.specs.Again.{ReadsAgain};
 ghost use Rattle.trace_replay.specs.Judging.{max_trace_bytes};
 ghost use Rattle.trace_replay.specs.Reading.{TellsRest};
 ghost use Rattle.trace_replay.specs.Scanning.{IsWithin, ScansLine, ScansPast, TellsFront, TellsWhole};
 ghost use Rattle.trace_replay.specs.declared.bytes.TheConstants.{TRACE_FEED};
 
 use crate::bytes::TraceBytes;
+use crate::last_firing::LastFiring;
 use rvc_base::Memory;
 use rvc_io::{Failed, Feeds};
 use std::alloc::Global;
@@ -37,6 +39,7 @@ pub(crate) struct TraceLines {
     bytes: TraceBytes,
     /// How many bytes of the trace were read.
     passed: u64,
+    last: LastFiring,
 }
 
 impl TraceLines {
@@ -50,7 +53,11 @@ impl TraceLines {
         ensures passed { IfOk result (λ t. t.passed ≡ 0) }
     {
         let bytes = TraceBytes::new(alloc)?;
-        Ok(TraceLines { bytes, passed: 0 })
+        Ok(TraceLines {
+            bytes,
+            passed: 0,
+            last: LastFiring::new(0, 0),
+        })
     }
 
     /// Reads up to the end of a line, or as far as bytes begin one, and says whether its text is `front`, `name` and a
@@ -60,6 +67,47 @@ impl TraceLines {
     ///
     /// `Failed` if bytes couldn't be pulled.
     pub(crate) fn scan<F: Feeds>(
+        &mut self,
+        front: &[u8],
+        name: &[u8],
+        feeds: &mut F,
+    ) -> Result<Scanned, Failed>
+        requires open { (F.feeds feeds.old).is_open TRACE_FEED ≡ true }
+        requires within { self.old.passed ≤ max_trace_bytes }
+        ensures scans { IfOk result (ScansLine F.feeds front.now name.now self.old feeds.old
+            self.new feeds.new) }
+        ensures within { IfOk result (λ scanned. IsWithin self.new.passed scanned) }
+        ensures failed { OnErr result (ReadFails F.feeds feeds.old feeds.new) }
+        ensures elsewhere { PullsOnly F.feeds feeds.old feeds.new TRACE_FEED }
+    {
+        if front.is_empty() && name.is_empty() {
+            if let Some(line) = self.scan_again() {
+                return Ok(Scanned::Line(line, false));
+            }
+        }
+        let scanned = self.scan_anew(front, name, feeds)?;
+        if let Scanned::Line(Line::Fire { inst, action }, _) = scanned {
+            self.last = LastFiring::new(inst, action);
+        }
+        Ok(scanned)
+    }
+
+    /// Reads the last firing's line once more, if its text is what comes next among the bytes that were pulled.
+    fn scan_again(&mut self) -> Option<Line>
+        requires within { self.old.passed ≤ max_trace_bytes }
+        ensures some { IfSome result (λ line. ReadsAgain line self.old self.new) }
+        ensures none { IfNone result (self.new ≡ self.old) }
+    {
+        let text = self.last.text();
+        if text.len() as u64 > MAX_TRACE_BYTES - self.passed || !self.bytes.skip(text) {
+            return None;
+        }
+        self.passed += text.len() as u64;
+        Some(self.last.line())
+    }
+
+    /// The same, byte by byte.
+    fn scan_anew<F: Feeds>(
         &mut self,
         front: &[u8],
         name: &[u8],

@@ -27,7 +27,7 @@ use Rattle.expr_lower.specs.Growing.{IsFault, left_out_in}
 use Rattle.expr_lower.specs.Parted.{number_of, sized}
 use Rattle.list_lower.specs.declared.lists.Target.{Target}
 use Rattle.list_lower.specs.CounterView.{counter_view, gens_of}
-use Rattle.list_lower.specs.FillWords.{BeginsAt, left_out_elements}
+use Rattle.list_lower.specs.FillWords.{BeginsAt, left_out_elements, left_out_some}
 use Rattle.list_lower.specs.Reserving.{HasMore}
 use Rattle.list_lower.specs.Filling.{AreFills, IsFill, in_parens, one_cell}
 use Rattle.expr_lower.specs.Generators.{how_many}
@@ -39,6 +39,7 @@ use Rattle.expr_lower.proofs.Coded.{grows_test}
 use Rattle.list_lower.proofs.Filled.{grows_fill}
 use Rattle.rvc_base.specs.declared.scalar.Scalar.TheVariants as scalar
 use Rattle.list_lower.proofs.ApartItems.{apart_adds, item_adds}
+use Rattle.list_lower.proofs.FixedPlaces.{fixed_is_code, fixed_whole}
 use Rattle.list_lower.proofs.+lower.Goals as goal
 
 pub exprs::both-returns-clause-ok : goal.exprs::both-returns-clause-ok
@@ -117,8 +118,22 @@ exprs::test_value-returns-clause-ok t c =
     (λ base n m code h. test_coded names (expr_tree c.args.e.now) base n m code h) c.in_ok-lower.ensures.ok)
     c.put.ensures.added
 
-pub exprs::item-returns-clause-ok : goal.exprs::item-returns-clause-ok
-exprs::item-returns-clause-ok t c =
+pub exprs::item-returns-in-Some-clause-ok : goal.exprs::item-returns-in-Some-clause-ok
+exprs::item-returns-in-Some-clause-ok t c =
+    let e : Tree = tree.index (expr_tree c.args.base.now) (expr_tree c.args.place.now) c.args.at in
+    on_ok_weaker c.put.result
+    (λ (p : IsPut (c.in-Some.instr ∷ []) c.args.draft.now c.put.new.draft). put_adds (IsCode (called c.args.scope.now) (seen c.args.scope.now) e) (c.in-Some.instr ∷ []) c.args.draft.now c.put.new.draft p
+    (λ base n. fixed_is_code (called c.args.scope.now) (seen c.args.scope.now) e base n c.in-Some.instr (c.in-Some.ensures.fixed c.args.at)))
+    c.put.ensures.added
+
+pub exprs::item-returns-in-Some-clause-whole : goal.exprs::item-returns-in-Some-clause-whole
+exprs::item-returns-in-Some-clause-whole t c =
+    on_ok_weaker c.put.result
+    (λ (p : IsPut (c.in-Some.instr ∷ []) c.args.draft.now c.put.new.draft). fixed_whole (called c.args.scope.now) (seen c.args.scope.now) (expr_tree c.args.base.now) (expr_tree c.args.place.now) c.args.at c.in-Some.instr (c.in-Some.ensures.fixed c.args.at))
+    c.put.ensures.added
+
+pub exprs::any_item-returns-clause-ok : goal.exprs::any_item-returns-clause-ok
+exprs::any_item-returns-clause-ok t c =
     let names : List Name = seen c.args.scope.now in
     on_ok_weaker c.put.result
     (λ (p : IsPut (c.item_instr.result ∷ []) c.lower.new.draft c.put.new.draft).

@@ -40,7 +40,10 @@ abbrev pub decreases-exprs::paren : goal.decreases-exprs::paren
 decreases-exprs::paren l = 4 + weight (expr_tree l.inner.now)
 
 abbrev pub decreases-exprs::item : goal.decreases-exprs::item
-decreases-exprs::item l = 22 + weight (expr_tree l.base.now) + weight (expr_tree l.place.now)
+decreases-exprs::item l = 23 + weight (expr_tree l.base.now) + weight (expr_tree l.place.now)
+
+abbrev pub decreases-exprs::any_item : goal.decreases-exprs::any_item
+decreases-exprs::any_item l = 22 + weight (expr_tree l.base.now) + weight (expr_tree l.place.now)
 
 abbrev pub decreases-exprs::deep_item : goal.decreases-exprs::deep_item
 decreases-exprs::deep_item l = 21 + weight (expr_tree l.base.now) + weight (expr_tree l.place.now)

@@ -162,6 +162,10 @@ impl Firing for TableCell {
         self.inbox.push(token);
     }
 
+    fn take_back(&mut self, _port: u32) -> Num {
+        self.inbox.pop().unwrap()
+    }
+
     fn sent(&self, _port: u32) -> u32 {
         self.outbox.len() as u32
     }

@@ -1,12 +1,13 @@
 use Rattle.std.proofs.Common.{◌≡◌, length}
 use Rattle.const_eval.specs.Counting.{names_view}
 use Rattle.cal_check.specs.Actions.{each_guard}
-use Rattle.cal_check.specs.Violations.{all_broken}
+use Rattle.cal_check.specs.Violations.{all_broken, said}
 use Rattle.member_check.specs.Parts.{exprs_tree}
 use Rattle.action_check.proofs.guards.guards.Given as goal
 
 abbrev pub invariant-guards : goal.invariant-guards
-invariant-guards l = all_broken (each_guard (exprs_tree l.rest) (names_view l.names)) ≡ all_broken (each_guard (exprs_tree l.initial.rest) (names_view l.names))
+invariant-guards l = said l.passes (all_broken (each_guard (exprs_tree l.rest) (names_view l.names)))
+    ≡ said l.passes (all_broken (each_guard (exprs_tree l.initial.rest) (names_view l.names)))
 
 abbrev pub decreases-guards : goal.decreases-guards
 decreases-guards l = length l.rest

@@ -1,6 +1,6 @@
 use Rattle.std.proofs.Common.{◌≡◌, Err, length, map, sym, ap, subst, ◌∙◌, arith, rules, string_bytes}
 use Rattle.cal_ast.specs.View.{ident_tree, optional_expr, pattern_tree}
-use Rattle.cal_model.specs.Kinding.{Fine, and_so}
+use Rattle.cal_model.specs.Kinding.{Fine}
 use Rattle.cal_model.specs.Rates.{parts}
 use Rattle.cal_model.specs.View.{pattern_view}
 use Rattle.const_eval.specs.Counting.{names_view}

@@ -7,8 +7,8 @@ use Rattle.cal_model.specs.View.{actor_of}
 use Rattle.const_eval.specs.Counting.{names_view}
 use Rattle.member_check.specs.Parts.{action_views, members_tree}
 use Rattle.stmt_check.specs.Judging.{Refuses}
-use Rattle.actor_build.proofs.WholeSteps.{actions_break, order_breaks, whole_fine, whole_is, whole_ordered}
-use Rattle.actor_build.specs.Building.{BreaksMembers, HasActions, IsCycle, IsFineOrder, around_bare, order_broken}
+use Rattle.actor_build.proofs.WholeSteps.{order_breaks, whole_fine, whole_is, whole_ordered}
+use Rattle.actor_build.specs.Building.{HasActions, IsCycle, IsFineOrder, IsMembersFault, around_bare, order_broken}
 use Rattle.actor_build.proofs.whole.actor.Goals as goal
 
 pub fine_order-requires : goal.fine_order-requires
@@ -21,8 +21,8 @@ returns-in_err-actions-clause-broken c =
     let around = around_bare c.args.bare (names_view c.args.names.now) in
     let at = c.args.decl.now.at in
     let same : c.from_residual.result ≡ Err f = search rules in
-    subst (λ r. IfErr r (λ fault. (actor : Actor) → HasActions actor (actions_of (actions_in members) around) members → BreaksMembers fault members around actor at)) (sym same)
-    (λ actor has. actions_break f members around actor at c.in_err-actions.ensures)
+    subst (λ r. IfErr r (λ fault. (actor : Actor) → HasActions actor (actions_of (actions_in members) around) members → IsMembersFault fault members around actor at)) (sym same)
+    (λ actor has. c.in_err-actions.ensures actor has)
 
 pub returns-in_err-order-clause-broken : goal.returns-in_err-order-clause-broken
 returns-in_err-order-clause-broken c =
@@ -36,7 +36,7 @@ returns-in_err-order-clause-broken c =
     subst (λ ms. (x : Actor) → HasActions x (action_views acts) (members_tree ms) → Refuses f (order_broken (members_tree ms) x at) ⊎ IsCycle f (members_tree ms) x) c.deref.ensures.value
     (subst (λ xs. (x : Actor) → HasActions x (action_views xs) (members_tree c.deref.result.now) → Refuses f (order_broken (members_tree c.deref.result.now) x at) ⊎ IsCycle f (members_tree c.deref.result.now) x)
     c.deref-2.ensures.value c.in_err-order.ensures) in
-    subst (λ r. IfErr r (λ fault. (actor : Actor) → HasActions actor (actions_of (actions_in members) around) members → BreaksMembers fault members around actor at)) (sym same)
+    subst (λ r. IfErr r (λ fault. (actor : Actor) → HasActions actor (actions_of (actions_in members) around) members → IsMembersFault fault members around actor at)) (sym same)
     (λ actor has. order_breaks f acts members around actor at c.in_ok-actions.ensures breaks has)
 
 pub returns-clause-is : goal.returns-clause-is

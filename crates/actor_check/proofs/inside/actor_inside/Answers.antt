@@ -1,20 +1,32 @@
-use Rattle.std.proofs.Common.{◌≡◌, Err, map, sym, subst, rules}
+use Rattle.std.proofs.Common.{◌≡◌, [], map, subst, ◌∙◌}
 use Rattle.cal_model.specs.View.{proc_view}
 use Rattle.const_eval.specs.Counting.{names_view}
 use Rattle.variable_check.specs.Causes.{IsCause}
-use Rattle.actor_check.specs.Parts.{FindsInside}
+use Rattle.actor_check.specs.Parts.{AreBareParts}
 use Rattle.actor_check.specs.Phases.{routines_found}
 use Rattle.actor_check.specs.Sources.{source_in}
-use Rattle.actor_check.proofs.Putting.{routines_break}
+use Rattle.actor_check.proofs.SiftedInside.{routines_inside}
 use Rattle.actor_check.proofs.inside.actor_inside.Goals as goal
 
-pub returns-in_err-check_routines : goal.returns-in_err-check_routines
-returns-in_err-check_routines c = λ gs owner parts held.
-    let f = c.in_err-check_routines.field-0.0 in
+pub returns-in-Ok-check_routines : goal.returns-in-Ok-check_routines
+returns-in-Ok-check_routines c = λ gs owner parts held.
+    let s = source_in c.args.scope.now in
+    let names = names_view c.args.names.now in
+    let all : AreBareParts c.in-Ok.bare c.args.held c.args.header c.args.routines c.args.scope.now names gs owner =
+    record { kept = c.in-Ok.ensures; parts = parts; values = held } in
+    let fine : routines_found s (map proc_view c.args.routines.procs.items) names ≡ [] =
+    subst (λ ps. routines_found s (map proc_view ps) names ≡ []) (c.deref.ensures.value ∙ c.in-Ok.ensures.procs) c.in-Ok-check_routines.ensures in
+    c.kept_actor.ensures c.args.held c.args.header c.args.routines gs owner all fine
+
+pub returns-in-Err : goal.returns-in-Err
+returns-in-Err c = λ gs owner parts held.
+    let bare = c.in-Ok.bare in
     let scope = c.args.scope.now in
     let names = names_view c.args.names.now in
-    let same : c.from_residual.result ≡ Err f = search rules in
-    let broken : IsCause f (routines_found (source_in scope) (map proc_view c.args.routines.procs.items) names) =
-    subst (λ ps. IsCause f (routines_found (source_in scope) (map proc_view ps) names)) c.deref.ensures.value c.in_err-check_routines.ensures in
-    subst (λ r. FindsInside r (source_in scope) gs owner) (sym same)
-    (routines_break f c.args.header c.args.routines scope names gs owner parts broken)
+    let f = c.in-Err.fault in
+    let all : AreBareParts bare c.args.held c.args.header c.args.routines scope names gs owner =
+    record { kept = c.in-Ok.ensures; parts = parts; values = held } in
+    let broken : IsCause f (routines_found (source_in scope) (map proc_view bare.procs.items) names) =
+    subst (λ ps. IsCause f (routines_found (source_in scope) (map proc_view ps) names)) c.deref.ensures.value c.in-Err.ensures in
+    c.inside_fault.ensures c.args.held c.args.header c.args.routines gs owner all
+    (routines_inside f bare c.args.held c.args.header c.args.routines scope names gs owner all broken)

@@ -1,9 +1,9 @@
 use Rattle.std.proofs.Common.{◌≡◌, ◌<◌, [], arith, length, rules, subst, sym}
 use Rattle.cal_model.specs.View.{actor_of}
+use Rattle.expr_lower.specs.Callees.{functions_view}
 use Rattle.stmt_lower.specs.Procedures.{routines_of}
 use Rattle.actor_lower.specs.Coded.{AddsBodies, AreCodedActions, all_entries}
 use Rattle.actor_lower.specs.Faults.{IsWhyActions}
-use Rattle.action_lower.specs.Seats.{state_cells}
 use Rattle.actor_lower.specs.ClearedBodies.{ClearsActions}
 use Rattle.actor_lower.proofs.ClearedMade.{clears-more, none-cleared}
 use Rattle.actor_lower.proofs.Chosen.{why-actions, why-err}
@@ -20,8 +20,8 @@ loop-action-init c =
       no-more c.args.draft.now,
       subst (λ xs. AddsBodies (all_entries xs) c.args.draft.now c.args.draft.now) (sym none) (no-bodies c.args.draft.now),
       λ a low. absurd (omega (arith, low)),
-      subst (λ xs. ClearsActions c.args.clear (actor_of c.args.b.now) (state_cells (actor_of c.args.b.now)) c.args.draft.now.cells xs c.args.draft.now) (sym none)
-          (none-cleared c.args.clear (actor_of c.args.b.now) (state_cells (actor_of c.args.b.now)) c.args.draft.now.cells c.args.draft.now),
+      subst (λ xs. ClearsActions c.args.clear (actor_of c.args.b.now) (functions_view c.args.callees.now) c.args.draft.now.cells xs c.args.draft.now) (sym none)
+          (none-cleared c.args.clear (actor_of c.args.b.now) (functions_view c.args.callees.now) c.args.draft.now.cells c.args.draft.now),
     )
 
 pub loop-action-preserved : goal.loop-action-preserved
@@ -33,7 +33,7 @@ loop-action-preserved c = (
   actions-bodies c.loop-action.actions.items c.push.new.self.items c.in_ok-coded.coded c.args.draft.now c.loop-action.draft c.lower_action.new.draft
       c.in_ok-push.ensures.items c.in_ok-coded.ensures.more c.loop-action.invariant.3 c.in_ok-coded.ensures.bodies,
   whole-more (routines_of c.args.callees.now c.args.procedures.now) c.args.b.now c.loop-action.action c.loop-action.invariant.4 c.in_ok-coded.ensures.whole,
-  clears-more c.args.clear (actor_of c.args.b.now) (state_cells (actor_of c.args.b.now)) c.args.draft.now.cells c.loop-action.action c.loop-action.actions.items c.push.new.self.items c.in_ok-coded.coded c.loop-action.draft c.lower_action.new.draft
+  clears-more c.args.clear (actor_of c.args.b.now) (functions_view c.args.callees.now) c.args.draft.now.cells c.loop-action.action c.loop-action.actions.items c.push.new.self.items c.in_ok-coded.coded c.loop-action.draft c.lower_action.new.draft
       c.loop-action.invariant.0.count c.loop-action.invariant.2.cells c.in_ok-coded.ensures.more c.loop-action.invariant.5 c.in_ok-coded.ensures.cleared c.in_ok-push.ensures.items,
 )
 

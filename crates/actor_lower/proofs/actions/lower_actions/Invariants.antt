@@ -1,6 +1,6 @@
 use Rattle.cal_model.specs.View.{actor_of}
+use Rattle.expr_lower.specs.Callees.{functions_view}
 use Rattle.stmt_lower.specs.Procedures.{routines_of}
-use Rattle.action_lower.specs.Seats.{state_cells}
 use Rattle.actor_lower.specs.ClearedBodies.{ClearsActions}
 use Rattle.actor_lower.specs.Coded.{AddsBodies, AreCodedActions, IsMore, all_entries}
 use Rattle.actor_lower.specs.Drafted.{IsServed}
@@ -13,4 +13,4 @@ invariant-loop-action l = AreCodedActions (actor_of l.b) l.action l.actions.item
     × IsMore l.initial.draft l.draft
     × AddsBodies (all_entries l.actions.items) l.initial.draft l.draft
     × AreWhole (routines_of l.callees l.procedures) l.b l.action
-    × ClearsActions l.clear (actor_of l.b) (state_cells (actor_of l.b)) l.initial.draft.cells l.actions.items l.draft
+    × ClearsActions l.clear (actor_of l.b) (functions_view l.callees) l.initial.draft.cells l.actions.items l.draft

@@ -50,12 +50,12 @@ lower_guards-requires-clause-clears c = λ kept e. let same = c.clears_behind-cl
 pub returns-clause-guards_cleared : goal.returns-clause-guards_cleared
 returns-clause-guards_cleared c = λ wanted.
     let is : c.clears_behind-clears.result ≡ Some (state_cells (actor_of c.args.b.now)) = c.clears_behind-clears.ensures.some wanted ∙ ap (λ k. Some k) c.requires.kept in
-    guards-later (state_cells (actor_of c.args.b.now)) c.args.draft.now.cells c.in_ok-guards.guards.items c.lower_guards.new.draft c.put_firing.new.draft c.in_ok-firing.ensures.more
-    (guards-from c.args.b.now c.args.action c.requires.action (routines_of c.args.callees.now c.args.procedures.now) c.clears_behind-clears.result (state_cells (actor_of c.args.b.now)) c.in_ok-guards.guards.items c.args.draft.now c.lower_guards.new.draft
-    is c.requires.served c.in_ok-guards.ensures.code)
+    guards-later (actor_of c.args.b.now) c.args.action (functions_view c.args.callees.now) c.args.draft.now.cells c.in_ok-guards.guards.items c.lower_guards.new.draft c.put_firing.new.draft c.in_ok-firing.ensures.more
+    (guards-from c.args.b.now c.args.action c.requires.action (routines_of c.args.callees.now c.args.procedures.now) c.clears_behind-clears.result c.in_ok-guards.guards.items c.args.draft.now c.lower_guards.new.draft
+    c.requires.sound is c.requires.served c.in_ok-guards.ensures.code)
 
 pub returns-clause-firing_cleared : goal.returns-clause-firing_cleared
 returns-clause-firing_cleared c = λ wanted.
     let more : IsMore c.args.draft.now c.lower_guards.new.draft = guards-grown c.args.b.now c.args.action c.requires.action c.clears_behind-clears.result (functions_view c.args.callees.now) c.in_ok-guards.guards.items c.args.draft.now c.lower_guards.new.draft c.in_ok-guards.ensures.code in
-    firing-lower (actor_of c.args.b.now) c.args.action (state_cells (actor_of c.args.b.now)) c.lower_guards.new.draft.cells c.args.draft.now.cells c.in_ok-firing.firing.entry c.in_ok-firing.firing.firsts.items c.put_firing.new.draft more.cells
+    firing-lower (actor_of c.args.b.now) c.args.action (functions_view c.args.callees.now) c.lower_guards.new.draft.cells c.args.draft.now.cells c.in_ok-firing.firing.entry c.in_ok-firing.firing.firsts.items c.put_firing.new.draft more.cells
     (c.in_ok-firing.ensures.cleared wanted)

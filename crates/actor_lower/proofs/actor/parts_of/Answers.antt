@@ -1,13 +1,15 @@
 use Rattle.std.proofs.Common.{◌≡◌, ◌∙◌, Bool, ap, arith, length, refl, subst, sym, true}
 use Rattle.std.proofs.lemmas.List.{length-map}
 use Rattle.cal_model.specs.View.{action_view, actor_of, port_view}
-use Rattle.action_lower.specs.Seats.{state_cells}
+use Rattle.expr_lower.specs.Callees.{functions_view}
+use Rattle.stmt_lower.specs.Procedures.{routines_of}
 use Rattle.lowered_actor.specs.declared.parts.Parts.{Parts}
 use Rattle.lowered_actor.specs.Actor.{actor_of as parts_view}
 use Rattle.lowered_actor.specs.Facts.{FitTogether}
 use Rattle.actor_lower.specs.ClearedBodies.{ClearsActions}
 use Rattle.actor_lower.specs.Coded.{AreBodiesOf, AreCodedActions, all_entries}
-use Rattle.actor_lower.specs.Faults.{IsPartsFault, IsWhole}
+use Rattle.actor_lower.specs.Faults.{IsActorFault, IsWhole}
+use Rattle.actor_lower.proofs.AllowedEntries.{made-all}
 use Rattle.actor_lower.proofs.Chosen.{if-ok, is-whole, parts-why, served-same, whole-why, why-err}
 use Rattle.actor_lower.proofs.ClearedMade.{routine-bodies, routines-later}
 use Rattle.actor_lower.proofs.ClearedStand.{all-stand}
@@ -49,9 +51,10 @@ returns-clause-parts c =
     }
 
 pub returns-clause-stand : goal.returns-clause-stand
-returns-clause-stand c = λ clear may.
+returns-clause-stand c = λ clear.
     let tables = c.in_ok-tables.ensures in
     let actor = actor_of c.args.b.now in
+    let fs = functions_view c.deref.result.now in
     let parts : Parts = record {
       code = c.in_ok-code.code;
       fsm = c.in_ok-tables.tables.fsm;
@@ -64,11 +67,15 @@ returns-clause-stand c = λ clear may.
       ins = c.in_ok-tables.tables.ins;
       outs = c.in_ok-tables.tables.outs;
     } in
+    let served =
+    served-same actor c.in_ok-called.called.callees.items c.deref.result.now c.in_ok-called.called.procedures.items c.deref-2.result.now c.lower_routines.new.draft
+    c.deref.ensures.value c.deref-2.ensures.value c.in_ok-called.ensures.served in
+    let made = made-all actor c.requires.sound (routines_of c.deref.result.now c.deref-2.result.now) c.lower_routines.new.draft c.lower_actions.new.draft c.in_ok-code.code served c.in_ok-actions.ensures.more c.in_ok-code.ensures.code in
     all-stand actor (parts_view parts) c.lower_actions.new.draft c.in_ok-code.ensures.code c.in_ok-actions.actions.items refl (tables.outs ∙ sym (length-map c.args.b.now.outs.items port_view))
     (subst (λ n. AreCodedActions actor n c.in_ok-actions.actions.items c.lower_actions.new.draft) (sym (length-map c.args.b.now.actions.items action_view)) c.in_ok-actions.ensures.coded)
-    (state_cells actor) c.lower_routines.new.draft.cells tables.kept
-    (subst (λ (b : Bool). ClearsActions b actor (state_cells actor) c.lower_routines.new.draft.cells c.in_ok-actions.actions.items c.lower_actions.new.draft) clear c.in_ok-actions.ensures.cleared)
-    (routines-later c.lower_routines.new.draft c.lower_actions.new.draft c.lower_routines.new.draft.cells c.in_ok-actions.ensures.more (routine-bodies c.lower_routines.new.draft c.in_ok-called.ensures.bodies)) may
+    fs c.lower_routines.new.draft.cells tables.kept tables.saved
+    (subst (λ (b : Bool). ClearsActions b actor fs c.lower_routines.new.draft.cells c.in_ok-actions.actions.items c.lower_actions.new.draft) clear c.in_ok-actions.ensures.cleared)
+    (routines-later c.lower_routines.new.draft c.lower_actions.new.draft c.lower_routines.new.draft.cells c.in_ok-actions.ensures.more (routine-bodies c.lower_routines.new.draft c.in_ok-called.ensures.bodies)) made.0 made.1
 
 pub lower_actions-requires-clause-served : goal.lower_actions-requires-clause-served
 lower_actions-requires-clause-served c =
@@ -77,8 +84,8 @@ lower_actions-requires-clause-served c =
 
 pub returns-in_err-actions-clause-fault : goal.returns-in_err-actions-clause-fault
 returns-in_err-actions-clause-fault c =
-    why-err c.from_residual-in_err-actions.result _ (IsPartsFault c.args.b.now) c.from_residual-in_err-actions.ensures.1
-    (λ e is. subst (IsPartsFault c.args.b.now) (sym is)
+    why-err c.from_residual-in_err-actions.result _ (IsActorFault c.args.b.now) c.from_residual-in_err-actions.ensures.1
+    (λ e is. subst (IsActorFault c.args.b.now) (sym is)
     (whole-why c.args.b.now c.in_ok-called.called.callees.items c.deref.result.now c.in_ok-called.called.procedures.items c.deref-2.result.now c.deref.ensures.value c.deref-2.ensures.value c.in_ok-called.ensures.settled
     c.in_err-actions.field-0.0 c.in_err-actions.ensures.fault))
 
@@ -90,13 +97,13 @@ admitted-requires c = record {
 
 pub returns-in_err-code-clause-fault : goal.returns-in_err-code-clause-fault
 returns-in_err-code-clause-fault c =
-    why-err c.from_residual-in_err-code.result _ (IsPartsFault c.args.b.now) c.from_residual-in_err-code.ensures.1
-    (λ e is. subst (IsPartsFault c.args.b.now) (sym is) (parts-why c.args.b.now c.in_err-code.field-0.0 c.in_err-code.ensures.fault))
+    why-err c.from_residual-in_err-code.result _ (IsActorFault c.args.b.now) c.from_residual-in_err-code.ensures.1
+    (λ e is. subst (IsActorFault c.args.b.now) (sym is) (parts-why c.args.b.now c.in_err-code.field-0.0 c.in_err-code.ensures.fault))
 
 pub returns-in_err-called-clause-fault : goal.returns-in_err-called-clause-fault
 returns-in_err-called-clause-fault c =
-    why-err c.from_residual-in_err-called.result _ (IsPartsFault c.args.b.now) c.from_residual-in_err-called.ensures.1
-    (λ e is. subst (IsPartsFault c.args.b.now) (sym is) (parts-why c.args.b.now c.in_err-called.field-0.0 c.in_err-called.ensures.fault))
+    why-err c.from_residual-in_err-called.result _ (IsActorFault c.args.b.now) c.from_residual-in_err-called.ensures.1
+    (λ e is. subst (IsActorFault c.args.b.now) (sym is) (parts-why c.args.b.now c.in_err-called.field-0.0 c.in_err-called.ensures.fault))
 
 pub returns-clause-whole : goal.returns-clause-whole
 returns-clause-whole c =

@@ -1,4 +1,4 @@
-use Rattle.std.proofs.Common.{◌≡◌, ap, subst, ◌∙◌, rules}
+use Rattle.std.proofs.Common.{◌≡◌, subst, rules}
 use Rattle.cal_ast.specs.View.{expr_tree}
 use Rattle.expr_lower.specs.ItemsSeen.{first_seen, items_listed}
 use Rattle.expr_lower.specs.PartView.{places_of}

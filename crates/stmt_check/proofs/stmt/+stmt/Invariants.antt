@@ -4,13 +4,14 @@ use Rattle.cal_ast.specs.View.{body_tree, stmt_tree}
 use Rattle.cal_model.specs.View.{proc_view}
 use Rattle.const_eval.specs.Counting.{names_view}
 use Rattle.cal_check.specs.Statements.{statement_broken}
+use Rattle.cal_check.specs.Violations.{said}
 use Rattle.stmt_check.proofs.StmtWeights.{size}
 use Rattle.stmt_check.proofs.stmt.+stmt.Given as goal
 
 abbrev pub invariant-stmts-stmts : goal.invariant-stmts-stmts
 invariant-stmts-stmts l =
-    (statement_broken (listed (map stmt_tree l.rest)) (map proc_view l.procs) (names_view l.names)
-    ≡ statement_broken (listed (map stmt_tree l.body)) (map proc_view l.procs) (names_view l.names))
+    (said l.passes (statement_broken (listed (map stmt_tree l.rest)) (map proc_view l.procs) (names_view l.names))
+    ≡ said l.passes (statement_broken (listed (map stmt_tree l.body)) (map proc_view l.procs) (names_view l.names)))
     × (size (listed (map stmt_tree l.rest)) ≤ size (listed (map stmt_tree l.body)))
 
 -- how large the statements are, and a rank among the functions

@@ -1,6 +1,8 @@
-use Rattle.std.proofs.Common.{◌≡◌, ◌∷◌, [], length, map, ap, Err, None, Some, string_bytes, subst, sym, rules, arith}
+use Rattle.std.proofs.Common.{◌≡◌, ◌∷◌, [], length, map, ap, Err, None, Some, SFits, of_z, to_z, string_bytes, subst, sym, rules, arith}
 use Rattle.std.specs.Prelude.{IfErr, OnOk}
+use Rattle.std.proofs.lemmas.Int.{to_z-of_z}
 use Rattle.std.proofs.lemmas.Result.{on_ok_weaker}
+use Rattle.rvc_base.specs.Width.{num_width}
 use Rattle.cal_ast.specs.Tree as tree
 use Rattle.cal_ast.specs.Tree.{Tree, listed}
 use Rattle.cal_ast.specs.View.{expr_tree, optional_expr, stmt_tree, type_tree, var_tree}
@@ -9,16 +11,17 @@ use Rattle.cal_model.specs.Value.{Single}
 use Rattle.cal_model.specs.View.{shape_view}
 use Rattle.cal_model.specs.declared.kind.Shape as shapes
 use Rattle.expr_lower.specs.Growing.{IsFault}
+use Rattle.expr_lower.specs.Lowered.{IsPut}
 use Rattle.code_ir.specs.declared.instr.Instr.TheVariants as op
 use Rattle.stmt_lower.specs.declared.counter.Counter.{Counter}
-use Rattle.stmt_lower.specs.Stating.{AreStmts, IsBlock, IsStmt, block_code, each_next, no_more}
+use Rattle.stmt_lower.specs.Stating.{AreStmts, IsBlock, IsStmt, block_code, count_first, count_next, each_next, no_more}
 use Rattle.expr_lower.specs.Meant.{single_meant}
 use Rattle.list_lower.specs.ShapeMeant.{shape_meant}
 use Rattle.stmt_lower.specs.StmtSeen.{called, seen}
 use Rattle.stmt_lower.specs.SeenStmts.{AddsBlock, AddsStmt, AreWhyNot, IsWhyNot, behind, left_out_block}
-use Rattle.stmt_lower.specs.StmtWords.{body_of, foreach_of}
+use Rattle.stmt_lower.specs.StmtWords.{body_of, counted_of, foreach_of}
 use Rattle.expr_lower.proofs.Adding.{length_join, same_adds, no_items}
-use Rattle.stmt_lower.proofs.AddingStmts.{each_adds, each_fault, each_whole, none_added, list_open, list_variable_adds, variable_adds, variable_open, more_added, fault_among, alone_adds, fork_adds, while_adds, weight_item}
+use Rattle.stmt_lower.proofs.AddingStmts.{counted_adds, counted_fault, counted_whole, each_adds, each_fault, each_whole, none_added, list_open, list_variable_adds, variable_adds, variable_open, more_added, fault_among, alone_adds, fork_adds, while_adds, weight_item}
 use Rattle.stmt_lower.proofs.StmtForms.{stmt_block, stmt_foreach, stmt_if, stmt_while}
 use Rattle.stmt_lower.proofs.stmts.+lower_stmt.Goals as goal
 
@@ -47,8 +50,8 @@ repeat-returns-clause-ok t c = λ at.
     c.close.ensures.closed c.close.ensures.routines c.close.ensures.cells
     c.jump_at.ensures.aimed c.jump_at.ensures.routines c.jump_at.ensures.cells
 
-pub each-returns-clause-ok : goal.each-returns-clause-ok
-each-returns-clause-ok t c =
+pub each_between-returns-clause-ok : goal.each_between-returns-clause-ok
+each_between-returns-clause-ok t c =
     let found : single_meant (type_tree c.args.shape.now) ≡ Some c.in-Some.kind = sym c.in-Some.ensures in
     each_adds (seen c.args.scope.now) (type_tree c.args.shape.now) (expr_tree c.args.from.now) (expr_tree c.args.to.now) (body_of c.args.body.now) (string_bytes c.args.name.now.text) c.args.name.now.at c.args.at c.in-Some.kind c.in_ok-counter.counter
     c.args.draft.now c.take_cells.new.draft c.lower.new.draft c.lower-2.new.draft c.put_bounds.new.draft c.put.new.draft c.put_turn.new.draft c.each_body.new.draft c.put_less.new.draft c.put-2.new.draft c.put_next.new.draft c.exit_at.new.draft c.exit_at-2.new.draft
@@ -60,15 +63,15 @@ each-returns-clause-ok t c =
     c.exit_at.ensures.aimed c.exit_at.ensures.routines c.exit_at.ensures.cells
     c.exit_at-2.ensures.aimed c.exit_at-2.ensures.routines c.exit_at-2.ensures.cells
 
-pub each-returns-clause-whole : goal.each-returns-clause-whole
-each-returns-clause-whole t c =
+pub each_between-returns-clause-whole : goal.each_between-returns-clause-whole
+each_between-returns-clause-whole t c =
     let found : single_meant (type_tree c.args.shape.now) ≡ Some c.in-Some.kind = sym c.in-Some.ensures in
     each_whole (called c.args.scope.now) (seen c.args.scope.now) (type_tree c.args.shape.now) (expr_tree c.args.from.now) (expr_tree c.args.to.now) (body_of c.args.body.now) (string_bytes c.args.name.now.text) c.args.name.now.at c.args.at
     c.in_ok-counter.counter.variable c.in-Some.kind c.in_ok-counter.counter.kind found (ap (λ (x : Counter). x.kind) c.in_ok-counter.ensures.taken.is)
     c.in_ok-lower.ensures.whole c.in_ok-lower-2.ensures.whole c.in_ok-each_body.ensures.whole
 
-pub each-returns-in_err-each_body-clause-fault : goal.each-returns-in_err-each_body-clause-fault
-each-returns-in_err-each_body-clause-fault t c =
+pub each_between-returns-in_err-each_body-clause-fault : goal.each_between-returns-in_err-each_body-clause-fault
+each_between-returns-in_err-each_body-clause-fault t c =
     let found : single_meant (type_tree c.args.shape.now) ≡ Some c.in-Some.kind = sym c.in-Some.ensures in
     let made : IsWhyNot c.args.scope.now (foreach_of c.args.shape.now c.args.name.now c.args.from.now c.args.to.now c.args.body.now c.args.at) c.each_body.new.draft c.in_err-each_body.field-0.0 =
     each_fault (called c.args.scope.now) (seen c.args.scope.now) (type_tree c.args.shape.now) (expr_tree c.args.from.now) (expr_tree c.args.to.now) (body_of c.args.body.now) (string_bytes c.args.name.now.text) c.args.name.now.at c.args.at
@@ -77,8 +80,50 @@ each-returns-in_err-each_body-clause-fault t c =
     let same : c.from_residual-in_err-each_body.result ≡ Err c.in_err-each_body.field-0.0 = search rules in
     subst (λ r. IfErr r (IsWhyNot c.args.scope.now (foreach_of c.args.shape.now c.args.name.now c.args.from.now c.args.to.now c.args.body.now c.args.at) c.each_body.new.draft)) (sym same) made
 
-pub each-exit_at-requires-2 : goal.each-exit_at-requires-2
-each-exit_at-requires-2 t c =
+pub each_counted-returns-clause-ok : goal.each_counted-returns-clause-ok
+each_counted-returns-clause-ok t c = λ shape from to at counts.
+    let low_fits : SFits num_width c.args.span.low = search rules in
+    let high_fits : SFits num_width c.args.span.high = search rules in
+    let low_same : to_z num_width (of_z num_width c.args.span.low) ≡ c.args.span.low = to_z-of_z num_width c.args.span.low low_fits in
+    let high_same : to_z num_width (of_z num_width c.args.span.high) ≡ c.args.span.high = to_z-of_z num_width c.args.span.high high_fits in
+    on_ok_weaker c.put_count.result
+    (λ (p : IsPut (count_next c.in_ok-cell.cell (to_z num_width (of_z num_width c.args.span.high)) c.in_ok-turn.turn) c.each_body.new.draft c.put_count.new.draft).
+    counted_adds (seen c.args.scope.now) shape from to (body_of c.args.body.now) (string_bytes c.args.name.now.text) c.args.name.now.at at c.args.span c.in_ok-cell.cell
+    c.args.draft.now c.take_cell.new.draft c.put_first.new.draft c.put_turn_alone.new.draft c.each_body.new.draft c.put_count.new.draft c.in_ok-turn.turn
+    counts c.in_ok-cell.ensures.taken (subst (λ z. IsPut (count_first c.in_ok-cell.cell z) c.take_cell.new.draft c.put_first.new.draft) low_same c.in_ok-put_first.ensures.added) c.in_ok-turn.ensures.place c.in_ok-put_turn_alone.ensures.added c.in_ok-each_body.ensures.ok
+    (subst (λ z. IsPut (count_next c.in_ok-cell.cell z c.in_ok-turn.turn) c.each_body.new.draft c.put_count.new.draft) high_same p))
+    c.put_count.ensures.added
+
+pub each_counted-returns-clause-whole : goal.each_counted-returns-clause-whole
+each_counted-returns-clause-whole t c = λ shape from to at counts.
+    on_ok_weaker c.put_count.result
+    (λ (p : IsPut (count_next c.in_ok-cell.cell (to_z num_width (of_z num_width c.args.span.high)) c.in_ok-turn.turn) c.each_body.new.draft c.put_count.new.draft).
+    counted_whole (called c.args.scope.now) (seen c.args.scope.now) shape from to (body_of c.args.body.now) (string_bytes c.args.name.now.text) c.args.name.now.at at c.in_ok-cell.cell c.args.span
+    counts c.in_ok-each_body.ensures.whole)
+    c.put_count.ensures.added
+
+pub each-returns-in-Some-clause-ok : goal.each-returns-in-Some-clause-ok
+each-returns-in-Some-clause-ok t c =
+    c.each_counted.ensures.ok (type_tree c.args.shape.now) (expr_tree c.args.from.now) (expr_tree c.args.to.now) c.args.at c.in-Some.ensures.counts
+
+pub each-returns-in-Some-clause-whole : goal.each-returns-in-Some-clause-whole
+each-returns-in-Some-clause-whole t c =
+    c.each_counted.ensures.whole (type_tree c.args.shape.now) (expr_tree c.args.from.now) (expr_tree c.args.to.now) c.args.at c.in-Some.ensures.counts
+
+pub each-returns-in-Some-clause-fault : goal.each-returns-in-Some-clause-fault
+each-returns-in-Some-clause-fault t c =
+    c.each_counted.ensures.fault (type_tree c.args.shape.now) (expr_tree c.args.from.now) (expr_tree c.args.to.now) c.args.at c.in-Some.ensures.counts
+
+pub each_counted-returns-in_err-each_body-clause-fault : goal.each_counted-returns-in_err-each_body-clause-fault
+each_counted-returns-in_err-each_body-clause-fault t c = λ shape from to at counts.
+    let made : IsWhyNot c.args.scope.now (counted_of shape c.args.name.now from to c.args.body.now at) c.each_body.new.draft c.in_err-each_body.field-0.0 =
+    counted_fault (called c.args.scope.now) (seen c.args.scope.now) shape from to (body_of c.args.body.now) (string_bytes c.args.name.now.text) c.args.name.now.at at c.in_ok-cell.cell c.args.span
+    c.each_body.new.draft c.in_err-each_body.field-0.0 counts c.in_err-each_body.ensures.fault in
+    let same : c.from_residual-in_err-each_body.result ≡ Err c.in_err-each_body.field-0.0 = search rules in
+    subst (λ r. IfErr r (IsWhyNot c.args.scope.now (counted_of shape c.args.name.now from to c.args.body.now at) c.each_body.new.draft)) (sym same) made
+
+pub each_between-exit_at-requires-2 : goal.each_between-exit_at-requires-2
+each_between-exit_at-requires-2 t c =
     let l9 = length_join c.put_less.new.draft.instrs.items c.put-2.new.draft.instrs.items (op.JumpIfNot 0 ∷ []) c.in_ok-put-2.ensures.added.is in
     let l10 = length_join c.put-2.new.draft.instrs.items c.put_next.new.draft.instrs.items (each_next c.in_ok-counter.counter c.in_ok-turn.turn) c.in_ok-put_next.ensures.added.is in
     let size = c.exit_at.ensures.size in

@@ -30,6 +30,12 @@ decreases-repeat l = 4 + weight (listed (map stmt_tree l.body.now))
 abbrev pub decreases-each : goal.decreases-each
 decreases-each l = 4 + weight (listed (map stmt_tree l.body.now))
 
+abbrev pub decreases-each_counted : goal.decreases-each_counted
+decreases-each_counted l = 3 + weight (listed (map stmt_tree l.body.now))
+
+abbrev pub decreases-each_between : goal.decreases-each_between
+decreases-each_between l = 3 + weight (listed (map stmt_tree l.body.now))
+
 abbrev pub decreases-each_body : goal.decreases-each_body
 decreases-each_body l = 2 + weight (listed (map stmt_tree l.body.now))
 

@@ -7,10 +7,11 @@ use Rattle.net_model.specs.Cell.{AreRooms}
 use Rattle.net_model.specs.Ready.{OnCell}
 use Rattle.net_state.specs.Held.{held_of, seen}
 use Rattle.net_state.specs.Moving.{SameActors}
+use Rattle.net_state.specs.TakingBack.{NoMoreWait}
 use Rattle.net_state.specs.Working.{TriedAt, HasRoomRow, MayWork, TriesAt}
 use Rattle.net_state.proofs.Coming.{on_cell, place_of}
 use Rattle.net_state.proofs.Slices.{written_back}
-use Rattle.net_state.proofs.Bursting.{tried_rooms, tried_same, tried_working, tries_at, rooms_of_cell}
+use Rattle.net_state.proofs.Bursting.{tried_fewer, tried_rooms, tried_same, tried_working, tries_at, rooms_of_cell}
 use Rattle.net_state.proofs.network.NetState.try_fire.Goals as goal
 
 pub try_at-requires-clause-rooms : goal.try_at-requires-clause-rooms
@@ -74,6 +75,9 @@ returns g c =
           c.args.inst.0 c.deref.result.now row_at c.args.action.0 c.try_at.result new b free);
       same_actors = subst (λ h. SameActors (map g.A.Firing.cell h.cells) new) c.self.view_is
           (tried_same old c.self.inside.links.items c.self.inside.capacities.items c.self.inside.waited.items c.self.invariant.0 (map vec_items c.self.inside.rooms.items) c.self.invariant.1
+          c.args.inst.0 c.deref.result.now row_at c.args.action.0 c.try_at.result new b free);
+      fewer = subst (λ h. NoMoreWait (seen g.A.Firing.cell h) (held_of new c.self.inside.links.items c.self.inside.capacities.items c.self.inside.waited.items)) c.self.view_is
+          (tried_fewer old c.self.inside.links.items c.self.inside.capacities.items c.self.inside.waited.items c.self.invariant.0 (map vec_items c.self.inside.rooms.items) c.self.invariant.1
           c.args.inst.0 c.deref.result.now row_at c.args.action.0 c.try_at.result new b free);
       links = ap (λ h. h.links) c.self.view_is;
       capacities = ap (λ h. h.capacities) c.self.view_is;

@@ -1,0 +1,10 @@
+pub mod Taking
+pub mod Tests
+pub mod ListSteps
+mod Climbing
+mod Nesting
+mod Going
+mod Chains
+mod Primaries
+mod Exits
+mod Pushed

@@ -1,0 +1,154 @@
+//! Types, their arguments, and generators, as they are made of their parts.
+
+ghost use Rattle.std.specs.Prelude.{◌≡◌, ◌+◌, ◌≤◌, ◌-◌, ◌++◌, ◌∷◌, [], IfOk, map, max, string_bytes};
+ghost use Rattle.cal_ast.specs.Tree.{gen, nil, type_of, shape_arg as shape_arg_tree, value_arg as value_arg_tree};
+ghost use Rattle.cal_ast.specs.View.{expr_tree, gen_tree, ident_tree, type_arg_tree, type_tree};
+ghost use Rattle.cal_expr.specs.Steps.{Does, each_type_arg, tall_type, type_step};
+
+use crate::cursor::expect;
+use crate::fault::Fault;
+use crate::tall::{TallExpr, TallGen, TallGens, TallType, TallTypeArg, TallTypeArgs};
+use cal_ast::{Gen, Ident, TypeArg, TypeExpr};
+use cal_lexer::{Token, Word};
+use std::alloc::{AllocError, Global};
+
+/// A type without arguments.
+pub fn bare_type(alloc: Global, name: Ident) -> TallType
+    ensures is { type_tree result.shape ≡ type_of (ident_tree name) nil name.at }
+    ensures low { result.high ≡ 1 }
+{
+    let at = name.at;
+    TallType {
+        shape: TypeExpr {
+            name,
+            args: Vec::new(alloc),
+            at,
+        },
+        high: 1,
+    }
+}
+
+/// A type with arguments, whose closing parenthesis is taken.
+pub fn closed_type(
+    tokens: &mut &[Token],
+    room: u32,
+    name: Ident,
+    args: TallTypeArgs,
+) -> Result<TallType, Fault>
+    requires { args.high ≤ room - 1 }
+    ensures told { Does tall_type room
+        (type_step (string_bytes name.text) name.at (each_type_arg args)) result tokens.old.now
+        tokens.new.now }
+    ensures high { IfOk result (λ x. x.high ≡ args.high + 1) }
+{
+    expect(tokens, Word::RightParen)?;
+    let at = name.at;
+    let high = args.high + 1;
+    Ok(TallType {
+        shape: TypeExpr {
+            name,
+            args: args.args,
+            at,
+        },
+        high,
+    })
+}
+
+/// An argument that is a type.
+pub fn shape_arg(name: Ident, shape: TallType) -> TallTypeArg
+    ensures is { type_arg_tree result.arg
+        ≡ shape_arg_tree (ident_tree name) (type_tree shape.shape) }
+    ensures high { result.high ≡ shape.high }
+{
+    TallTypeArg {
+        arg: TypeArg::Shape {
+            name,
+            shape: shape.shape,
+        },
+        high: shape.high,
+    }
+}
+
+/// An argument that is a value.
+pub fn value_arg(name: Ident, value: TallExpr) -> TallTypeArg
+    ensures is { type_arg_tree result.arg
+        ≡ value_arg_tree (ident_tree name) (expr_tree value.expr) }
+    ensures high { result.high ≡ value.high }
+{
+    TallTypeArg {
+        arg: TypeArg::Value {
+            name,
+            value: value.expr,
+        },
+        high: value.high,
+    }
+}
+
+/// A generator that begins here.
+pub fn generated(at: u32, shape: TallType, name: Ident, from: TallExpr, to: TallExpr) -> TallGen
+    ensures is { gen_tree result.generator
+        ≡ gen (type_tree shape.shape) (ident_tree name) (expr_tree from.expr)
+        (expr_tree to.expr) at }
+    ensures high { result.high ≡ max shape.high (max from.high to.high) }
+{
+    TallGen {
+        generator: Gen {
+            shape: shape.shape,
+            name,
+            from: from.expr,
+            to: to.expr,
+            at,
+        },
+        high: shape.high.max(from.high.max(to.high)),
+    }
+}
+
+/// No arguments.
+pub fn no_type_args(alloc: Global) -> TallTypeArgs
+    ensures is { map type_arg_tree result.args.items ≡ [] }
+    ensures low { result.high ≡ 0 }
+{
+    TallTypeArgs {
+        args: Vec::new(alloc),
+        high: 0,
+    }
+}
+
+/// These arguments and one more.
+pub fn with_type_arg(found: TallTypeArgs, next: TallTypeArg) -> Result<TallTypeArgs, AllocError>
+    ensures is { IfOk result (λ xs. map type_arg_tree xs.args.items
+        ≡ map type_arg_tree found.args.items ++ type_arg_tree next.arg ∷ []) }
+    ensures high { IfOk result (λ xs. xs.high ≡ max found.high next.high) }
+{
+    let mut args = found.args;
+    args.push(next.arg)?;
+    Ok(TallTypeArgs {
+        args,
+        high: found.high.max(next.high),
+    })
+}
+
+/// No generators.
+pub fn no_gens(alloc: Global) -> TallGens
+    ensures is { map gen_tree result.gens.items ≡ [] }
+    ensures low { result.high ≡ 0 }
+{
+    TallGens {
+        gens: Vec::new(alloc),
+        high: 0,
+    }
+}
+
+/// These generators and one more.
+pub fn with_gen(found: TallGens, next: TallGen) -> Result<TallGens, AllocError>
+    ensures is { IfOk result (λ xs. map gen_tree xs.gens.items
+        ≡ map gen_tree found.gens.items ++ gen_tree next.generator ∷ []) }
+    ensures high { IfOk result (λ xs. xs.high ≡ max found.high next.high) }
+{
+    let mut gens = found.gens;
+    gens.push(next.generator)?;
+    Ok(TallGens {
+        gens,
+        high: found.high.max(next.high),
+    })
+}

@@ -1,0 +1,233 @@
+//! Actors with what their imports lead to, or the rule of scope that one of their files breaks.
+
+use crate::files::{cut, file_of, printed};
+use cal_ast::{Actor, Body, File, Function, Ident, Member, UnitFile, VarDecl};
+use cal_imports::{FileSet, Scope, resolve};
+use rvc_base::Front;
+use std::alloc::Global;
+use std::process::Abort;
+use std::test::Fail;
+
+/// The set of these files, if each is one. They stand with `\nfile ` between as `CLASS TEXT`, and are numbered from 1.
+fn set_of(a: Global, files: &str) -> Result<Option<FileSet>, Fail> {
+    let mut set = FileSet::new(a)?;
+    let mut number = 1;
+    for named in files.split("\nfile ") {
+        let (class, text) = cut(named, " ");
+        let Ok(file) = file_of(a, text.as_bytes()) else {
+            return Ok(None);
+        };
+        if !set.has(class) {
+            set.add(class, number, file)?;
+        }
+        number = if number < 9 { number + 1 } else { 9 };
+    }
+    Ok(Some(set))
+}
+
+/// What a file with this body prints as.
+fn body_printed(a: Global, body: Body) -> Result<String, Fail> {
+    let file = File {
+        package: None,
+        imports: Vec::new(a),
+        body,
+        at: 0,
+    };
+    printed(a, &file)
+}
+
+/// What a member prints as: what stands between `unit U : ` and ` end` in a unit that has it alone.
+fn member_printed(a: Global, member: Member) -> Result<String, Fail> {
+    let mut members = Vec::new(a);
+    members.push(member)?;
+    let name = Ident {
+        text: String::from_str(a, "U")?,
+        at: 0,
+    };
+    let unit = UnitFile {
+        name,
+        members,
+        at: 0,
+    };
+    let whole = body_printed(a, Body::Unit(unit))?;
+    let text = whole.as_str();
+    let text = text.strip_prefix("unit U : ").unwrap_or(text);
+    let text = text.strip_suffix(" end ").unwrap_or(text);
+    Ok(String::from_str(a, text.strip_suffix(" ;").unwrap_or(text))?)
+}
+
+/// Adds a declaration of another file to a text.
+fn show_outer(text: &mut String, name: &str, file: u32, printed: &str) -> Result<(), Fail> {
+    text.push_str("; ")?;
+    text.push_str(name)?;
+    text.push_str(" in ")?;
+    text.push((b'0' + (file % 10) as u8) as char)?;
+    text.push_str(": ")?;
+    text.push_str(printed)?;
+    Ok(())
+}
+
+/// A scope as text: the actor, then each variable and each function of other files.
+fn scope_shown(a: Global, scope: &Scope) -> Result<String, Fail> {
+    let whole = body_printed(a, Body::Actor(scope.actor.copy(a)?))?;
+    let mut text = String::from_str(a, whole.as_str().trim_end())?;
+    for v in &scope.vars {
+        let shown = member_printed(a, Member::Var(v.decl.copy(a)?))?;
+        show_outer(&mut text, v.name.as_str(), v.file, shown.as_str())?;
+    }
+    for f in &scope.funs {
+        let shown = member_printed(a, Member::Function(f.decl.copy(a)?))?;
+        show_outer(&mut text, f.name.as_str(), f.file, shown.as_str())?;
+    }
+    Ok(text)
+}
+
+/// The answer for files, of which the first is the one that is asked for.
+fn answer(a: Global, files: &str) -> Result<String, Fail> {
+    let Some(set) = set_of(a, files)? else {
+        return Ok(String::from_str(a, "no files")?);
+    };
+    let (class, _) = cut(files, " ");
+    if !set.has(class) {
+        return Ok(String::from_str(a, "no class")?);
+    }
+    match resolve(&set, class) {
+        Ok(scope) => scope_shown(a, &scope),
+        Err(Front::Refused(r)) => {
+            let (rule, file, at) = (r.rule, r.place.file, r.place.offset);
+            Ok(format!(in a; "{rule} in {file} at {at}")?)
+        }
+        Err(Front::Memory) => Ok(String::from_str(a, "Memory")?),
+    }
+}
+
+/// Stops unless the files of a row have their answer.
+fn hold_row(rt: &impl Abort, a: Global, row: &str, behind: &str) -> Result<(), Fail> {
+    let (want, files) = cut(row, "\nfile ");
+    let found = answer(a, files)?;
+    let whole = format!(in a; "{want}{behind}")?;
+    let holds = found.as_str() == whole.as_str();
+    assert!(rt; holds, "{want} is wanted, and {found} is given");
+    Ok(())
+}
+
+/// Stops at the first row of a table whose answer is another; behind what is wanted stands a text that all rows have.
+/// Each row begins with `# ` and what is wanted, and has a line `file ` for each file.
+fn hold(rt: &impl Abort, a: Global, table: &str, behind: &str) -> Result<(), Fail> {
+    for row in table.split("\n# ") {
+        if !row.is_empty() {
+            hold_row(rt, a, row, behind)?;
+        }
+    }
+    Ok(())
+}
+
+#[test]
+fn names_that_imports_bring(rt: HostRuntime) -> Result<(), Fail> {
+    hold(&rt, rt.alloc(), BROUGHT, SHOWN)
+}
+
+/// What the declarations of the unit `lib.U` print as.
+const SHOWN: &str =
+    "; lib.U.k in 2: int k = 1; lib.U.g in 2: function g ( int x ) --> int : x + lib.U.k end";
+
+/// Actors whose imports bring names of the unit `lib.U`: one name, and all; for parameters and ports; hidden by a file's own
+/// declaration, and by an inner name; and the same thing twice.
+const BROUGHT: &str = "
+# actor A ( ) ==> : int x = lib.U.k ; end
+file A import lib.U.k; actor A() ==> : int x = k; end
+file lib.U package lib; unit U : int k = 1; function g(int x) --> int : x + k end end
+# actor A ( ) ==> : int x = lib.U.g ( lib.U.k ) ; end
+file A import lib.U.*; actor A() ==> : int x = g(k); end
+file lib.U package lib; unit U : int k = 1; function g(int x) --> int : x + k end end
+# actor A ( int ( size = lib.U.k ) p = lib.U.k ) int ( size = lib.U.k ) In ==> : end
+file A import lib.U.k; actor A(int(size=k) p = k) int(size=k) In ==> : end
+file lib.U package lib; unit U : int k = 1; function g(int x) --> int : x + k end end
+# actor A ( ) ==> : int k = 2 ; int x = lib.U.g ( k ) ; end
+file A import lib.U.*; actor A() ==> : int k = 2; int x = g(k); end
+file lib.U package lib; unit U : int k = 1; function g(int x) --> int : x + k end end
+# actor A ( ) ==> : function f ( int k ) --> int : k end end
+file A import lib.U.*; actor A() ==> : function f(int k) --> int : k end end
+file lib.U package lib; unit U : int k = 1; function g(int x) --> int : x + k end end
+# actor A ( ) ==> : int x = lib.U.k ; end
+file A import lib.U.k; import lib.U.*; actor A() ==> : int x = k; end
+file lib.U package lib; unit U : int k = 1; function g(int x) --> int : x + k end end";
+
+#[test]
+fn scopes_of_several_files(rt: HostRuntime) -> Result<(), Fail> {
+    hold(&rt, rt.alloc(), WHOLE, "")
+}
+
+/// Actors whose files are whole, with what they print as: a unit's declarations stand behind those that it imports, and each
+/// file is gathered once; an import leads to what it doesn't bring; calls that don't lead back.
+const WHOLE: &str = "
+# actor A ( ) ==> : int x = 1 ; end
+file p.A package p; actor A() ==> : int x = 1; end
+# actor A ( ) ==> : int x = V.v + W.w ; end; U.u in 4: int u = 1; V.v in 2: int v = U.u; W.w in 3: int w = U.u
+file A import V.*; import W.*; actor A() ==> : int x = v + w; end
+file V import U.*; unit V : int v = u; end
+file W import U.u; import V.v; unit W : int w = u; end
+file U unit U : int u = 1; end
+# actor A ( ) ==> : int x = V.v ; end; U.u in 3: int u = 1; V.v in 2: int v = U.u; V.t in 2: int t = 2
+file A import V.v; actor A() ==> : int x = v; end
+file V import U.*; unit V : int v = u; int t = 2; end
+file U unit U : int u = 1; end
+# actor A ( ) ==> : function f ( int x ) --> int : g ( g ( x ) ) end function g ( int x ) --> int : x end end
+file A actor A() ==> : function f(int x) --> int : g(g(x)) end function g(int x) --> int : x end end";
+
+#[test]
+fn files_that_break_a_rule(rt: HostRuntime) -> Result<(), Fail> {
+    hold(&rt, rt.alloc(), BROKEN, "")
+}
+
+/// Actors of which a file breaks a rule: an unknown name, of a unit, and behind an import of another file; different things
+/// under one name, also if the file's own declaration hides both; a file that isn't there; routines that call themselves,
+/// directly, indirectly, in a unit, and procedures; a file that isn't what is asked for, by its kind, its name, its package;
+/// and imports in a circle.
+const BROKEN: &str = "
+# S1 in 1 at 13
+file A import lib.U.m; actor A() ==> : end
+file lib.U package lib; unit U : int k = 1; function g(int x) --> int : x + k end end
+# S1 in 1 at 36
+file A import V.*; actor A() ==> : int x = u; end
+file V import U.*; unit V : int v = u; end
+file U unit U : int u = 1; end
+# S1 in 2 at 17
+file A import V.*; actor A() ==> : end
+file V unit V : int v = u; end
+# S2 in 1 at 16
+file A import lib.U.*; import V.k; actor A() ==> : int k = 3; end
+file lib.U package lib; unit U : int k = 1; function g(int x) --> int : x + k end end
+file V unit V : int k = 2; end
+# S2 in 2 at 20
+file A import V.*; actor A() ==> : end
+file V unit V : int k = 1; int k = 2; end
+# S3 in 1 at 0
+file A import lib.U.k; actor A() ==> : end
+# S4 in 1 at 44
+file F actor F() ==> : function f(int x) --> int : f(x) end end
+# S4 in 1 at 85
+file F actor F() ==> : function f(int x) --> int : 1 + g(x) end function g(int x) --> int : f(x) end end
+# S4 in 2 at 47
+file A import V.*; actor A() ==> : end
+file V unit V : function f(int x) --> int var int y = f(x) : y end end
+# S4 in 1 at 82
+file P actor P() ==> : procedure p() begin if true then q(); end end procedure q() begin p(); end end
+# S5 in 1 at 0
+file U unit U : end
+# S5 in 1 at 0
+file B actor A() ==> : end
+# S5 in 1 at 0
+file p.A actor A() ==> : end
+# S5 in 1 at 0
+file A package p; actor A() ==> : end
+# S5 in 2 at 0
+file A import B.x; actor A() ==> : end
+file B actor B() ==> : int x = 1; end
+# S6 in 3 at 11
+file A import U.*; actor A() ==> : end
+file U import V.*; unit U : end
+file V package q; import U.*; unit V : end
+# S6 in 2 at 0
+file A import U.*; actor A() ==> : end
+file U import U.*; unit U : end";
