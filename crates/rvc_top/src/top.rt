@@ -60,8 +60,8 @@ use std::thread::Threads;
 ///   refused never is (`certify_incomplete`).
 /// - `replay`: the trace was judged as [`replay_job`](replay_job::replay_job) says: `Done` if it is the text of a run of the
 ///   network that the files mean, over the bytes of the feeds, and `NotRun` at the first line that isn't. No channel is
-///   opened. What conforms is judged so, unless an actor has a form without code, memory runs out, or reading or writing
-///   fails (`replay_complete`); what is refused never is (`replay_incomplete`).
+///   opened. What conforms is judged so, unless memory runs out, or reading or writing fails (`replay_complete`); what is
+///   refused never is (`replay_incomplete`).
 /// - `generated`: `gen` made a network and ran it as [`gen_job`](gen_job::gen_job) says, over an input that was generated too. No
 ///   file is read and no feed is opened (`gen_reads_no_file`, `gen_opens_no_feed`). If the generated files conform with the
 ///   port words, their network is run, unless memory runs out, writing fails or the job is refused for what `IsStillRefused`
