@@ -47,9 +47,9 @@ use std::thread::Threads;
 /// what [`run_job`](run_job::run_job) comes: `Ran` for these four answers, and a case for each other one). **If every actor
 /// is certified, which the report's count shows, the outputs of every quiet run over these inputs are those bytes, or
 /// continue them if this run ended otherwise** (`determinate`: `TellsQuietRuns` of [`determinate_jobs`]). If the library
-/// tells of each name, and the files and the words conform to a network, that one is run, unless the job asks for what isn't
-/// built yet or lets links grow too far, or memory runs out, or reading or writing fails (`run_complete`); and what is
-/// refused never ends a run (`run_incomplete`, `run_too_far`).
+/// tells of each name, and the files and the words conform to a network, that one is run, unless the job lets links grow too
+/// far, memory runs out, or reading or writing fails (`run_complete`); and what is refused never ends a run
+/// (`run_incomplete`, `run_too_far`).
 ///
 /// - `check`: the job was checked as [`check_job`](check_job::check_job) says: `Done` if the files conform and there is no
 ///   port word. Nothing is opened. What conforms is `Done`, unless memory runs out or reading or writing fails
