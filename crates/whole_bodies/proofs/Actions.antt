@@ -85,7 +85,7 @@ module _ (actor : Actor) (rs : Routines) (have : AllHaveRoutines actor rs) where
   firing_none act names r is =
       let known : Names = with_patterns actor (action_view act).patterns (names_of actor) in
       let behind : AreReady actor.funs (with_locals (action_view act).locals (with_patterns actor (action_view act).patterns (names_of actor))) (behind_locals names (action_view act).locals) =
-          ready_locals actor.funs (action_view act).locals (with_patterns actor (action_view act).patterns (names_of actor)) names is.locals r in
+      ready_locals actor.funs (action_view act).locals (with_patterns actor (action_view act).patterns (names_of actor)) names is.locals r in
       none_both (left_out_locals rs.functions names (action_view act).locals) (left_out_behind rs (behind_locals names (action_view act).locals) act)
       (locals_none actor.funs rs.functions (action_view act).locals (with_patterns actor (action_view act).patterns (names_of actor)) names r is.locals
       (locals_any {P = HasRoutine actor.funs rs.functions} {Q = λ name. Unit {0}} have.functions (λ name. tt) (action_view act).locals))

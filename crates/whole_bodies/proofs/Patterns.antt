@@ -60,10 +60,10 @@ ready_names funs t q k [] known names typed r = r
 ready_names funs t q k (text ∷ texts) known names typed r =
     let here : IsType (pattern_shape t q.repeat) = typed (omega arith) in
     let stands : StandsFor (token_known t q text) (pattern_shape t q.repeat) (Tokens q.port k (length q.names)) =
-        record { typed = here; kind = pattern_kind t q.repeat; flat = pattern_flat t q.repeat q.port k (length q.names); cell = λ e. absurd (false_true e) } in
+    record { typed = here; kind = pattern_kind t q.repeat; flat = pattern_flat t q.repeat q.port k (length q.names); cell = λ e. absurd (false_true e) } in
     let one : AreReady funs (with_known (token_known t q text) known) (pattern_seat t q k text ∷ names) = ready_front funs known names (token_known t q text) (pattern_shape t q.repeat) (Tokens q.port k (length q.names)) stands r in
     let all : AreReady funs (with_pattern (kind_of_tokens t q.repeat) texts (with_known (token_known t q text) known)) (pattern_seats_from t q (suc k) texts ++ (pattern_seat t q k text ∷ names)) =
-        ready_names funs t q (suc k) texts (with_known (token_known t q text) known) (pattern_seat t q k text ∷ names) (λ some. here) one in
+    ready_names funs t q (suc k) texts (with_known (token_known t q text) known) (pattern_seat t q k text ∷ names) (λ some. here) one in
     let same : (pattern_seats_from t q (suc k) texts ++ (pattern_seat t q k text ∷ [])) ++ names ≡ pattern_seats_from t q (suc k) texts ++ (pattern_seat t q k text ∷ names) = simp append_assoc in
     subst (λ (ns : List Name). AreReady funs (with_pattern (kind_of_tokens t q.repeat) texts (with_known (token_known t q text) known)) ns) (sym same) all
 
@@ -73,7 +73,7 @@ ready_patterns funs actor [] known names typed r = r
 ready_patterns funs actor (q ∷ qs) known names typed r =
     let t : Scalar = kind_of_port actor.ins q.port in
     let one : AreReady funs (with_pattern (kind_of_tokens (kind_of_port actor.ins q.port) q.repeat) q.names known) (pattern_seats_from (kind_of_port actor.ins q.port) q 0 q.names ++ names) =
-        ready_names funs (kind_of_port actor.ins q.port) q 0 q.names known names typed.0 r in
+    ready_names funs (kind_of_port actor.ins q.port) q 0 q.names known names typed.0 r in
     let all = ready_patterns funs actor qs (with_pattern (kind_of_tokens (kind_of_port actor.ins q.port) q.repeat) q.names known) (pattern_seats_from (kind_of_port actor.ins q.port) q 0 q.names ++ names) typed.1 one in
     let same : (pattern_seats actor.ins qs ++ pattern_seats_from (kind_of_port actor.ins q.port) q 0 q.names) ++ names ≡ pattern_seats actor.ins qs ++ (pattern_seats_from (kind_of_port actor.ins q.port) q 0 q.names ++ names) = simp append_assoc in
     subst (λ (ns : List Name). AreReady funs (with_patterns actor qs (with_pattern (kind_of_tokens (kind_of_port actor.ins q.port) q.repeat) q.names known)) ns) (sym same) all

@@ -119,7 +119,7 @@ module _ (funs : List Fun) (procs : List Proc) (rs : Routines) where
       let s : IsSeen names text may.meant = r.seen text may.meant may.is_meant in
       let cell : (c : ℕ) × (s.name.seat ≡ Cell c) = r.cells text may.meant s.name may.is_meant may.changes s.is in
       let stands : named text names ≡ Some (local_of s.name.text s.name.shape cell.0) =
-          s.is ∙ ap (λ (seat : Seat). Some (record { text = s.name.text; shape = s.name.shape; seat = seat })) cell.1 in
+      s.is ∙ ap (λ (seat : Seat). Some (record { text = s.name.text; shape = s.name.shape; seat = seat })) cell.1 in
       let inside : kind_inside (kind_of_type s.name.shape) ks ≡ Some k = subst (λ (l : Kind). kind_inside l ks ≡ Some k) (sym s.kind) may.inside in
       let p : IsPartOf s.name.shape places k = part_of s.name.shape places known ks k are inside in
       set_none rs.functions names text s.name.text cell.0 s.name.shape p.shape places value at stands s.typed p.is
