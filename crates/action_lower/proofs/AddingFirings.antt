@@ -117,8 +117,7 @@ values_erased fs names [] = refl
 values_erased fs names (e ∷ es) = ap (λ o. o or_else left_out_values fs (map erase names) es) (out_erased fs names e) ∙ ap (λ o. left_out_in fs names e or_else o) (values_erased fs names es)
 
 repeated_erased : (fs : List Function) (names : List Name) (times : ℕ) (es : List Expr) → left_out_repeated fs (map erase names) times es ≡ left_out_repeated fs names times es
-repeated_erased fs names times [] = refl
-repeated_erased fs names times (e ∷ es) = fills_erased fs names (items_of_any times) (listed (map expr_tree (e ∷ es)))
+repeated_erased fs names times es = fills_erased fs names (items_of_any times) (listed (map expr_tree es))
 
 output_erased : (fs : List Function) (names : List Name) (o : BoundOutput) → left_out_output fs (map erase names) o ≡ left_out_output fs names o
 output_erased fs names o = go o.repeat

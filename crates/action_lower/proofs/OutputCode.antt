@@ -1,5 +1,5 @@
 -- Code of outputs that is added to a draft.
-use Rattle.std.proofs.Common.{◌≡◌, ℕ, suc, ◌+◌, ◌*◌, ◌<◌, ◌≤◌, ◌⊎◌, inl, inr, ⊎_elim, List, [], ◌∷◌, ◌++◌, length, map, take, drop, refl, sym, ap, subst, ◌∙◌, Option, None, Some, arith, append_assoc, append-nil, length-append}
+use Rattle.std.proofs.Common.{◌≡◌, ℕ, zero, suc, ◌+◌, ◌*◌, ◌<◌, ◌≤◌, ◌⊎◌, inl, inr, ⊎_elim, List, [], ◌∷◌, ◌++◌, length, map, take, drop, refl, sym, ap, subst, ◌∙◌, Option, None, Some, arith, append_assoc, append-nil, length-append}
 use Rattle.std.specs.Prelude.{get_or}
 use Rattle.std.proofs.lemmas.List.{length-map, map-append, take_more, take-append-drop}
 use Rattle.rvc_base.specs.declared.scalar.Scalar.{Scalar}
@@ -24,7 +24,7 @@ use Rattle.expr_lower.specs.Names.{Name}
 use Rattle.expr_lower.proofs.Adding.{same_adds, then_put}
 use Rattle.expr_lower.proofs.PartValues.{sized_is}
 use Rattle.expr_lower.specs.Parted.{sized}
-use Rattle.list_lower.specs.Filling.{AreFills, IsFill}
+use Rattle.list_lower.specs.Filling.{AreFills, IsFill, no_item}
 use Rattle.list_lower.specs.LeftOut.{left_out_fill, left_out_fills}
 use Rattle.action_lower.specs.declared.turns.Area.{Area}
 use Rattle.list_lower.specs.declared.starts.Row.{Row}
@@ -214,6 +214,31 @@ turns-added fs names es times shape kind area old d1 d2 new any taken f p =
           (subst (λ k. AreFills fs names (listed es) (items_of_any times) area.rows base k a.code d2.cells) end
           (subst (λ is. AreFills fs names (listed es) (items_of_any times) area.rows (length is) d1.cells a.code d2.cells) taken.instrs a.has)));
     }
+
+-- no lists send nothing
+no-turns : (kind : Scalar) (each times to from : ℕ) → turn_stores kind each 0 times to from ≡ []
+no-turns kind each zero to from = refl
+no-turns kind each (suc times) to from = no-turns kind each times (to + 0) (from + 1)
+
+pub none-repeated : (fs : List Function) (names : List Name) (times : ℕ) (kind : Scalar) (draft : Draft) → Adds (IsRepeated fs names kind times []) draft draft
+none-repeated fs names times kind draft =
+    let rows : draft.cells ≡ draft.cells + 0 * times = omega arith in
+    let base : ℕ = length draft.instrs.items in
+    let code : [] ++ turn_stores kind times 0 times draft.cells draft.cells ≡ [] = no-turns kind times times draft.cells draft.cells in
+    let filled : AreFills fs names (listed []) (items_of_any times) draft.cells base (draft.cells + 0 * times) [] (draft.cells + 0 * times) = no_item names (items_of_any times) draft.cells base (draft.cells + 0 * times) in
+    record {
+      code = [];
+      is = sym (append-nil draft.instrs.items);
+      routines = refl;
+      has = subst (λ cs. IsRepeated fs names kind times [] base draft.cells cs draft.cells) code
+          (in_turns [] base draft.cells draft.cells draft.cells [] rows
+          (subst (λ m. AreFills fs names (listed []) (items_of_any times) draft.cells base (draft.cells + 0 * times) [] m) (sym rows) filled));
+    }
+
+-- an empty list
+pub none-is : {X : Type 0} (xs : List X) → length xs < 1 → xs ≡ []
+none-is [] low = refl
+none-is (x ∷ xs) low = absurd (omega arith)
 
 -- a list of one
 pub one-is : {X : Type 0} (xs : List X) (x : X) → 1 ≤ length xs → length xs < 2 → x ≡ get_or xs 0 x → xs ≡ x ∷ []

@@ -31,9 +31,8 @@ left_out_values fs names (e ∷ es) = left_out_in fs names e or_else left_out_va
 
 -- .. of a repeated output, whose values are lists
 abbrev pub left_out_repeated : List Function → List Name → ℕ → List Expr → Option ℕ
-left_out_repeated fs names times [] = Some 0
-left_out_repeated fs names times (e ∷ es) =
-    left_out_fills fs names (items_of_any times) (listed (map expr_tree (e ∷ es)))
+left_out_repeated fs names times es =
+    left_out_fills fs names (items_of_any times) (listed (map expr_tree es))
 
 -- .. of an output
 abbrev pub left_out_output : List Function → List Name → BoundOutput → Option ℕ

@@ -127,7 +127,7 @@ fn put_repeated(
     let kind = kind_on(ports, output.port);
     let shape = items_of_any(alloc, times)?;
     match output.values.as_slice() {
-        [] => Err(LowerFault::NotLowered { at: 0 }),
+        [] => Ok(draft.cells),
         [value] => put_list(names, callees, value, &shape, kind, draft),
         values => put_lists(names, callees, values, &shape, times, kind, draft),
     }

@@ -13,5 +13,7 @@ pub mod Inside
 pub mod ClearedStand
 pub mod ClearedMade
 pub mod Together
+pub mod WholeRoutines
+pub mod WholeActors
 pub mod AllowedRoutines
 pub mod AllowedEntries

@@ -195,12 +195,12 @@ module _ (actor : Actor) (sound : IsSound actor) where
   laid : AreLaid globals low low low []
   laid = globals-laid actor.vars low low low sound.vars (omega arith) (omega arith)
 
-  fun-found : (k : ℕ) (f : Fun) → slice_get actor.funs k ≡ Some f → fun_named f.name actor.funs ≡ Some f
+  pub fun-found : (k : ℕ) (f : Fun) → slice_get actor.funs k ≡ Some f → fun_named f.name actor.funs ≡ Some f
   fun-found k f e =
       found-at (λ (x : Fun). x.name) fun_named (λ text. refl) (λ text x xs. refl) actor.funs k f
       (distinct-right (map (λ x. x.name) actor.vars) (map (λ f. f.name) actor.funs) (distinct-left (map (λ x. x.name) actor.vars ++ map (λ f. f.name) actor.funs) (map (λ p. p.name) actor.procs) sound.distinct)) e
 
-  proc-found : (k : ℕ) (p : Proc) → slice_get actor.procs k ≡ Some p → proc_named p.name actor.procs ≡ Some p
+  pub proc-found : (k : ℕ) (p : Proc) → slice_get actor.procs k ≡ Some p → proc_named p.name actor.procs ≡ Some p
   proc-found k p e =
       found-at (λ (x : Proc). x.name) proc_named (λ text. refl) (λ text x xs. refl) actor.procs k p
       (distinct-right (map (λ x. x.name) actor.vars ++ map (λ f. f.name) actor.funs) (map (λ p. p.name) actor.procs) sound.distinct) e

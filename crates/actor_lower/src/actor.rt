@@ -21,6 +21,7 @@ use expr_lower::Draft;
 use kept_facts::keep_facts;
 use kept_facts::laws::standing_bodies_are_right;
 use lowered_actor::{Lowered, Parts};
+use rvc_base::Memory;
 use std::alloc::Global;
 
 /// The lowered actor that stands for a sound actor: it has the actor's schedule, priorities and rates, its state cells
@@ -31,15 +32,43 @@ use std::alloc::Global;
 /// instructions write no state cell that a firing, or a guard, may not change, and read no token behind those that the
 /// action takes; so they keep the facts of lowered actors.
 ///
+/// Of a sound actor no part is left out, so it always has one.
+///
 /// # Errors
 ///
-/// `Memory` if memory runs out, or if the code has 2 to the power of 32 instructions or routines or its cells can't be
-/// counted, which would take 60 gigabytes or more. The other answer says what can't be lowered yet (`fault`): `NotLowered`
-/// with the offset of the first part of a guard or a firing for which no code is made, in the first action that has one, as
-/// [`lower_guards`](action_lower::lower_guards) and [`lower_firing`](action_lower::lower_firing) say. A guard calls each
-/// function of which no part is left out, and a firing such a procedure too: a call of another one is such a part. The
-/// code is always admitted.
-pub fn lower(alloc: Global, b: &Bound) -> Result<Lowered, ActorFault>
+/// If memory runs out, or if the code has 2 to the power of 32 instructions or routines or its cells can't be counted, which
+/// would take 60 gigabytes or more.
+pub fn lower(alloc: Global, b: &Bound) -> Result<Lowered, Memory>
+    requires sound { IsSound (actor_of b.now) }
+    ensures stands_for { IfOk result (StandsForActor (actor_of b.now)) }
+    ensures whole { OnOk result (IsWhole b.now) }
+{
+    match lower_parts(alloc, b) {
+        Ok(lowered) => Ok(lowered),
+        Err(fault) => Err(memory_of(b, fault)),
+    }
+}
+
+/// Memory is all that may be lacking for a sound actor.
+fn memory_of(b: &Bound, fault: ActorFault) -> Memory
+    requires sound { IsSound (actor_of b.now) }
+    requires fault { IsActorFault b.now fault }
+{
+    match fault {
+        ActorFault::Memory => Memory,
+        ActorFault::NotLowered { at: _ } => unreachable!(),
+    }
+}
+
+/// The lowered actor, if no part is left out.
+///
+/// # Errors
+///
+/// `Memory` as above. `NotLowered` with the offset of the first part of a guard or a firing for which no code is made, in
+/// the first action that has one, as [`lower_guards`](action_lower::lower_guards) and
+/// [`lower_firing`](action_lower::lower_firing) say. A guard calls each function of which no part is left out, and a firing
+/// such a procedure too: a call of another one is such a part. The code is always admitted.
+fn lower_parts(alloc: Global, b: &Bound) -> Result<Lowered, ActorFault>
     requires sound { IsSound (actor_of b.now) }
     ensures stands_for { IfOk result (StandsForActor (actor_of b.now)) }
     ensures whole { OnOk result (IsWhole b.now) }

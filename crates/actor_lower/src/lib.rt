@@ -18,4 +18,3 @@ mod routines;
 mod sends;
 
 pub use actor::lower;
-pub use fault::ActorFault;

@@ -2,7 +2,7 @@
 
 use crate::{count, double};
 use actor_cell::Cell;
-use actor_lower::{ActorFault, lower};
+use actor_lower::lower;
 use lowered_actor::Lowered;
 use net_model::{BurstEnd, Firing};
 use rvc_base::{Memory, Num};
@@ -13,28 +13,24 @@ use std::test::Fail;
 /// A cell of the actor that counts.
 fn counter(alloc: Global) -> Result<Option<Cell>, Memory> {
     let b = count(alloc)?;
-    cell_of(alloc, lower(alloc, &b))
+    let lowered = lower(alloc, &b)?;
+    cell_of(alloc, lowered)
 }
 
 /// A cell of the one that doubles.
 fn doubler(alloc: Global) -> Result<Option<Cell>, Memory> {
     let b = double(alloc)?;
-    cell_of(alloc, lower(alloc, &b))
+    let lowered = lower(alloc, &b)?;
+    cell_of(alloc, lowered)
 }
 
-/// A cell of a lowered actor, with room for 8 tokens and 8 firings; none if the actor isn't lowered.
-fn cell_of(alloc: Global, lowered: Result<Lowered, ActorFault>) -> Result<Option<Cell>, Memory> {
-    match lowered {
-        Ok(lowered) => {
-            let code = Arc::new(alloc, lowered)?;
-            if code.ins() != 1 || code.outs() != 1 {
-                return Ok(None);
-            }
-            Ok(Some(Cell::new(alloc, code, &[8], &[8], 8)?))
-        }
-        Err(ActorFault::Memory) => Err(Memory),
-        Err(_) => Ok(None),
+/// A cell of a lowered actor, with room for 8 tokens and 8 firings; none if it has other ports.
+fn cell_of(alloc: Global, lowered: Lowered) -> Result<Option<Cell>, Memory> {
+    let code = Arc::new(alloc, lowered)?;
+    if code.ins() != 1 || code.outs() != 1 {
+        return Ok(None);
     }
+    Ok(Some(Cell::new(alloc, code, &[8], &[8], 8)?))
 }
 
 /// Puts tokens before the cell, lets it fire, and tells how that ends.

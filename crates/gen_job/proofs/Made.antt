@@ -13,7 +13,7 @@ use Rattle.actor_files.specs.declared.names.Names.{Names}
 use Rattle.conforming_jobs.specs.Conforming.{output_names}
 use Rattle.port_words.specs.Matching.{AreMatched, IsWrongWord}
 use Rattle.rvc_engine.specs.Built.{IsBuilt}
-use Rattle.rvc_engine.specs.NotBuilt.{IsNoImage}
+use Rattle.rvc_engine.specs.NoImage.{IsNoImage}
 use Rattle.rvc_engine.specs.Top.{top_asked}
 use Rattle.rvc_engine.specs.declared.fault.BuildFault.{BuildFault}
 use Rattle.rvc_engine.specs.declared.fault.BuildFault.TheVariants as build

@@ -39,7 +39,7 @@ use std::thread::Threads;
 ///   `Budget`, a run of the network was made over the generated input, and it left what `run` leaves of the generated files
 ///   and feeds (`Runs`).
 /// - `complete`: if the generated files conform to a network together with the port words, then it is this network that is
-///   run: the job isn't refused, but for what isn't built yet and for links that may grow too far.
+///   run: the job isn't refused, but for links that may grow too far.
 ///
 /// # Errors
 ///

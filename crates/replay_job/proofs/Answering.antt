@@ -27,8 +27,7 @@ use Rattle.trace_replay.specs.declared.replayed.Replayed.{Replayed}
 use Rattle.trace_replay.specs.declared.why.ReplayFault.{ReplayFault}
 use Rattle.trace_replay.specs.declared.why.ReplayFault.TheVariants as judged
 use Rattle.rvc_engine.specs.Built.{HasImage, IsBuilt}
-use Rattle.rvc_engine.specs.NotBuilt as engine
-use Rattle.rvc_engine.specs.NotBuilt.{IsNoImage}
+use Rattle.rvc_engine.specs.NoImage.{IsNoImage, IsUnbuilt}
 use Rattle.rvc_engine.specs.declared.fault.BuildFault.{BuildFault}
 use Rattle.rvc_engine.specs.declared.fault.BuildFault.TheVariants as build
 use Rattle.rvc_engine.specs.declared.image.Image.{Image}
@@ -231,12 +230,12 @@ module _ (cmd : Command) (names : Names) (same : cmd.feeds_after ≡ cmd.feeds) 
   unbuilt_answered why answer no_image put =
       line_answered Comes cmd (status_of_build why) answer [] (about_words names cmd.job) (last_alone [] (about_words names cmd.job) why) (λ only. comes_unbuilt why no_image only) put
 
-  on_unbuilt : (this : Network ActorState) (why : BuildFault) → engine.IsUnbuilt cmd.library (top_of cmd) (file_names names) why → IsJudgedOrOutside cmd this (status_of_build why)
-  on_unbuilt this (build.Refused r) un = (file_names names, un)
+  on_unbuilt : (this : Network ActorState) (why : BuildFault) → IsUnbuilt why → IsJudgedOrOutside cmd this (status_of_build why)
+  on_unbuilt this (build.Refused r) un = un
   on_unbuilt this (build.ReadFault file) un = tt
   on_unbuilt this build.Memory un = tt
 
-  pub unbuilt_complete : (net : Network ActorState) (why : BuildFault) (answer : Status) → engine.IsUnbuilt cmd.library (top_of cmd) (file_names names) why
+  pub unbuilt_complete : (net : Network ActorState) (why : BuildFault) (answer : Status) → IsUnbuilt why
       → IsPut (status_of_build why) (last_line (about_words names cmd.job) (status_of_build why)) cmd.channels cmd.channels_after answer → IsJudgedOrOutside cmd net answer
   unbuilt_complete net why answer un put =
       ⊎_elim (λ put. subst (IsJudgedOrOutside cmd net) (sym put.0) (on_unbuilt net why un)) (λ put. subst (IsJudgedOrOutside cmd net) (sym put.0) tt) put

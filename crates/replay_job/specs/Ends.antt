@@ -20,9 +20,7 @@ use Rattle.run_report.specs.Report.{run_lines}
 use Rattle.run_report.specs.declared.status.ReadAt.TheVariants.{File, Feed}
 use Rattle.run_report.specs.declared.status.Status.{Status}
 use Rattle.run_report.specs.declared.status.Status.TheVariants as status
-use Rattle.rvc_engine.specs.NotBuilt.{LacksForm}
-use Rattle.rvc_engine.specs.Refused.{RefusesTop}
-use Rattle.network_commands.specs.Answers.{FileUnread, HasWrongWord}
+use Rattle.network_commands.specs.Answers.{BreaksFiles, FileUnread, HasWrongWord}
 use Rattle.network_commands.specs.Commands.{AreCertified, Command, IsOfCommand, OpenedNothing, about_files, about_net, port_names, top_of, words_of}
 use Rattle.replay_job.specs.Replays.{IsReplayFeed, IsToReplay, OpensFeeds, WhateverIsTold}
 
@@ -80,11 +78,6 @@ pub record WasUnread (cmd : Command) (feed : ℕ) (about : About) : Type 0 where
   pub only_report : WritesOnlyAt 0 cmd.channels cmd.channels_after
   pub about_is : about ≡ about_net cmd is_to_replay.is_of.files.names net
 
--- The files that the top needs break a rule, or mean a network of which an actor has a form without code. The file of the
--- refusal is one of these names.
-pub record BreaksFiles (cmd : Command) (names : List (List ℕ)) (r : Refusal) : Type 0 where
-  pub why : RefusesTop cmd.library (top_of cmd) cmd.misses names r ⊎ LacksForm cmd.library (top_of cmd) names r
-
 -- the words conform, and the links may not grow as far as the job asks
 pub record GrowsTooFar (cmd : Command) (names : List (List ℕ)) (net : Network State) (r : Refusal) : Type 0 where
   pub is_of : IsOfCommand input_names cmd net
@@ -125,14 +118,13 @@ Comes cmd (status.Uncertified inst state first second reason) lines about = ⊥
 -- ---- completeness
 
 -- The files and the words conform to this network: the answer is that the trace is that of a run, or that it isn't, by what
--- it is; but memory may run out, reading or writing fail, or an actor have a form without code.
+-- it is; but memory may run out, or reading or writing fail.
 abbrev pub IsJudgedOrOutside : Command → Network State → Status → Type 0
 IsJudgedOrOutside cmd net status.Done = (end : Line) × (counts : Counts)
     × WhateverIsTold cmd net (λ t inputs text. IsReplayed t text inputs (record { end = end; counts = counts }))
 IsJudgedOrOutside cmd net (status.NotRun line why) =
     WhateverIsTold cmd net (λ t inputs text. IsRefused t text (NotRun line why))
-IsJudgedOrOutside cmd net (status.Refused r) = (names : List (List ℕ))
-    × LacksForm cmd.library (top_of cmd) names r
+IsJudgedOrOutside cmd net (status.Refused r) = ⊥
 IsJudgedOrOutside cmd net (status.ReadFault at) = Unit {0}
 IsJudgedOrOutside cmd net (status.WriteFault channel) = Unit {0}
 IsJudgedOrOutside cmd net status.OutOfMemory = Unit {0}

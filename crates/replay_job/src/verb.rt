@@ -37,8 +37,7 @@ use std::alloc::Global;
 ///   the numbers of these lines (`WasRun`). If it is `NotRun`, the trace is the text of no such lines: with the line that is
 ///   named, and for the cause that is named, what stands before it is no longer that of a run (`WasNoRun`).
 /// - `complete`: if the library tells of each name and conforms with the words, and the links may grow as far as the job
-///   asks, the answer is one of these two over this network; unless an actor has a form that isn't built yet, memory runs out,
-///   or reading or writing fails.
+///   asks, the answer is one of these two over this network, unless memory runs out, or reading or writing fails.
 /// - `incomplete`: if the library tells of each name, a job that is refused is never answered by one of these two.
 /// - `same_files`, `faults_stay`, `misses_stay`: the library keeps its files, and its counts never fall.
 ///

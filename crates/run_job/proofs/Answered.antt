@@ -10,7 +10,7 @@ use Rattle.actor_files.specs.Views.{file_names}
 use Rattle.actor_files.specs.declared.names.Names.{Names}
 use Rattle.network_cells.specs.SourceRuns.{SourcesAreActorNetworks}
 use Rattle.rvc_engine.specs.Built.{IsBuilt}
-use Rattle.rvc_engine.specs.NotBuilt.{IsNoImage}
+use Rattle.rvc_engine.specs.NoImage.{IsNoImage}
 use Rattle.rvc_engine.specs.Top.{top_asked}
 use Rattle.rvc_engine.specs.declared.fault.BuildFault.{BuildFault}
 use Rattle.rvc_engine.specs.declared.fault.BuildFault.TheVariants as build

@@ -1,5 +1,5 @@
 -- What a library that tells of each name decides of the answer.
-use Rattle.std.proofs.Common.{◌≡◌, ⊎_elim, ℕ, List, sym, subst}
+use Rattle.std.proofs.Common.{◌≡◌, ℕ, List, sym, subst}
 use Rattle.rvc_base.specs.declared.refusal.Refusal.{Refusal}
 use Rattle.actor_files.specs.Loading.{Counts, TellsAll}
 use Rattle.cal_model.specs.Selection.{State}
@@ -13,7 +13,7 @@ use Rattle.run_report.specs.declared.status.Status.{Status}
 use Rattle.run_report.specs.declared.status.Status.TheVariants as status
 use Rattle.network_commands.specs.Answers.{IsAnswered, is_reported, is_unreported}
 use Rattle.network_commands.specs.Commands.{Command, ConformingAreNotRefused, HasFiles, IsToRun, RefusesJob, in_files, in_words, top_of, words_of}
-use Rattle.run_job.specs.Ends.{Comes, ComesFor, IsNoEnd, IsRefused, IsStillRefused, RanOut, RanSome, WasUnread, WasUnwritten, WouldGrowTooFar, by_files, by_growth, by_words, of_actor, of_growth}
+use Rattle.run_job.specs.Ends.{Comes, ComesFor, IsNoEnd, IsRefused, IsStillRefused, RanOut, RanSome, WasUnread, WasUnwritten, WouldGrowTooFar, by_files, by_growth, by_words}
 
 -- ---- what conforms is run
 
@@ -26,14 +26,12 @@ module _ (cmd : Command) (one : OneConforms) (one_net : LibraryNetworksAreOne) (
   has_net other files = one_net cmd.library (top_of cmd) other net tells (record { reads = files.reads; are_loaded = files.are_read.are_loaded; means = files.means }) conforms.means
 
   pub still_refused : (r : Refusal) (about : About) → IsRefused cmd r about → IsStillRefused cmd net r
-  still_refused r about (by_files names breaks) = ⊎_elim
-      (λ refuses. absurd (law names_of_ports cmd.library (top_of cmd) (words_of cmd) net cmd.misses names r tells conforms (in_files refuses)))
-      (λ lacks. of_actor names lacks)
-      breaks.why
+  still_refused r about (by_files names breaks) =
+      absurd (law names_of_ports cmd.library (top_of cmd) (words_of cmd) net cmd.misses names r tells conforms (in_files breaks.why))
   still_refused r about (by_words names other wrong) =
       absurd (law names_of_ports cmd.library (top_of cmd) (words_of cmd) net cmd.misses names r tells conforms
       (in_words other (record { reads = wrong.files.reads; are_loaded = wrong.files.are_read.are_loaded; means = wrong.files.means }) wrong.wrong))
-  still_refused r about (by_growth names other grows) = of_growth (subst (WouldGrowTooFar cmd) (has_net other grows.files) grows.too_far) grows.refusal
+  still_refused r about (by_growth names other grows) = record { too_far = subst (WouldGrowTooFar cmd) (has_net other grows.files) grows.too_far; refusal = grows.refusal }
 
   pub comes_for : (said : Status) (lines : List ℕ) (about : About) → Comes cmd said lines about → ComesFor net cmd said lines about
   comes_for status.Quiet lines about c = subst (λ n. RanSome cmd n QuietLine lines about) (is_net c.0 c.1.ran.is_to_run) c.1

@@ -14,8 +14,6 @@ use Rattle.grown_links.specs.Growth.{GrowTooFar, IsGrownTooMuch}
 use Rattle.port_words.specs.Matching.{AreMatched}
 use Rattle.port_words.specs.Opening.{FeedFails, feeds_of}
 use Rattle.conforming_jobs.specs.Conforming.{names_of_ports}
-use Rattle.rvc_engine.specs.NotBuilt.{LacksForm}
-use Rattle.rvc_engine.specs.Refused.{RefusesTop}
 use Rattle.network_job.specs.Answering.{AreAllOpen, IsUnwritten}
 use Rattle.network_job.specs.Files.{IsChannelOf, IsFeedOf}
 use Rattle.network_job.specs.Leaving.{HasEnded, WasBroken, WasCut}
@@ -24,7 +22,7 @@ use Rattle.run_report.specs.Report.{run_lines}
 use Rattle.run_report.specs.declared.status.ReadAt.TheVariants.{File, Feed}
 use Rattle.run_report.specs.declared.status.Status.{Status}
 use Rattle.run_report.specs.declared.status.Status.TheVariants as status
-use Rattle.network_commands.specs.Answers.{FileUnread, HasWrongWord}
+use Rattle.network_commands.specs.Answers.{BreaksFiles, FileUnread, HasWrongWord}
 use Rattle.network_commands.specs.Commands.{AreCertified, AreGiven, Command, HasFiles, IsToRun, OpenedNothing, TouchesOnly, about_files, about_net, port_names, run_over, top_of, words_of}
 
 -- ---- the network that is run
@@ -116,12 +114,6 @@ pub record WasUnwritten (cmd : Command) (net : Network State) (channel : ℕ) : 
 
 -- ---- no run
 
--- The files that the top needs break a rule, or mean a network of which an actor has a form without code. The file of the
--- refusal is one of these names.
-pub record BreaksOrLacks (cmd : Command) (names : List (List ℕ)) (r : Refusal) : Type 0 where
-  pub why : RefusesTop cmd.library (top_of cmd) cmd.misses names r
-      ⊎ LacksForm cmd.library (top_of cmd) names r
-
 -- each port word names a port of its own, and the links of the network would grow too far
 pub record GrowsTooMuch (cmd : Command) (names : List (List ℕ)) (net : Network State) (r : Refusal) : Type 0 where
   pub files : HasFiles cmd net
@@ -132,7 +124,7 @@ pub record GrowsTooMuch (cmd : Command) (names : List (List ℕ)) (net : Network
 
 -- Why the job is refused.
 pub data IsRefused (cmd : Command) (r : Refusal) : About → Type 0 where
-  by_files : (names : List (List ℕ)) → BreaksOrLacks cmd names r
+  by_files : (names : List (List ℕ)) → BreaksFiles cmd names r
       → IsRefused cmd r (about_files cmd names)
   by_words : (names : List (List ℕ)) (net : Network State)
       → HasWrongWord names_of_ports cmd names net r → IsRefused cmd r (about_net cmd names net)
@@ -166,12 +158,10 @@ Comes cmd (status.Uncertified inst state first second reason) lines about = ⊥
 
 -- ---- completeness
 
--- Why a job is refused whose files and words conform to this network: it asks for an actor of a form for which there is no
--- code yet, or the links would grow too far.
-pub data IsStillRefused (cmd : Command) (net : Network State) (r : Refusal) : Type 0 where
-  of_actor : (names : List (List ℕ)) → LacksForm cmd.library (top_of cmd) names r
-      → IsStillRefused cmd net r
-  of_growth : WouldGrowTooFar cmd net → IsGrownTooMuch r → IsStillRefused cmd net r
+-- Why a job is refused whose files and words conform to this network: the links would grow too far.
+pub record IsStillRefused (cmd : Command) (net : Network State) (r : Refusal) : Type 0 where
+  pub too_far : WouldGrowTooFar cmd net
+  pub refusal : IsGrownTooMuch r
 
 -- To what a command comes whose files and words conform to this network: it is run. If it isn't, then the job is refused for
 -- one of these reasons, or reading or writing failed, or memory ran out.

@@ -41,7 +41,7 @@ use std::thread::Threads;
 ///   which is that end; the channel of each output that has a file holds the bytes of what was sent to it, and no other is
 ///   open; the report has the numbers of these lines (`Ran`). That no fault came is no premise.
 /// - `complete`: if the library tells of each name, and files and words conform to a network, then it is this network of
-///   which the answer speaks: the job isn't refused, but for what isn't built yet and for links that may grow too far.
+///   which the answer speaks: the job isn't refused, but for links that may grow too far.
 /// - `incomplete` and `too_far`: if the library tells of each name, what is refused never comes to an end of a run: neither
 ///   files that break a rule, nor a port word that names no port of its own, nor links that may grow too far.
 /// - `same_files`, `faults_stay`, `misses_stay`: the library keeps its files, and its counts never fall.

@@ -51,17 +51,6 @@ as_many_compiled [] (c ∷ all) h = absurd h
 as_many_compiled (a ∷ actors) [] h = absurd h
 as_many_compiled (a ∷ actors) (c ∷ all) h = ap suc (as_many_compiled actors all h.1)
 
-seam : {A : Type 0} (xs ys : List A) (y : A) → slice_get (xs ++ y ∷ ys) (length xs) ≡ Some y
-seam [] ys y = refl
-seam (x ∷ xs) ys y = seam xs ys y
-
--- the place of the next one
-pub next_place : (actors rest others : List Bound) (b : Bound) (all : List Compiled) → CompiledSoFar actors rest all → rest ≡ b ∷ others
-    → slice_get actors (length all) ≡ Some b
-next_place actors rest others b all h opened =
-    let many : length all ≡ length h.done = as_many_compiled (map actor_of h.done) all h.compiled ∙ length-map h.done actor_of in
-    ap (λ xs. slice_get xs (length all)) (h.splits ∙ ap (λ r. h.done ++ r) opened) ∙ ap (slice_get (h.done ++ b ∷ others)) many ∙ seam h.done others b
-
 pub all_compiled : (actors rest : List Bound) (all : List Compiled) → CompiledSoFar actors rest all → rest ≡ [] → AreCompiled (map actor_of actors) all
 all_compiled actors rest all h none =
     subst (λ xs. AreCompiled (map actor_of xs) all) (sym (h.splits ∙ ap (λ r. h.done ++ r) none ∙ append-nil h.done)) h.compiled
@@ -128,46 +117,3 @@ place_more P Q places rest others p c all h opened low is lower more = record {
       let at = compiled_at actors all p c are low is in
       subst Q (sym (places_more actors h.done p at.0 at.1)) (more (at_places actors h.done) at.0 (h.found actors are) at.2);
 }
-
--- ---- the leaf of a place
-
--- it is among the rest
-pub record PlaceSoFar (places rest : List ℕ) (place leaf : ℕ) : Type 0 where
-  pub done : List ℕ
-  pub splits : places ≡ done ++ rest
-  pub count : leaf ≡ length done
-  pub among : Contains rest place
-
-pub contains_rest : (p place : ℕ) (others : List ℕ) → Contains (p ∷ others) place → (p ≡ place → ⊥) → Contains others place
-contains_rest p place others (zero, low, is) other = absurd (other is)
-contains_rest p place others (suc k, low, is) other = (k, omega (arith, low), is)
-
-length_more : {A : Type 0} (xs : List A) (x : A) → length (xs ++ x ∷ []) ≡ suc (length xs)
-length_more [] x = refl
-length_more (y ∷ xs) x = ap suc (length_more xs x)
-
-pub leaf_next : (places rest others : List ℕ) (p place leaf next : ℕ) → PlaceSoFar places rest place leaf → rest ≡ p ∷ others → (p ≡ place → ⊥) → next ≡ suc leaf
-    → PlaceSoFar places others place next
-leaf_next places rest others p place leaf next h opened other is = record {
-  done = h.done ++ p ∷ [];
-  splits = h.splits ∙ ap (λ r. h.done ++ r) opened ∙ sym (append_assoc h.done (p ∷ []) others);
-  count = is ∙ ap suc h.count ∙ sym (length_more h.done p);
-  among = contains_rest p place others (subst (λ r. Contains r place) opened h.among) other;
-}
-
-pub leaf_found : (places rest others : List ℕ) (p place leaf : ℕ) → PlaceSoFar places rest place leaf → rest ≡ p ∷ others → p ≡ place
-    → slice_get places leaf ≡ Some place
-leaf_found places rest others p place leaf h opened same =
-    ap (λ xs. slice_get xs leaf) (h.splits ∙ ap (λ r. h.done ++ r) opened) ∙ ap (slice_get (h.done ++ p ∷ others)) h.count ∙ seam h.done others p ∙ ap Some same
-
-pub leaf_low : (places rest others : List ℕ) (p place leaf : ℕ) → PlaceSoFar places rest place leaf → rest ≡ p ∷ others → leaf < length places
-leaf_low places rest others p place leaf h opened =
-    subst (λ n. n < length places) (sym h.count) (subst (λ xs. length h.done < length xs) (sym (h.splits ∙ ap (λ r. h.done ++ r) opened)) (longer h.done others p))
-  where
-    longer : (xs ys : List ℕ) (y : ℕ) → length xs < length (xs ++ y ∷ ys)
-    longer [] ys y = omega arith
-    longer (x ∷ xs) ys y = let h = longer xs ys y in omega (arith, h)
-
-pub nothing_left : (rest : List ℕ) (place : ℕ) → Contains rest place → rest ≡ [] → ⊥
-nothing_left [] place h none = omega (arith, h.1)
-nothing_left (p ∷ rest) place h none = cc

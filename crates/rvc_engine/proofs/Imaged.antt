@@ -1,5 +1,5 @@
 -- What is answered of an image.
-use Rattle.std.proofs.Common.{◌≡◌, ◌⊎◌, inl, inr, ℕ, List, refl, sym, subst}
+use Rattle.std.proofs.Common.{◌≡◌, ℕ, List, refl, sym, subst}
 use Rattle.std.specs.Prelude.{Result, Ok, Err, IfErr, IfOk, IsErr, MatchResult}
 use Rattle.rvc_base.specs.declared.refusal.Refusal.{Refusal}
 use Rattle.actor_files.specs.Loading.{Counts, Library, TellsAll}
@@ -10,9 +10,9 @@ use Rattle.source_network.specs.Files.{Asked, class_asked}
 use Rattle.source_network.specs.Library.{IsLibraryNetwork, LibraryNetworksAreOne}
 use Rattle.rvc_engine.specs.Built.{IsBuilt, IsImageOf}
 use Rattle.rvc_engine.specs.Checked.{CountsMisses}
-use Rattle.rvc_engine.specs.Images.{IsLeftOver, MeansNet}
+use Rattle.rvc_engine.specs.Images.{MeansNet}
 use Rattle.rvc_engine.specs.Laws.{NetworksAreNotRefused}
-use Rattle.rvc_engine.specs.NotBuilt.{IsNoImage, IsNotBuilt, IsUnbuilt, LacksForm}
+use Rattle.rvc_engine.specs.NoImage.{IsNoImage, IsUnbuilt}
 use Rattle.rvc_engine.specs.Refused.{IsFault, RefusesTop}
 use Rattle.rvc_engine.specs.Steps.{IsHeld}
 use Rattle.rvc_engine.specs.declared.held.Held.{Held}
@@ -33,22 +33,14 @@ pub built_missed : (r : Result Image BuildFault) (library : Library) (top : Aske
 built_missed (Ok image) library top misses names held h same = subst (CountsMisses top misses) (sym same) h.missed
 built_missed (Err f) library top misses names held h same = tt
 
-pub no_image : (r : Result Image BuildFault) (library : Library) (top : Asked) (misses faults : Counts) (names : List (List ℕ)) (held : Held) → IsHeld library top misses names held
-    → IfErr r (IsLeftOver (files_in held.files) (class_asked top)) → IfErr r (IsNoImage library top misses faults names)
-no_image (Ok image) library top misses faults names held h why = tt
-no_image (Err (Refused r)) library top misses faults names held h why = inr (record {
-  reads = h.reads;
-  are_loaded = h.are_read.are_loaded;
-  names_are = h.are_read.names_are;
-  not_built = subst (λ fs. IsNotBuilt fs (class_asked top) r) h.files_are why;
-})
-no_image (Err (ReadFault file)) library top misses faults names held h why = absurd why
-no_image (Err Memory) library top misses faults names held h why = tt
+pub no_image : (r : Result Image BuildFault) (library : Library) (top : Asked) (misses faults : Counts) (names : List (List ℕ)) → IfErr r (λ fault. fault ≡ Memory) → IfErr r (IsNoImage library top misses faults names)
+no_image (Ok image) library top misses faults names why = tt
+no_image (Err f) library top misses faults names why = subst (IsNoImage library top misses faults names) (sym why) tt
 
 -- what was checked isn't given, so there is no image
 pub none_checked : (library : Library) (top : Asked) (misses faults : Counts) (names : List (List ℕ)) (f : BuildFault) → IsFault library top misses faults names f
     → IsNoImage library top misses faults names f
-none_checked library top misses faults names (Refused r) h = inl h
+none_checked library top misses faults names (Refused r) h = h
 none_checked library top misses faults names (ReadFault file) h = h
 none_checked library top misses faults names Memory h = tt
 
@@ -61,15 +53,11 @@ library_image library top names image h = record { reads = h.reads; are_loaded =
 
 pub completes_image : (r : Result Image BuildFault) (library : Library) (top : Asked) (misses faults : Counts) (names : List (List ℕ)) (net : Network State)
     → LibraryNetworksAreOne → NetworksAreNotRefused → TellsAll library → IsLibraryNetwork library top net
-    → IfOk r (IsBuilt library top names) → IfErr r (IsNoImage library top misses faults names) → MatchResult r (λ image. MeansNet image net) (IsUnbuilt library top names)
+    → IfOk r (IsBuilt library top names) → IfErr r (IsNoImage library top misses faults names) → MatchResult r (λ image. MeansNet image net) IsUnbuilt
 completes_image (Ok image) library top misses faults names net one kept tells is h k =
     subst (MeansNet image) (one library top h.is_image.net net tells (library_image library top names image h) is)
     (record { actors = h.is_image.means.actors; has = h.is_image.has })
-completes_image (Err (Refused r)) library top misses faults names net one kept tells is h k = go k
-  where
-    go : RefusesTop library top misses names r ⊎ LacksForm library top names r → LacksForm library top names r
-    go (inl refused) = absurd (kept library top net misses names r tells is refused)
-    go (inr lacks) = lacks
+completes_image (Err (Refused r)) library top misses faults names net one kept tells is h k = absurd (kept library top net misses names r tells is k)
 completes_image (Err (ReadFault file)) library top misses faults names net one kept tells is h k = tt
 completes_image (Err Memory) library top misses faults names net one kept tells is h k = tt
 

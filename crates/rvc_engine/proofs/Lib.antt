@@ -10,5 +10,5 @@ mod Counted
 mod Ended
 mod LoneTrees
 mod Compiled
-mod Left
+mod ImageIs
 mod Imaged

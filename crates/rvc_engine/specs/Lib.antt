@@ -5,7 +5,7 @@ pub mod Laws
 pub mod Steps
 pub mod LoneNet
 pub mod Built
-pub mod NotBuilt
+pub mod NoImage
 pub mod Answering
 pub mod Compiling
 pub mod Images

@@ -1,17 +1,16 @@
 //! Actors are compiled: each once, however many leaves it has.
 
-ghost use Rattle.std.specs.Prelude.{◌≡◌, ◌<◌, All, IfErr, IfOk, OnOk, List, Contains, Some, length, map, slice_get};
+ghost use Rattle.std.specs.Prelude.{◌≡◌, ◌<◌, All, IfOk, OnOk, List, length, map};
 ghost use Rattle.std.specs.Arc.{arc_value};
 ghost use Rattle.actor_lower.specs.Leaves.{StandForActors};
-ghost use Rattle.actor_lower.specs.Faults.{IsActorFault};
 ghost use Rattle.cal_model.specs.Actor.{Actor};
 ghost use Rattle.cal_model.specs.Sound.{Each, IsSound};
 ghost use Rattle.cal_model.specs.View.{actor_of};
 ghost use Rattle.leaf_actors.specs.Leaves.{at_places};
 ghost use Rattle.rvc_engine.specs.Built.{AreJudged, IsJudged};
-ghost use Rattle.rvc_engine.specs.Compiling.{AddsCompiled, AreCompiled, IsCompiled, IsNotCompiled};
+ghost use Rattle.rvc_engine.specs.Compiling.{AddsCompiled, AreCompiled, IsCompiled};
 
-use actor_lower::{ActorFault, lower};
+use actor_lower::lower;
 use cal_model::Bound;
 use determinacy_cert::{CertFault, certify};
 use lowered_actor::Lowered;
@@ -24,14 +23,6 @@ use std::sync::Arc;
 pub(crate) struct Compiled {
     pub code: Arc<Lowered>,
     pub uncertified: Option<CertFault>,
-}
-
-/// Why an actor isn't compiled.
-#[derive(Clone, Copy)]
-pub(crate) struct NotCompiled {
-    /// Which of the actors.
-    pub place: usize,
-    pub fault: ActorFault,
 }
 
 /// Why an actor isn't certified, or nothing if it is.
@@ -59,53 +50,37 @@ fn judge(alloc: Global, actor: &Bound) -> Result<Option<CertFault>, Memory>
 }
 
 /// An actor, compiled.
-fn compile(alloc: Global, actor: &Bound) -> Result<Compiled, ActorFault>
+fn compile(alloc: Global, actor: &Bound) -> Result<Compiled, Memory>
     requires { IsSound (actor_of actor.now) }
-    ensures compiled { IfOk result (IsCompiled (actor_of actor.now)) }
-    ensures fault { IfErr result (IsActorFault actor.now) }
+    ensures { IfOk result (IsCompiled (actor_of actor.now)) }
 {
-    let lowered = match lower(alloc, actor) {
-        Ok(lowered) => lowered,
-        Err(fault) => return Err(fault),
-    };
-    let Ok(uncertified) = judge(alloc, actor) else {
-        return Err(ActorFault::Memory);
-    };
-    let Ok(code) = Arc::new(alloc, lowered) else {
-        return Err(ActorFault::Memory);
-    };
+    let lowered = lower(alloc, actor)?;
+    let uncertified = judge(alloc, actor)?;
+    let code = Arc::new(alloc, lowered)?;
     Ok(Compiled { code, uncertified })
 }
 
 /// One of several actors, compiled behind those before it.
-fn compile_next(alloc: Global, all: &mut Vec<Compiled>, actor: &Bound) -> Result<(), ActorFault>
+fn compile_next(alloc: Global, all: &mut Vec<Compiled>, actor: &Bound) -> Result<(), Memory>
     requires { IsSound (actor_of actor.now) }
-    ensures compiled { OnOk result (AddsCompiled (actor_of actor.now) all.old.items all.new.items) }
-    ensures fault { IfErr result (IsActorFault actor.now) }
+    ensures { OnOk result (AddsCompiled (actor_of actor.now) all.old.items all.new.items) }
 {
-    match compile(alloc, actor) {
-        Ok(compiled) => match all.push(compiled) {
-            Ok(()) => Ok(()),
-            Err(_) => Err(ActorFault::Memory),
-        },
-        Err(fault) => Err(fault),
-    }
+    let compiled = compile(alloc, actor)?;
+    all.push(compiled)?;
+    Ok(())
 }
 
 /// Actors, compiled.
-pub(crate) fn compile_all(alloc: Global, actors: &[Bound]) -> Result<Vec<Compiled>, NotCompiled>
+pub(crate) fn compile_all(alloc: Global, actors: &[Bound]) -> Result<Vec<Compiled>, Memory>
     requires { Each IsSound (map actor_of actors.now) }
-    ensures compiled { IfOk result (λ all. AreCompiled (map actor_of actors.now) all.items) }
-    ensures fault { IfErr result (IsNotCompiled actors.now) }
+    ensures { IfOk result (λ all. AreCompiled (map actor_of actors.now) all.items) }
 {
     let mut all = Vec::new(alloc);
     let mut rest = actors;
     'actors: while let Some((actor, others)) = rest.split_first() {
-        let place = all.len();
-        match compile_next(alloc, &mut all, actor) {
-            Ok(()) => {}
-            Err(fault) => return Err(NotCompiled { place, fault }),
-        }
+        let Ok(()) = compile_next(alloc, &mut all, actor) else {
+            return Err(Memory);
+        };
         rest = others;
     }
     Ok(all)
@@ -155,21 +130,4 @@ pub(crate) fn uncertified_at(
         rest = others;
     }
     Ok(said)
-}
-
-/// The first leaf at which the actor of a place stands.
-pub(crate) fn leaf_of(places: &[u32], place: usize) -> usize
-    requires { Contains places.now place }
-    ensures { slice_get places.now result ≡ Some place }
-{
-    let mut leaf = 0usize;
-    let mut rest = places;
-    'places: while let Some((first, others)) = rest.split_first() {
-        if *first as usize == place {
-            return leaf;
-        }
-        leaf += 1;
-        rest = others;
-    }
-    unreachable!()
 }

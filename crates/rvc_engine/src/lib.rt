@@ -6,7 +6,7 @@
 //! [`build`] goes on to an [`Image`]: each distinct actor is lowered, and it is told whether it is certified.
 //!
 //! `specs/` says which top the words name (`Top`), what was checked (`Checked`) and what refuses a top (`Refused`), what an
-//! image is (`Built`) and why there is none (`NotBuilt`).
+//! image is (`Built`) and why there is none (`NoImage`).
 #![tactic(auto)]
 
 mod building;

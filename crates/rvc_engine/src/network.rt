@@ -10,7 +10,7 @@ ghost use Rattle.source_network.specs.Library.{IsLibraryNetwork};
 ghost use Rattle.rvc_engine.specs.Built.{IsBuilt};
 ghost use Rattle.rvc_engine.specs.Checked.{CountsMisses, HasNetwork, IsChecked};
 ghost use Rattle.rvc_engine.specs.Images.{MeansNet};
-ghost use Rattle.rvc_engine.specs.NotBuilt.{IsNoImage, IsUnbuilt};
+ghost use Rattle.rvc_engine.specs.NoImage.{IsNoImage, IsUnbuilt};
 ghost use Rattle.rvc_engine.specs.Refused.{IsFault, IsOutside, RefusesTop};
 ghost use Rattle.rvc_engine.specs.Top.{top_asked};
 
@@ -86,14 +86,12 @@ pub fn check_network<L: Library>(
 /// source network of the files that were read (`built`), and misses are counted as there (`missed`).
 ///
 /// If the library tells of each name and has a network of the top, that one is given (`complete`), and a top that is refused
-/// isn't (`incomplete`), unless an actor has a form that isn't built yet, a reading fails or memory runs out.
+/// isn't (`incomplete`), unless a reading fails or memory runs out.
 ///
 /// # Errors
 ///
-/// `Refused`: as [`check_network`] says; or Y1, a part of an actor has a form for which no code is made
-/// yet, in the actor's file, or at the actor itself if its code isn't seen to keep the facts that it relies on. `ReadFault`: the reading of this file
-/// failed, and the failure was counted. `Memory`: an allocation was refused, or the code of an actor is too large for any
-/// memory (`fault`).
+/// `Refused`: as [`check_network`] says. `ReadFault`: the reading of this file failed, and the failure was counted. `Memory`:
+/// an allocation was refused, or the code of an actor is too large for any memory (`fault`).
 pub fn build<L: Library>(
     alloc: Global,
     library: &mut L,
@@ -113,8 +111,7 @@ pub fn build<L: Library>(
     // What a library that tells of each name decides.
     ensures complete { (net : Network State) → TellsAll (L.file library.old)
         → IsLibraryNetwork (L.file library.old) (top_asked top.now) net
-        → MatchResult result (λ image. MeansNet image net)
-        (IsUnbuilt (L.file library.old) (top_asked top.now) (file_names names.new)) }
+        → MatchResult result (λ image. MeansNet image net) IsUnbuilt }
     ensures incomplete { (misses : Counts) (refusal : Denial) (found : List (List ℕ))
         → TellsAll (L.file library.old)
         → RefusesTop (L.file library.old) (top_asked top.now) misses found refusal → IsErr result }

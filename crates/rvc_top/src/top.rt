@@ -47,9 +47,9 @@ use std::thread::Threads;
 /// what [`run_job`](run_job::run_job) comes: `Ran` for these four answers, and a case for each other one). **If every actor
 /// is certified, which the report's count shows, the outputs of every quiet run over these inputs are those bytes, or
 /// continue them if this run ended otherwise** (`determinate`: `TellsQuietRuns` of [`determinate_jobs`]). If the library
-/// tells of each name, and the files and the words conform to a network, that one is run, unless the job asks for what isn't
-/// built yet or lets links grow too far, or memory runs out, or reading or writing fails (`run_complete`); and what is
-/// refused never ends a run (`run_incomplete`, `run_too_far`).
+/// tells of each name, and the files and the words conform to a network, that one is run, unless the job lets links grow too
+/// far, memory runs out, or reading or writing fails (`run_complete`); and what is refused never ends a run
+/// (`run_incomplete`, `run_too_far`).
 ///
 /// - `check`: the job was checked as [`check_job`](check_job::check_job) says: `Done` if the files conform and there is no
 ///   port word. Nothing is opened. What conforms is `Done`, unless memory runs out or reading or writing fails
@@ -60,8 +60,8 @@ use std::thread::Threads;
 ///   refused never is (`certify_incomplete`).
 /// - `replay`: the trace was judged as [`replay_job`](replay_job::replay_job) says: `Done` if it is the text of a run of the
 ///   network that the files mean, over the bytes of the feeds, and `NotRun` at the first line that isn't. No channel is
-///   opened. What conforms is judged so, unless an actor has a form without code, memory runs out, or reading or writing
-///   fails (`replay_complete`); what is refused never is (`replay_incomplete`).
+///   opened. What conforms is judged so, unless memory runs out, or reading or writing fails (`replay_complete`); what is
+///   refused never is (`replay_incomplete`).
 /// - `generated`: `gen` made a network and ran it as [`gen_job`](gen_job::gen_job) says, over an input that was generated too. No
 ///   file is read and no feed is opened (`gen_reads_no_file`, `gen_opens_no_feed`). If the generated files conform with the
 ///   port words, their network is run, unless memory runs out, writing fails or the job is refused for what `IsStillRefused`

@@ -2,7 +2,7 @@ use Rattle.std.proofs.Common.{map, string_bytes, subst}
 use Rattle.rvc_words.specs.Words.{port_text}
 use Rattle.actor_files.specs.Views.{file_names}
 use Rattle.rvc_engine.specs.Built.{IsBuilt}
-use Rattle.rvc_engine.specs.NotBuilt.{IsNoImage}
+use Rattle.rvc_engine.specs.NoImage.{IsNoImage}
 use Rattle.rvc_engine.specs.Top.{top_asked}
 use Rattle.generated_network.specs.Objects.{file_told}
 use Rattle.gen_job.specs.Steps.{CameOf, IsLine}

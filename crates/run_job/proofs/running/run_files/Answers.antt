@@ -1,7 +1,7 @@
 use Rattle.std.proofs.Common.{refl, subst, string_bytes}
 use Rattle.actor_files.specs.Views.{file_names}
 use Rattle.rvc_engine.specs.Built.{IsBuilt}
-use Rattle.rvc_engine.specs.NotBuilt.{IsNoImage}
+use Rattle.rvc_engine.specs.NoImage.{IsNoImage}
 use Rattle.rvc_engine.specs.Top.{top_asked}
 use Rattle.run_report.specs.Report.{last_line}
 use Rattle.network_commands.specs.Steps.{IsPut, about_words, status_of_build}

@@ -3,7 +3,7 @@ use Rattle.actor_files.specs.Loading.{Counts}
 use Rattle.actor_files.specs.Views.{file_names}
 use Rattle.source_network.specs.Files.{class_asked}
 use Rattle.rvc_engine.specs.Built.{IsBuilt}
-use Rattle.rvc_engine.specs.NotBuilt.{IsNoImage}
+use Rattle.rvc_engine.specs.NoImage.{IsNoImage}
 use Rattle.rvc_engine.specs.Top.{top_asked}
 use Rattle.rvc_engine.proofs.Imaged.{built_missed, built_of, completes_image, no_image, none_checked, refuses_image}
 use Rattle.rvc_engine.proofs.network.build.Goals as goal
@@ -20,8 +20,7 @@ returns-in-Ok-clause-missed g c =
 
 pub returns-in-Ok-clause-fault : goal.returns-in-Ok-clause-fault
 returns-in-Ok-clause-fault g c =
-    no_image c.image_of.result (g.L.Library.file c.args.library.now) (top_asked c.args.top.now) _ _ (file_names c.held_of_top.new.names)
-    c.in-Ok.field-0 c.in-Ok.ensures.held (c.image_of.ensures.left_over (class_asked (top_asked c.args.top.now)) c.in-Ok.ensures.held.source)
+    no_image c.image_of.result (g.L.Library.file c.args.library.now) (top_asked c.args.top.now) _ _ (file_names c.held_of_top.new.names) c.image_of.ensures.memory
 
 pub returns-in-Ok-clause-complete : goal.returns-in-Ok-clause-complete
 returns-in-Ok-clause-complete g c = λ net tells is.

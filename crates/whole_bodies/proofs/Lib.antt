@@ -1,0 +1,9 @@
+pub mod Calls
+pub mod Types
+pub mod Names
+pub mod Assigned
+pub mod Values
+pub mod Statements
+pub mod Routines
+pub mod Patterns
+pub mod Actions
