@@ -2,3 +2,4 @@ pub mod Outcomes
 pub mod Alike
 pub mod Narrowed
 pub mod Statements
+pub mod Routines

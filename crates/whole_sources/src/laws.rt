@@ -1,6 +1,7 @@
 //! Laws of what uses only names that are kept. Each is a function that does nothing: its contract is what is proved.
 
 ghost use Rattle.whole_sources.specs.Laws.{EachGivesTheSame, ExpressionsGiveTheSame, StatementsDoTheSame};
+ghost use Rattle.whole_sources.specs.Laws.{KeptFunctionsGiveTheSame, ProceduresOverKeptDoTheSame};
 
 /// Expressions that use only names that are kept give over the kept variables and functions what they give over all
 /// (`one`), and so do several in order (`each`).
@@ -12,4 +13,11 @@ pub fn expressions_over_used_names_give_the_same()
 /// Statements that use only names that are kept make of the kept variables what is kept of what they make of all.
 pub fn statements_over_used_names_do_the_same()
     ensures { StatementsDoTheSame }
+{}
+
+/// Functions that are kept, use only what is kept and never call themselves give what they give among all
+/// (`functions`), and procedures that use only what is kept do what they do over all (`procedures`).
+pub fn routines_over_used_names_do_the_same()
+    ensures functions { KeptFunctionsGiveTheSame }
+    ensures procedures { ProceduresOverKeptDoTheSame }
 {}

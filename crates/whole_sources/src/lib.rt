@@ -6,4 +6,7 @@
 
 mod laws;
 
-pub use laws::{expressions_over_used_names_give_the_same, statements_over_used_names_do_the_same};
+pub use laws::{
+    expressions_over_used_names_give_the_same, routines_over_used_names_do_the_same,
+    statements_over_used_names_do_the_same,
+};
