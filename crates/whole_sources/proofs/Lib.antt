@@ -3,3 +3,4 @@ pub mod Alike
 pub mod Narrowed
 pub mod Statements
 pub mod Routines
+pub mod Firings

@@ -1,3 +1,4 @@
 pub mod Keeping
 pub mod Closed
 pub mod Laws
+pub mod Behaving

@@ -1,5 +1,6 @@
 //! Laws of what uses only names that are kept. Each is a function that does nothing: its contract is what is proved.
 
+ghost use Rattle.whole_sources.specs.Behaving.{KeptPartsBehaveTheSame, KeptPartsHaveStates};
 ghost use Rattle.whole_sources.specs.Laws.{EachGivesTheSame, ExpressionsGiveTheSame, StatementsDoTheSame};
 ghost use Rattle.whole_sources.specs.Laws.{KeptFunctionsGiveTheSame, ProceduresOverKeptDoTheSame};
 
@@ -20,4 +21,11 @@ pub fn statements_over_used_names_do_the_same()
 pub fn routines_over_used_names_do_the_same()
     ensures functions { KeptFunctionsGiveTheSame }
     ensures procedures { ProceduresOverKeptDoTheSame }
+{}
+
+/// Of an actor that uses only what is kept the kept part behaves as the whole does, of each state of the whole
+/// (`behaviour`), and what is kept of that state is a state of the part (`states`).
+pub fn kept_parts_behave_the_same()
+    ensures behaviour { KeptPartsBehaveTheSame }
+    ensures states { KeptPartsHaveStates }
 {}
