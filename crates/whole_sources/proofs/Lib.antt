@@ -4,3 +4,6 @@ pub mod Narrowed
 pub mod Statements
 pub mod Routines
 pub mod Firings
+pub mod Sources
+pub mod UsedNames
+pub mod WrittenUses

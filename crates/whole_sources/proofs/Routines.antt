@@ -21,7 +21,7 @@ use Rattle.whole_sources.proofs.Statements.{eval-kept, statements-kept, world}
 
 -- ---- what one function gives
 
-abbrev StartIn : Keep → Option Tree → Type 0
+abbrev pub StartIn : Keep → Option Tree → Type 0
 StartIn keep o = elim o [ None ↦ Unit {0} | Some e ↦ Within keep e ]
 
 module _ (keep : Keep) (few all : Calls) (give : GiveTheSame keep few all) where

@@ -2,3 +2,4 @@ pub mod Keeping
 pub mod Closed
 pub mod Laws
 pub mod Behaving
+pub mod WholeActor

@@ -1,8 +1,11 @@
 //! Laws of what uses only names that are kept. Each is a function that does nothing: its contract is what is proved.
 
+use cal_check::sources_without_violations_are_sound;
+
 ghost use Rattle.whole_sources.specs.Behaving.{KeptPartsBehaveTheSame, KeptPartsHaveStates};
 ghost use Rattle.whole_sources.specs.Laws.{EachGivesTheSame, ExpressionsGiveTheSame, StatementsDoTheSame};
 ghost use Rattle.whole_sources.specs.Laws.{KeptFunctionsGiveTheSame, ProceduresOverKeptDoTheSame};
+ghost use Rattle.whole_sources.specs.WholeActor.{SourcesAreClosed, SourcesAreParts, SourcesBehaveAsWhole};
 
 /// Expressions that use only names that are kept give over the kept variables and functions what they give over all
 /// (`one`), and so do several in order (`each`).
@@ -29,3 +32,13 @@ pub fn kept_parts_behave_the_same()
     ensures behaviour { KeptPartsBehaveTheSame }
     ensures states { KeptPartsHaveStates }
 {}
+
+/// The actor of a source that breaks no rule is a part of the actor with all that its own file and its imports declare
+/// (`part`), which uses nothing else (`closed`), and behaves as that whole (`behaviour`).
+pub fn sources_behave_as_with_all_declared()
+    ensures part { SourcesAreParts }
+    ensures closed { SourcesAreClosed }
+    ensures behaviour { SourcesBehaveAsWhole }
+{
+    sources_without_violations_are_sound();
+}
