@@ -3,26 +3,26 @@ use Rattle.std.proofs.Common.{◌≡◌, ℕ, zero, suc, ℤ, Bool, true, false,
 use Rattle.std.specs.Prelude.{if◌then◌else◌, ◌&&◌, ◌||◌, not, nat_le, option_map, slice_get}
 use Rattle.std.specs.List.{range_with_len}
 use Rattle.std.specs.Str.{bytes_eq}
-use Rattle.rvc_base.specs.Behaviour.{Choice, Waits, Picks, Faults, Effect}
+use Rattle.rvc_base.specs.Behaviour.{Choice, Waits, Picks, Faults}
 use Rattle.rvc_base.specs.Storing.{conv}
 use Rattle.rvc_base.specs.Turns.{max_turns}
 use Rattle.cal_ast.specs.Tree.{Tree}
 use Rattle.cal_model.specs.Actor.{Action, Actor, Held, Output, Pattern, Port}
-use Rattle.cal_model.specs.ActorState.{are_vars_of, is_actor_state, is_of, is_same_kept, is_same_value, is_state_of, is_var_of, kept_in, kept_tokens}
+use Rattle.cal_model.specs.ActorState.{are_vars_of, is_of, is_same_kept, is_same_value, is_state_of, is_var_of, kept_in, kept_tokens}
 use Rattle.cal_model.specs.Call.{calls_of, declared}
 use Rattle.cal_model.specs.Eligible.{eligible, next}
 use Rattle.cal_model.specs.Env.{Env, Var, variable}
 use Rattle.cal_model.specs.Expression.{Calls, eval, eval_all}
-use Rattle.cal_model.specs.Firing.{Fired, behaviour, body, body_of, effect, effect_of_body, effect_of_exposed, outputs, sent_by_port, sent_numbers}
+use Rattle.cal_model.specs.Firing.{Fired, behaviour, body, body_of, effect, effect_of_body, effect_of_exposed, outputs, sent_numbers}
 use Rattle.cal_model.specs.Outcome.{Out, Gives, Traps, Lacks, Clashes, and_then}
 use Rattle.cal_model.specs.Rates.{need}
 use Rattle.cal_model.specs.Selection.{AreFalse, AreTrapping, AreTrue, Guards, Priorities, State, are_true, choice, choice_among, first_vars, guard_then, guards_say, has_its_tokens, has_its_tokens_on, is_exposed, kind_of_port, outranked, pattern_vars, pattern_vars_from, readiness, seen_by, tokens_on}
 use Rattle.cal_model.specs.Sound.{Each}
-use Rattle.cal_model.specs.Statement.{Runs, exec_all, runs_of}
+use Rattle.cal_model.specs.Statement.{exec_all, runs_of}
 use Rattle.cal_model.proofs.KindNames.{same-text}
 use Rattle.whole_sources.specs.Behaving.{ShowsTheSame, IsStateOf, narrowed_behaviour, narrowed_effect, same_order}
-use Rattle.whole_sources.specs.Closed.{ActionWithin, IsClosed, StartWithin, Within}
-use Rattle.whole_sources.specs.Keeping.{DoTheSame, GiveTheSame, IsKept, Keep, mapped, narrowed, narrowed_actor, narrowed_state, only, only_held}
+use Rattle.whole_sources.specs.Closed.{ActionWithin, IsClosed, Within}
+use Rattle.whole_sources.specs.Keeping.{DoTheSame, GiveTheSame, Keep, mapped, narrowed, narrowed_actor, narrowed_state, only, only_held}
 use Rattle.whole_sources.proofs.Narrowed.{only-in, only-out, then-kept, then-mapped}
 use Rattle.whole_sources.proofs.Outcomes.{then-same}
 use Rattle.whole_sources.proofs.Routines.{calls-kept, declared-kept, runs-kept}

@@ -7,3 +7,4 @@ pub mod Firings
 pub mod Sources
 pub mod UsedNames
 pub mod WrittenUses
+mod Rows

@@ -16,8 +16,7 @@ use Rattle.whole_sources.specs.Closed.{FunWithin, FunsWithin, ProcWithin, StartW
 use Rattle.whole_sources.specs.Keeping.{DoTheSame, GiveTheSame, IsKept, Keep, mapped, narrowed, only, only_funs}
 use Rattle.whole_sources.proofs.Alike.{World, called-in, eval-alike}
 use Rattle.whole_sources.proofs.Narrowed.{another, then-kept, then-mapped}
-use Rattle.whole_sources.proofs.Outcomes.{then-same}
-use Rattle.whole_sources.proofs.Statements.{eval-kept, statements-kept, world}
+use Rattle.whole_sources.proofs.Statements.{eval-kept, statements-kept}
 
 -- ---- what one function gives
 

@@ -3,7 +3,7 @@ use Rattle.std.proofs.Common.{◌≡◌, ℕ, Bool, true, false, List, [], ◌�
 use Rattle.std.specs.Prelude.{if◌then◌else◌}
 use Rattle.cal_ast.specs.Tree as tree
 use Rattle.cal_ast.specs.Tree.{Tree}
-use Rattle.cal_model.specs.Actor.{Action, Actor, Fun, Held, Local, Output, Proc}
+use Rattle.cal_model.specs.Actor.{Actor, Fun, Held, Local, Output, Proc}
 use Rattle.cal_model.specs.Kinding.{Broken, Fine, Judged, Names}
 use Rattle.cal_model.specs.Sound.{Each, FunsNeverReturn, IsSound, with_locals}
 use Rattle.cal_model.specs.Selection.{Priorities}
@@ -11,7 +11,7 @@ use Rattle.cal_model.specs.Firing.{behaviour}
 use Rattle.cal_model.proofs.KindValues.{fine-is, not-fine, split}
 use Rattle.rvc_base.specs.Rules.{unknown_name}
 use Rattle.cal_check.specs.Actions.{Around, action_of, or_none, outputs_fine, patterns_of, with_all_patterns}
-use Rattle.cal_check.specs.Actors.{Conforms, IsSource, Source, actions_in, actions_of, actor_given, all_funs, all_valued, around_of, funs_in, funs_of, is_kept, kept_funs, kept_vars, members_of, outers, procs_in, procs_of, used}
+use Rattle.cal_check.specs.Actors.{IsSource, Source, actions_in, actions_of, actor_given, all_funs, around_of, funs_in, funs_of, kept_funs, kept_vars, members_of, procs_in, procs_of}
 use Rattle.cal_check.specs.Routines.{FunDecl, Head, formals_judged, fun_if, fun_judged, head_judged, locals_of, proc_judged, proc_of}
 use Rattle.cal_check.specs.Statements.{names_behind}
 use Rattle.cal_check.specs.Sources.{IsSourceFormed, SourcesAreSound, procs_of_source}

@@ -1,10 +1,10 @@
 -- What uses only names that are kept does over the kept globals what it does over all.
-use Rattle.std.proofs.Common.{◌≡◌, ℕ, zero, suc, ℤ, pos, ◌+ℤ◌, true, false, List, refl, sym, ap, ◌∙◌, Option, None, Some}
+use Rattle.std.proofs.Common.{◌≡◌, ℕ, zero, suc, ℤ, pos, ◌+ℤ◌, true, false, refl, ap}
 use Rattle.cal_ast.specs.Tree as tree
 use Rattle.cal_ast.specs.Tree.{Tree}
-use Rattle.cal_model.specs.Value.{Shape, Value, Num, Truth, Items, Values, stored}
+use Rattle.cal_model.specs.Value.{Shape, Value, Num, Truth, Items, stored}
 use Rattle.cal_model.specs.Outcome.{Out, Gives, and_then, turn}
-use Rattle.cal_model.specs.Env.{Env, Var, variable, with_local}
+use Rattle.cal_model.specs.Env.{Env, variable, with_local}
 use Rattle.cal_model.specs.Expression.{Calls, chosen, eval, eval_all, range_of, span, type_meant}
 use Rattle.cal_model.specs.Statement.{Runs, exec, exec_all, first_of, for_loop, inside, while_loop, with_vars}
 use Rattle.cal_check.specs.Uses.{OnlyUses}

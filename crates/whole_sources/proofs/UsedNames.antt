@@ -1,5 +1,5 @@
--- What the actor uses, directly or indirectly, is kept: after as many rounds as there are declarations one round more
--- finds nothing.
+-- What an actor uses, directly or indirectly, is kept: after as many rounds as there are declarations one round more finds
+-- nothing. `cal_check` has these lemmas too, which it keeps to itself.
 use Rattle.std.proofs.Common.{◌≡◌, ℕ, zero, suc, ◌<◌, ◌≤◌, ◌⊎◌, inl, inr, ⊎_elim, Bool, true, false, ◌||◌, List, [], ◌∷◌, ◌++◌, map, length, refl, sym, ap, subst, ◌∙◌, arith, Contains}
 use Rattle.std.specs.Prelude.{if◌then◌else◌}
 use Rattle.std.specs.Str.{bytes_eq}

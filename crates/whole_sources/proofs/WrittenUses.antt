@@ -1,4 +1,4 @@
--- What is written out uses what its source uses.
+-- What is written out uses what its source uses. `cal_check` has these lemmas too, which it keeps to itself.
 use Rattle.std.proofs.Common.{◌≡◌, ℕ, suc, Bool, true, false, List, [], ◌∷◌, ℤ, pos, negsuc, refl, ap, subst, Option, None, Some}
 use Rattle.std.specs.Prelude.{if◌then◌else◌}
 use Rattle.rvc_base.specs.declared.scalar.Scalar.{Scalar}

@@ -1,6 +1,6 @@
 -- An actor with only what it uses behaves as with all that is declared.
 -- Trusted: part of what a promise means.
-use Rattle.std.specs.Prelude.{◌≡◌, ℕ, ℤ, List, true, Option, option_map}
+use Rattle.std.specs.Prelude.{◌≡◌, ℕ, ℤ, List, true, option_map}
 use Rattle.rvc_base.specs.Behaviour.{Behaviour, Effect, Fires, TrapsInBody, TrapsInGuard}
 use Rattle.cal_model.specs.Actor.{Actor}
 use Rattle.cal_model.specs.ActorState.{is_actor_state}

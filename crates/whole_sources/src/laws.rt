@@ -1,11 +1,11 @@
 //! Laws of what uses only names that are kept. Each is a function that does nothing: its contract is what is proved.
 
-use cal_check::sources_without_violations_are_sound;
-
 ghost use Rattle.whole_sources.specs.Behaving.{KeptPartsBehaveTheSame, KeptPartsHaveStates};
 ghost use Rattle.whole_sources.specs.Laws.{EachGivesTheSame, ExpressionsGiveTheSame, StatementsDoTheSame};
 ghost use Rattle.whole_sources.specs.Laws.{KeptFunctionsGiveTheSame, ProceduresOverKeptDoTheSame};
 ghost use Rattle.whole_sources.specs.WholeActor.{SourcesAreClosed, SourcesAreParts, SourcesBehaveAsWhole};
+
+use cal_check::sources_without_violations_are_sound;
 
 /// Expressions that use only names that are kept give over the kept variables and functions what they give over all
 /// (`one`), and so do several in order (`each`).
