@@ -1,9 +1,13 @@
 -- A worked case: an import with three functions and a constant, of which the actor uses one, and that one uses another.
-use Rattle.std.proofs.Common.{◌≡◌, ℕ, List, [], ◌∷◌, codes, map, true, false, refl}
+use Rattle.std.proofs.Common.{◌≡◌, ℕ, List, [], ◌∷◌, codes, map, true, false, pos, refl, Option, Some}
 use Rattle.rvc_base.specs.Turns as turns
 use Rattle.cal_ast.specs.Tree as tree
 use Rattle.cal_ast.specs.Tree.{Tree, listed}
-use Rattle.cal_check.specs.Actors.{Source, actor_given}
+use Rattle.rvc_base.specs.Behaviour.{Effect, Fires}
+use Rattle.cal_model.specs.Actor.{Actor}
+use Rattle.cal_model.specs.Firing.{body, effect_of_body}
+use Rattle.cal_model.specs.Selection.{State, start_of}
+use Rattle.cal_check.specs.Actors.{Source, actor_given, violations}
 use Rattle.cal_check.specs.Variables.{Spot}
 use Rattle.whole_sources.specs.Keeping.{narrowed_actor}
 use Rattle.whole_sources.specs.WholeActor.{kept_by, whole_actor}
@@ -33,8 +37,8 @@ importing = record {
   file = 1;
   actor = sender;
   vars =
-      record { name = codes "c"; file = 0; shape = number 2; start = tree.number 7 9; changes = false; is_param = false }
-      ∷ record { name = codes "d"; file = 0; shape = number 12; start = tree.number 8 19; changes = false; is_param = false }
+      record { name = codes "c"; file = 0; shape = number 2; start = tree.present (tree.number 7 9); changes = false; is_param = false }
+      ∷ record { name = codes "d"; file = 0; shape = number 12; start = tree.present (tree.number 8 19); changes = false; is_param = false }
       ∷ [];
   funs =
       record { name = codes "f"; file = 0; decl = function (codes "f") (calls (codes "g")) }
@@ -83,3 +87,20 @@ kept_variables = refl
 pub part_of_it : actor_given importing [] words ≡ narrowed_actor (kept_by importing) (whole_actor importing [] words)
 unfolding turns.max_turns
 part_of_it = refl
+
+-- it breaks no rule, ..
+breaks_nothing : violations importing [] words ≡ []
+unfolding turns.max_turns
+breaks_nothing = refl
+
+-- .. and sends the value of c, with all that is declared and without what isn't used
+abbrev sends : Actor → Option (Effect State)
+sends actor = effect_of_body (body actor (start_of actor) [] 0)
+
+whole_sends : sends (whole_actor importing [] words) ≡ Some (Fires (start_of (whole_actor importing [] words)) ((pos 7 ∷ []) ∷ []))
+unfolding turns.max_turns
+whole_sends = refl
+
+part_sends : sends (actor_given importing [] words) ≡ Some (Fires (start_of (actor_given importing [] words)) ((pos 7 ∷ []) ∷ []))
+unfolding turns.max_turns
+part_sends = refl

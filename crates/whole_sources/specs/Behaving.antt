@@ -28,7 +28,8 @@ same_order keep actor p = record {
 abbrev pub narrowed_behaviour : (keep : Keep) (actor : Actor) → Priorities actor → Behaviour State
 narrowed_behaviour keep actor p = behaviour (narrowed_actor keep actor) (same_order keep actor p)
 
--- one behaviour (`few`) shows of each of these states what another (`all`) shows, but for what isn't kept of it
+-- one behaviour (`few`) shows of each of these states what another (`all`) shows, but for what
+-- isn't kept of it
 pub record ShowsTheSame (keep : Keep) (Here : State → Type 0) (few all : Behaviour State) :
     Type 0 where
   pub start : few.start ≡ narrowed_state keep all.start
@@ -38,7 +39,8 @@ pub record ShowsTheSame (keep : Keep) (Here : State → Type 0) (few all : Behav
   pub need : (a port : ℕ) → few.need a port ≡ all.need a port
   pub give : (a port : ℕ) → few.give a port ≡ all.give a port
   pub effect : (x : State) (u : List (List ℤ)) (a : ℕ) → Here x
-      → few.effect (narrowed_state keep x) u a ≡ option_map (narrowed_effect keep) (all.effect x u a)
+      → few.effect (narrowed_state keep x) u a
+      ≡ option_map (narrowed_effect keep) (all.effect x u a)
   pub choice : (x : State) (u : List (List ℤ)) → Here x
       → few.choice (narrowed_state keep x) u ≡ all.choice x u
 

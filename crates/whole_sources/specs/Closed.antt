@@ -32,7 +32,8 @@ pub record ActionWithin (keep : Keep) (act : Action) : Type 0 where
 abbrev pub FunsWithin : Keep → List Fun → Type 0
 FunsWithin keep funs = Each (λ f. IsKept keep f.name → FunWithin keep f) funs
 
--- An actor uses only what is kept, and of its functions those that are kept do; none of these calls itself.
+-- An actor uses only what is kept, and so do its functions that are kept; none of these calls
+-- itself.
 pub record IsClosed (keep : Keep) (actor : Actor) : Type 0 where
   pub funs : FunsWithin keep actor.funs
   pub funs_end : FunsNeverReturn (only_funs keep actor.funs)

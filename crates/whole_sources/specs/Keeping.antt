@@ -32,7 +32,7 @@ mapped f (Traps c) = Traps c
 mapped f Lacks = Lacks
 mapped f Clashes = Clashes
 
--- Functions that are kept give over the kept globals (`few`) what they give over all of them (`all`).
+-- functions that are kept give over the kept globals (`few`) what they give over all (`all`)
 abbrev pub GiveTheSame : Keep → (few all : Calls) → Type 0
 GiveTheSame keep few all = (name : List ℕ) (globals : List Var) (args : Values) (left : ℕ)
     → IsKept keep name

@@ -32,7 +32,7 @@ StatementsDoTheSame =
     → exec_all ss few some (narrowed keep env) left
     ≡ mapped (narrowed keep) (exec_all ss all every env left)
 
--- functions that are kept give the same, if they use only what is kept and none of them calls itself
+-- functions that are kept give the same, if they use only what is kept and none calls itself
 abbrev pub KeptFunctionsGiveTheSame : Type 0
 KeptFunctionsGiveTheSame = (keep : Keep) (funs : List Fun)
     → FunsWithin keep funs → FunsNeverReturn (only_funs keep funs)

@@ -17,8 +17,8 @@ use Rattle.whole_sources.specs.Keeping.{Keep, narrowed_actor}
 abbrev pub kept_by : Source → Keep
 kept_by s name = is_kept name (outers s) (used s)
 
--- The actor that a source is with all variables and functions that are declared, in its own file and in those to which
--- its imports lead, used or not; sizes and bounds are written out.
+-- The actor that a source is with all variables and functions that are declared, in its own file
+-- and in those to which its imports lead, used or not; sizes and bounds are written out.
 abbrev pub whole_actor : Source → List Given → Spot → Actor
 whole_actor s gs owner = record (actor_given s gs owner) {
   vars = (all_valued s gs owner).held;

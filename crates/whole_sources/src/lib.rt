@@ -1,7 +1,7 @@
 //! What is left out of an actor, since nothing uses it, changes nothing.
 //!
-//! An actor keeps of what other files declare only what it uses, directly or indirectly. Here it is shown of the evaluator that
-//! whatever uses only names that are kept does over those alone what it does over all declarations.
+//! An actor keeps of what other files declare only what it uses, directly or indirectly. Here it is shown of the evaluator
+//! that whatever uses only names that are kept does over those alone what it does over all declarations.
 #![tactic(auto)]
 
 mod laws;
