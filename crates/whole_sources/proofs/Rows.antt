@@ -65,12 +65,15 @@ leaves_out_a_function = refl
 leaves_out_a_constant : kept_by importing (codes "d") ≡ false
 leaves_out_a_constant = refl
 
+abbrev whole_import : Actor
+whole_import = whole_actor importing [] words (actor_given importing [] words)
+
 -- all that is declared, ..
-all_functions : map (λ f. f.name) (whole_actor importing [] words).funs ≡ codes "f" ∷ codes "g" ∷ codes "h" ∷ []
+all_functions : map (λ f. f.name) (whole_import).funs ≡ codes "f" ∷ codes "g" ∷ codes "h" ∷ []
 unfolding turns.max_turns
 all_functions = refl
 
-all_variables : map (λ x. x.name) (whole_actor importing [] words).vars ≡ codes "c" ∷ codes "d" ∷ []
+all_variables : map (λ x. x.name) (whole_import).vars ≡ codes "c" ∷ codes "d" ∷ []
 unfolding turns.max_turns
 all_variables = refl
 
@@ -84,7 +87,7 @@ unfolding turns.max_turns
 kept_variables = refl
 
 -- the actor is a part of the whole
-pub part_of_it : actor_given importing [] words ≡ narrowed_actor (kept_by importing) (whole_actor importing [] words)
+pub part_of_it : actor_given importing [] words ≡ narrowed_actor (kept_by importing) (whole_import)
 unfolding turns.max_turns
 part_of_it = refl
 
@@ -97,7 +100,7 @@ breaks_nothing = refl
 abbrev sends : Actor → Option (Effect State)
 sends actor = effect_of_body (body actor (start_of actor) [] 0)
 
-whole_sends : sends (whole_actor importing [] words) ≡ Some (Fires (start_of (whole_actor importing [] words)) ((pos 7 ∷ []) ∷ []))
+whole_sends : sends (whole_import) ≡ Some (Fires (start_of (whole_import)) ((pos 7 ∷ []) ∷ []))
 unfolding turns.max_turns
 whole_sends = refl
 

@@ -6,12 +6,13 @@ use Rattle.cal_ast.specs.Tree.{Tree}
 use Rattle.cal_model.specs.Actor.{Actor, Fun, Held, Local, Output, Proc}
 use Rattle.cal_model.specs.Kinding.{Broken, Fine, Judged, Names}
 use Rattle.cal_model.specs.Sound.{Each, FunsNeverReturn, IsSound, with_locals}
-use Rattle.cal_model.specs.Selection.{Priorities}
+use Rattle.cal_model.specs.Selection.{Priorities, State}
+use Rattle.rvc_base.specs.Behaviour.{Behaviour}
 use Rattle.cal_model.specs.Firing.{behaviour}
 use Rattle.cal_model.proofs.KindValues.{fine-is, not-fine, split}
 use Rattle.rvc_base.specs.Rules.{unknown_name}
 use Rattle.cal_check.specs.Actions.{Around, action_of, or_none, outputs_fine, patterns_of, with_all_patterns}
-use Rattle.cal_check.specs.Actors.{IsSource, Source, actions_in, actions_of, actor_given, all_funs, around_of, funs_in, funs_of, kept_funs, kept_vars, members_of, procs_in, procs_of}
+use Rattle.cal_check.specs.Actors.{Conforms, IsSource, Source, actions_in, actions_of, actor_given, all_funs, around_of, funs_in, funs_of, kept_funs, kept_vars, members_of, procs_in, procs_of}
 use Rattle.cal_check.specs.Routines.{FunDecl, Head, formals_judged, fun_if, fun_judged, head_judged, locals_of, proc_judged, proc_of}
 use Rattle.cal_check.specs.Statements.{names_behind}
 use Rattle.cal_check.specs.Sources.{IsSourceFormed, SourcesAreSound, procs_of_source}
@@ -20,10 +21,10 @@ use Rattle.cal_check.specs.Variables.{Given, Spot}
 use Rattle.cal_check.specs.Violations.{all_fine, fine}
 use Rattle.cal_check.specs.Written.{behind_vars}
 use Rattle.cal_check.proofs.Lists.{each-append, each-map}
-use Rattle.whole_sources.specs.Behaving.{IsStateOf, ShowsTheSame, narrowed_behaviour}
+use Rattle.whole_sources.specs.Behaving.{IsStateOf, ShowsTheSame}
 use Rattle.whole_sources.specs.Closed.{ActionWithin, FunWithin, FunsWithin, IsClosed, ProcWithin, StartWithin, Within}
 use Rattle.whole_sources.specs.Keeping.{IsKept, Keep, narrowed_actor, only_funs, only_held}
-use Rattle.whole_sources.specs.WholeActor.{kept_by, whole_actor}
+use Rattle.whole_sources.specs.WholeActor.{kept_by, whole_actor, whole_order}
 use Rattle.whole_sources.proofs.Firings.{shows-the-same}
 use Rattle.whole_sources.proofs.Routines.{StartIn}
 use Rattle.whole_sources.proofs.UsedNames.{actor-uses, outers-use}
@@ -165,29 +166,64 @@ vars-are s (h ∷ hs) = go (kept_by s h.name) (vars-are s hs)
     go true e = ap (λ xs. h ∷ xs) e
     go false e = e
 
-part-is : (s : Source) (gs : List Given) (owner : Spot) → actor_given s gs owner ≡ narrowed_actor (kept_by s) (whole_actor s gs owner)
+-- the actor that is given, with all that is declared
+abbrev given_whole : Source → List Given → Spot → Actor
+given_whole s gs owner = whole_actor s gs owner (actor_given s gs owner)
+
+part-is : (s : Source) (gs : List Given) (owner : Spot) → actor_given s gs owner ≡ narrowed_actor (kept_by s) (given_whole s gs owner)
 part-is s gs owner =
-    let whole : Actor = whole_actor s gs owner in
+    let whole : Actor = given_whole s gs owner in
     ap (λ hs. record (actor_given s gs owner) { vars = hs; funs = kept_funs whole.funs s }) (vars-are s whole.vars)
     ∙ ap (λ fs. record (actor_given s gs owner) { vars = only_held (kept_by s) whole.vars; funs = fs }) (funs-are s whole.funs)
 
-pub source-is-part : (s : Source) (gs : List Given) (owner : Spot) (actor : Actor) → IsSource s gs owner actor → actor ≡ narrowed_actor (kept_by s) (whole_actor s gs owner)
-source-is-part s gs owner actor is = is.is ∙ part-is s gs owner
+pub source-is-part : (s : Source) (gs : List Given) (owner : Spot) (actor : Actor) → IsSource s gs owner actor → actor ≡ narrowed_actor (kept_by s) (whole_actor s gs owner actor)
+source-is-part s gs owner actor is = subst (λ a. a ≡ narrowed_actor (kept_by s) (whole_actor s gs owner a)) (sym is.is) (part-is s gs owner)
 
 -- none of the functions that are kept calls itself, since the actor is sound
-pub source-is-closed : SourcesAreSound → (s : Source) (gs : List Given) (owner : Spot) (actor : Actor) → IsSourceFormed s → IsSource s gs owner actor → IsClosed (kept_by s) (whole_actor s gs owner)
-source-is-closed sound s gs owner actor formed is =
+given-is-closed : SourcesAreSound → (s : Source) (gs : List Given) (owner : Spot) → IsSourceFormed s → Conforms s gs owner → IsClosed (kept_by s) (given_whole s gs owner)
+given-is-closed sound s gs owner formed c =
     let keep : Keep = kept_by s in
     let names : Names = (around_of s gs owner).names in
-    let good : IsSound (actor_given s gs owner) = sound s gs owner (actor_given s gs owner) formed (record { conforms = is.conforms; is = refl }) in
+    let good : IsSound (actor_given s gs owner) = sound s gs owner (actor_given s gs owner) formed (record { conforms = c; is = refl }) in
     record {
       funs = or-none-has (λ f. IsKept keep f.name → FunWithin keep f) (all_fine (funs_of (all_funs s) names)) (λ found e. funs-within s names (all_funs s) found (funs-use s) e);
-      funs_end = subst (λ a. FunsNeverReturn a) (funs-are s (whole_actor s gs owner).funs) good.funs_end;
+      funs_end = subst (λ a. FunsNeverReturn a) (funs-are s (given_whole s gs owner).funs) good.funs_end;
       procs = or-none-has (ProcWithin keep) (all_fine (procs_of (procs_of_source s) names))
           (λ found e. procs-within keep names (procs_of_source s) found (procs-use (IsKept keep) (members_of s.actor) (members-use s)) e);
       actions = actions-within keep (actions_in (members_of s.actor)) (around_of s gs owner) (actions-use (IsKept keep) (members_of s.actor) (members-use s));
     }
 
-pub source-behaves : SourcesAreSound → (s : Source) (gs : List Given) (owner : Spot) (actor : Actor) (p : Priorities (whole_actor s gs owner)) → IsSourceFormed s → IsSource s gs owner actor
-    → ShowsTheSame (kept_by s) (IsStateOf (whole_actor s gs owner)) (narrowed_behaviour (kept_by s) (whole_actor s gs owner) p) (behaviour (whole_actor s gs owner) p)
-source-behaves sound s gs owner actor p formed is = shows-the-same (kept_by s) (whole_actor s gs owner) (source-is-closed sound s gs owner actor formed is) p
+pub source-is-closed : SourcesAreSound → (s : Source) (gs : List Given) (owner : Spot) (actor : Actor) → IsSourceFormed s → IsSource s gs owner actor → IsClosed (kept_by s) (whole_actor s gs owner actor)
+source-is-closed sound s gs owner actor formed is =
+    subst (λ a. IsClosed (kept_by s) (whole_actor s gs owner a)) (sym is.is) (given-is-closed sound s gs owner formed is.conforms)
+
+-- ---- its behaviour
+
+-- an actor with other variables and functions, in the order that it has
+abbrev with_parts : (actor : Actor) → Priorities actor → List Held → List Fun → Behaviour State
+with_parts actor p hs fs = behaviour (record actor { vars = hs; funs = fs }) (record { above = p.above; line = p.line; is_above = p.is_above; is_line = p.is_line })
+
+abbrev Shows : Source → (actor whole : Actor) → Priorities actor → Priorities whole → List Held → List Fun → Type 0
+Shows s actor whole p q hs fs = ShowsTheSame (kept_by s) (IsStateOf whole) (with_parts actor p hs fs) (behaviour whole q)
+
+given-behaves : SourcesAreSound → (s : Source) (gs : List Given) (owner : Spot) (p : Priorities (actor_given s gs owner)) → IsSourceFormed s → Conforms s gs owner
+    → ShowsTheSame (kept_by s) (IsStateOf (given_whole s gs owner)) (behaviour (actor_given s gs owner) p) (behaviour (given_whole s gs owner) (whole_order s gs owner (actor_given s gs owner) p))
+given-behaves sound s gs owner p formed c =
+    let keep : Keep = kept_by s in
+    let given : Actor = actor_given s gs owner in
+    let whole : Actor = given_whole s gs owner in
+    let q : Priorities whole = whole_order s gs owner given p in
+    let narrow : Shows s given whole p q (only_held keep whole.vars) (only_funs keep whole.funs) = shows-the-same keep whole (given-is-closed sound s gs owner formed c) q in
+    let funs : Shows s given whole p q (only_held keep whole.vars) (kept_funs whole.funs s) =
+    subst (λ fs. Shows s given whole p q (only_held keep whole.vars) fs) (sym (funs-are s whole.funs)) narrow in
+    subst (λ hs. Shows s given whole p q hs (kept_funs whole.funs s)) (sym (vars-are s whole.vars)) funs
+
+abbrev ShowsWhole : Source → List Given → Spot → Actor → Type 0
+ShowsWhole s gs owner actor = (p : Priorities actor)
+    → ShowsTheSame (kept_by s) (IsStateOf (whole_actor s gs owner actor)) (behaviour actor p) (behaviour (whole_actor s gs owner actor) (whole_order s gs owner actor p))
+
+pub source-behaves : SourcesAreSound → (s : Source) (gs : List Given) (owner : Spot) (actor : Actor) (p : Priorities actor) → IsSourceFormed s → IsSource s gs owner actor
+    → ShowsTheSame (kept_by s) (IsStateOf (whole_actor s gs owner actor)) (behaviour actor p) (behaviour (whole_actor s gs owner actor) (whole_order s gs owner actor p))
+source-behaves sound s gs owner actor p formed is =
+    let all : ShowsWhole s gs owner actor = subst (ShowsWhole s gs owner) (sym is.is) (λ q. given-behaves sound s gs owner q formed is.conforms) in
+    all p
