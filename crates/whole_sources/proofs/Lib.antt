@@ -1,0 +1,10 @@
+pub mod Outcomes
+pub mod Alike
+pub mod Narrowed
+pub mod Statements
+pub mod Routines
+pub mod Firings
+pub mod Sources
+pub mod UsedNames
+pub mod WrittenUses
+mod Rows

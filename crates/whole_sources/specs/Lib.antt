@@ -1,0 +1,5 @@
+pub mod Keeping
+pub mod Closed
+pub mod Laws
+pub mod Behaving
+pub mod WholeActor

@@ -1,0 +1,13 @@
+//! What is left out of an actor, since nothing uses it, changes nothing.
+//!
+//! An actor keeps of what other files declare only what it uses, directly or indirectly. Here it is shown of the evaluator
+//! that whatever uses only names that are kept does over those alone what it does over all declarations.
+#![tactic(auto)]
+
+mod laws;
+
+pub use laws::{
+    expressions_over_used_names_give_the_same, kept_parts_behave_the_same,
+    routines_over_used_names_do_the_same, sources_behave_as_with_all_declared,
+    statements_over_used_names_do_the_same,
+};
