@@ -3,5 +3,5 @@ use Rattle.actor_lower.specs.Faults.{IsActorFault}
 use Rattle.actor_lower.proofs.WholeActors.{no-part}
 use Rattle.actor_lower.proofs.actor.memory_of.Goals as goal
 
-pub prove-unreachable-requires : goal.prove-unreachable-requires
-prove-unreachable-requires c = no-part c.args.b.now c.in-NotLowered.at c.requires.sound (subst (IsActorFault c.args.b.now) c.in-NotLowered.is c.requires.fault)
+pub unreachable-requires : goal.unreachable-requires
+unreachable-requires c = no-part c.args.b.now c.in-NotLowered.at c.requires.sound (subst (IsActorFault c.args.b.now) c.in-NotLowered.is c.requires.fault)
