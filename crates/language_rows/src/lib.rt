@@ -7,8 +7,6 @@
 #[cfg(test)]
 mod copying;
 #[cfg(test)]
-mod expressions;
-#[cfg(test)]
 mod lexing;
 #[cfg(test)]
 mod parsing;
