@@ -7,4 +7,9 @@ pub mod Firings
 pub mod Sources
 pub mod UsedNames
 pub mod WrittenUses
+mod SameCalls
+mod CallsBelow
+mod SameFuns
+mod SettledFuns
+mod Conforming
 mod Rows
