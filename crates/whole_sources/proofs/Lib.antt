@@ -12,4 +12,6 @@ mod CallsBelow
 mod SameFuns
 mod SettledFuns
 mod Conforming
+mod HeldConstants
+mod WrittenActor
 mod Rows
