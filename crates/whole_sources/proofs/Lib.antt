@@ -14,4 +14,5 @@ mod SettledFuns
 mod Conforming
 mod HeldConstants
 mod WrittenActor
+mod AsWritten
 mod Rows

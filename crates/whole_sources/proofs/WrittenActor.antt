@@ -74,7 +74,7 @@ module _ (base : Actor) (funs : List Fun) (procs : List Proc) (acts : List Actio
   at-both (a ∷ xs) (b ∷ ys) zero h = h.0
   at-both (a ∷ xs) (b ∷ ys) (suc k) h = at-both xs ys k h.1
 
-  as-many : (xs ys : List Action) → AreAlike xs ys → length xs ≡ length ys
+  pub as-many : (xs ys : List Action) → AreAlike xs ys → length xs ≡ length ys
   as-many [] [] h = refl
   as-many [] (b ∷ ys) h = absurd h
   as-many (a ∷ xs) [] h = absurd h
@@ -168,7 +168,7 @@ module _ (base : Actor) (funs : List Fun) (procs : List Proc) (acts : List Actio
     abbrev ready_of : Actor → State → List (List ℤ) → Bool → Option Action → Guards
     ready_of of x u m o = elim o [ None ↦ AreFalse | Some act ↦ if m then guards_say act.guards (calls_of of.funs) (seen_by of x u act) else AreFalse ]
 
-    state-same : (x : State) → is_actor_state base x ≡ is_actor_state there x
+    pub state-same : (x : State) → is_actor_state base x ≡ is_actor_state there x
     state-same x = ap (λ i. (nat_lt x.at (states_of base) || (i && x.at == fresh base)) && are_vars_of base.vars x.vars) (initialize-same base.actions acts alike)
 
     module _ (x : State) (state : is_actor_state base x ≡ true) (u : List (List ℤ)) where
