@@ -1,5 +1,5 @@
 -- The actor of a source behaves as it is written.
-use Rattle.std.proofs.Common.{◌≡◌, ℕ, suc, ◌<◌, ℤ, Bool, true, false, List, [], ◌∷◌, ◌++◌, map, length, refl, sym, ap, subst, ◌∙◌, Contains, Option, None, Some, append_assoc}
+use Rattle.std.proofs.Common.{◌≡◌, ℕ, suc, ◌<◌, ℤ, true, false, List, [], ◌∷◌, ◌++◌, map, length, refl, sym, ap, subst, ◌∙◌, Contains, Option, None, Some, append_assoc}
 use Rattle.std.specs.Prelude.{if◌then◌else◌, ◌==◌, option_map}
 use Rattle.std.proofs.lemmas.List.{append-nil}
 use Rattle.rvc_base.specs.Behaviour.{Behaviour}
@@ -8,7 +8,7 @@ use Rattle.rvc_base.specs.Turns.{max_turns}
 use Rattle.rvc_base.specs.declared.scalar.Scalar.{Scalar}
 use Rattle.cal_ast.specs.Tree as tree
 use Rattle.cal_ast.specs.Tree.{Tree}
-use Rattle.cal_model.specs.Actor.{Action, Actor, Fun, Held, Output, Pattern, Port, Proc}
+use Rattle.cal_model.specs.Actor.{Action, Actor, Fun, Output, Pattern, Port, Proc}
 use Rattle.cal_model.specs.ActorState.{IsActorState, is_actor_state}
 use Rattle.cal_model.specs.Call.{calls_of}
 use Rattle.cal_model.specs.Env.{Env, Var}
@@ -16,17 +16,17 @@ use Rattle.cal_model.specs.Firing.{behaviour}
 use Rattle.cal_model.specs.Kinding.{Broken, Fine, Judged, Known, Names, with_known}
 use Rattle.cal_model.specs.Rates.{given_on, parts, parts_times}
 use Rattle.cal_model.specs.Selection.{Above, Priorities, State, guards_say, kind_of_port, pattern_var, pattern_vars, pattern_vars_from, seen_by, tokens_on}
-use Rattle.cal_model.specs.Sound.{AreDistinct, Each, kind_of_tokens, with_pattern}
+use Rattle.cal_model.specs.Sound.{AreDistinct, kind_of_tokens, with_pattern}
 use Rattle.cal_model.specs.Statement.{runs_of}
 use Rattle.cal_model.specs.Value.{Kind}
 use Rattle.cal_model.proofs.ActorStates.{states-are-tested}
-use Rattle.cal_check.specs.Actions.{Around, action_of, or_none, output_judged, outputs_fine, outputs_if, outputs_on, patterns_of, with_all_patterns}
-use Rattle.cal_check.specs.Actors.{Conforms, IsSource, Source, actions_of, actor_given, all_funs, all_valued, around_of, declared_vars, funs_of}
-use Rattle.cal_check.specs.AsWritten.{ActionsDoTheSame, act_as_is, act_written, action_as_is, calls_as_are, done_by, funs_as_are, output_as_is, outputs_as_are, procs_as_are, runs_as_are, seen_in_action}
+use Rattle.cal_check.specs.Actions.{Around, action_of, or_none, output_judged, outputs_if, outputs_on, patterns_of, with_all_patterns}
+use Rattle.cal_check.specs.Actors.{Conforms, IsSource, Source, actions_of, actor_given, all_funs, all_valued, around_of, declared_vars}
+use Rattle.cal_check.specs.AsWritten.{ActionsDoTheSame, act_as_is, act_written, action_as_is, done_by, funs_as_are, output_as_is, outputs_as_are, procs_as_are, seen_in_action}
 use Rattle.cal_check.specs.Laws.{AreBare}
 use Rattle.cal_check.specs.Meaning.{HasConstants, HoldsConstants}
 use Rattle.cal_check.specs.Ports.{each_asked, ports_asked}
-use Rattle.cal_check.specs.Sources.{IsSourceFormed, SourcesAreSound, actions_of_source, names_of_source, proc_name, procs_of_source}
+use Rattle.cal_check.specs.Sources.{IsSourceFormed, SourcesAreSound, actions_of_source, proc_name, procs_of_source}
 use Rattle.cal_check.specs.Variables.{Given, Spot}
 use Rattle.cal_check.specs.Violations.{all_fine, fine}
 use Rattle.cal_check.specs.Written.{behind_vars, written}
@@ -35,10 +35,10 @@ use Rattle.whole_sources.specs.AsWritten.{IsSameBehaviour, IsSameOrder, actions_
 use Rattle.whole_sources.specs.Behaving.{IsStateOf, ShowsTheSame, narrowed_effect}
 use Rattle.whole_sources.specs.Keeping.{Keep, narrowed_state}
 use Rattle.whole_sources.specs.WholeActor.{kept_by, whole_actor, whole_order}
-use Rattle.whole_sources.proofs.Conforming.{AreHeld, all-are-held, functions-are, rest_behind}
+use Rattle.whole_sources.proofs.Conforming.{all-are-held, functions-are}
 use Rattle.whole_sources.proofs.HeldConstants.{distinct-front, vars-have-constants}
 use Rattle.whole_sources.proofs.Sources.{source-behaves}
-use Rattle.whole_sources.proofs.WrittenActor.{Alike, AreAlike, behave-the-same, state-same}
+use Rattle.whole_sources.proofs.WrittenActor.{AreAlike, behave-the-same, state-same}
 use Rattle.whole_sources.proofs.WrittenUses.{fine-some, output-has, some-parts}
 
 -- ---- what an action keeps as it stands
@@ -279,9 +279,9 @@ source-as-written sound same s gs owner actor p q formed is order =
 
 -- ---- its order
 
-as-many-actions : (acts : List Tree) (around : Around) → length (actions_of acts around) ≡ length (actions_as_are acts around)
-as-many-actions [] around = refl
-as-many-actions (a ∷ acts) around = ap suc (as-many-actions acts around)
+as-many-actions : (acts : List Tree) (scope : Around) → length (actions_of acts scope) ≡ length (actions_as_are acts scope)
+as-many-actions [] scope = refl
+as-many-actions (a ∷ acts) scope = ap suc (as-many-actions acts scope)
 
 abbrev OrderAsWritten : Source → List Given → Spot → Actor → Type 0
 OrderAsWritten s gs owner actor = (p : Priorities actor) → (q : Priorities (actor_as_is s gs owner actor)) × IsSameOrder p q

@@ -1,6 +1,6 @@
 -- Of a source that breaks no rule all variables have values, and the functions that it has are those over which its members
 -- are judged. `cal_check` has most of these lemmas too, which it keeps to itself.
-use Rattle.std.proofs.Common.{◌≡◌, ℕ, suc, Bool, true, false, ◌||◌, not, List, [], ◌∷◌, ◌++◌, map, length, refl, sym, ap, subst, ◌∙◌, Option, None, Some, append_assoc}
+use Rattle.std.proofs.Common.{◌≡◌, ℕ, Bool, true, false, ◌||◌, not, List, [], ◌∷◌, ◌++◌, map, length, refl, sym, ap, subst, ◌∙◌, Option, None, Some, append_assoc}
 use Rattle.std.specs.Prelude.{if◌then◌else◌}
 use Rattle.std.proofs.lemmas.List.{append-nil}
 use Rattle.rvc_base.specs.Rules.{not_constant}
@@ -14,7 +14,7 @@ use Rattle.cal_model.specs.Sound.{Each, known_of, with_locals}
 use Rattle.cal_check.specs.Actions.{Around, or_none}
 use Rattle.cal_check.specs.Actors.{Conforms, Source, actor_given, all_found, all_funs, all_said, all_valued, around_of, at_rest, before_members, behind_variables, declared_vars, first_valueless, funs_of, given_wrongly, has_heads, header_found, heads_broken, heads_found, inside_found, is_empty, is_held, members_found, members_of, params_in, params_of, said_or_all, valueless_found, vars_in, violations}
 use Rattle.cal_check.specs.Formed.{IsFunFormed}
-use Rattle.cal_check.specs.Routines.{FunDecl, Head, fun_if, fun_judged, funs_after, funs_over, head_judged, with_fun}
+use Rattle.cal_check.specs.Routines.{FunDecl, Head, fun_if, fun_judged, funs_over, head_judged, with_fun}
 use Rattle.cal_check.specs.Sources.{IsSourceFormed}
 use Rattle.cal_check.specs.Statements.{names_behind}
 use Rattle.cal_check.specs.Variables.{Come, Found, Given, Spot, VarDecl, Valued, come, found_in, held_if, is_none, none_yet, seen, value_of, value_or, valued, with_come, with_type, with_var}

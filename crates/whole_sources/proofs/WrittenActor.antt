@@ -1,22 +1,22 @@
 -- Two actors whose actions have the same patterns, tags and rates, and do the same in each state, behave the same.
-use Rattle.std.proofs.Common.{◌≡◌, ℕ, zero, suc, ℤ, Bool, true, false, List, [], ◌∷◌, ◌++◌, length, refl, sym, ap, subst, ◌∙◌, Option, None, Some}
+use Rattle.std.proofs.Common.{◌≡◌, ℕ, zero, suc, ℤ, Bool, true, false, List, [], ◌∷◌, ◌++◌, length, refl, sym, ap, ◌∙◌, Option, None, Some}
 use Rattle.std.specs.Prelude.{if◌then◌else◌, ◌&&◌, ◌||◌, ◌==◌, not, nat_le, nat_lt, is_some, slice_get}
 use Rattle.std.specs.List.{range_with_len}
-use Rattle.rvc_base.specs.Behaviour.{Choice, Effect, Waits, Picks, Faults}
+use Rattle.rvc_base.specs.Behaviour.{Choice, Waits, Picks, Faults}
 use Rattle.rvc_base.specs.Turns.{max_turns}
-use Rattle.cal_model.specs.Actor.{Action, Actor, Fun, Output, Pattern, Port, Proc}
+use Rattle.cal_model.specs.Actor.{Action, Actor, Fun, Pattern, Proc}
 use Rattle.cal_model.specs.ActorState.{are_vars_of, is_actor_state, kept_tokens}
 use Rattle.cal_model.specs.Call.{calls_of, declared}
 use Rattle.cal_model.specs.Eligible.{eligible, fresh, has_initialize, is_empty, leads, next, states_of, target}
-use Rattle.cal_model.specs.Env.{Env, Var}
+use Rattle.cal_model.specs.Env.{Var}
 use Rattle.cal_model.specs.Expression.{Calls}
 use Rattle.cal_model.specs.Firing.{Fired, behaviour, body, body_of, effect, effect_of_body, effect_of_exposed, outputs, sent_by_port}
 use Rattle.cal_model.specs.Outcome.{Out, Gives, Traps, Lacks, Clashes, and_then}
 use Rattle.cal_model.specs.Rates.{give, given_on, need, taken_on}
 use Rattle.cal_model.specs.Selection.{AreFalse, AreTrapping, AreTrue, Guards, Priorities, State, are_true, choice, choice_among, guards_say, has_its_tokens, has_its_tokens_on, is_exposed, kind_of_port, outranked, pattern_vars, pattern_vars_from, readiness, seen_by, tokens_on}
-use Rattle.cal_model.specs.Statement.{Runs, exec_all, runs_of}
+use Rattle.cal_model.specs.Statement.{exec_all, runs_of}
 use Rattle.cal_check.specs.AsWritten.{done_by}
-use Rattle.whole_sources.specs.AsWritten.{IsSameBehaviour, IsSameOrder}
+use Rattle.whole_sources.specs.AsWritten.{IsSameBehaviour}
 
 -- what is done in two steps, as one
 then-then : {A B C : Type 0} (o : Out A) (f : A → ℕ → Out B) (g : B → ℕ → Out C) (h : A → ℕ → Out C) → ((a : A) (m : ℕ) → and_then (f a m) g ≡ h a m) → and_then (and_then o f) g ≡ and_then o h

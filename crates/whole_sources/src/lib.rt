@@ -9,5 +9,5 @@ mod laws;
 pub use laws::{
     expressions_over_used_names_give_the_same, kept_parts_behave_the_same,
     routines_over_used_names_do_the_same, sources_behave_as_with_all_declared,
-    statements_over_used_names_do_the_same,
+    sources_behave_as_written, statements_over_used_names_do_the_same,
 };
