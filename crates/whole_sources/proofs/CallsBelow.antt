@@ -10,7 +10,7 @@ use Rattle.cal_ast.specs.Tree.{Tree}
 use Rattle.cal_model.specs.Kinding.{Judged, Fine, Broken, Names, constant_number, counter, kind, with_counters, with_known}
 use Rattle.cal_model.specs.Sound.{Each, EachCall, StartCalls}
 use Rattle.cal_check.specs.Routines.{local_of, locals_of, start_of}
-use Rattle.cal_check.specs.Written.{behind_vars, by_number, constant_written, gens_written, number_tree, statement_written, var_written, vars_written, with_inner, written}
+use Rattle.cal_check.specs.Written.{by_number, constant_written, gens_written, number_tree, with_inner, written}
 
 module _ (P Q : List ℕ → Type 0) where
   if-calls : (b : Bool) (t u : Tree) → EachCall P Q t → EachCall P Q u → EachCall P Q (if b then t else u)
@@ -50,26 +50,6 @@ module _ (P Q : List ℕ → Type 0) where
     gens-calls (tree.cons (tree.gen shape (tree.ident name place) from to at) gens) names h =
         ((written-calls shape names h.0.0, constant-calls from names h.0.1, constant-calls to names h.0.2), gens-calls gens (with_known (counter name) names) h.1)
     gens-calls other names h = h
-
-  var-calls : (v : Tree) (names : Names) → EachCall P Q v → EachCall P Q (var_written v names)
-  var-calls (tree.var shape name start changes at) names h = (written-calls shape names h.0, written-calls start names h.1)
-  var-calls other names h = h
-
-  vars-calls : (vars : Tree) (names : Names) → EachCall P Q vars → EachCall P Q (vars_written vars names)
-  vars-calls (tree.cons v vs) names h = (var-calls v names h.0, vars-calls vs (with_inner v names) h.1)
-  vars-calls other names h = h
-
-  pub statement-calls : (s : Tree) (names : Names) → EachCall P Q s → EachCall P Q (statement_written s names)
-  statement-calls (tree.cons s ss) names h = (statement-calls s names h.0, statement-calls ss names h.1)
-  statement-calls (tree.present ss) names h = statement-calls ss names h
-  statement-calls (tree.assign name places value at) names h = (written-calls places names h.0, written-calls value names h.1)
-  statement-calls (tree.call_stmt (tree.ident name place) args at) names h = (h.0, written-calls args names h.1)
-  statement-calls (tree.if_stmt test first other at) names h = (written-calls test names h.0, statement-calls first names h.1, statement-calls other names h.2)
-  statement-calls (tree.while_stmt test body at) names h = (written-calls test names h.0, statement-calls body names h.1)
-  statement-calls (tree.foreach_stmt shape (tree.ident name place) from to body at) names h =
-      (written-calls shape names h.0, written-calls from names h.1, written-calls to names h.2, statement-calls body (with_known (counter name) names) h.3)
-  statement-calls (tree.block vars body at) names h = (vars-calls vars names h.0, statement-calls body (behind_vars vars names) h.1)
-  statement-calls other names h = h
 
   -- ---- locals
 

@@ -1,6 +1,8 @@
-//! Laws of what uses only names that are kept. Each is a function that does nothing: its contract is what is proved.
+//! Laws of what uses only names that are kept, and of the actor as it is written. Each is a function that does nothing:
+//! its contract is what is proved.
 
-ghost use Rattle.whole_sources.specs.AsWritten.{SourcesAreOrderedAsWritten, SourcesBehaveAsWritten, WholesBehaveAsWritten};
+ghost use Rattle.whole_sources.specs.AsWritten.{SourcesAreOrderedAsWritten, SourcesBehaveAsWritten};
+ghost use Rattle.whole_sources.specs.AsWritten.{WholesBehaveAsWritten};
 ghost use Rattle.whole_sources.specs.Behaving.{KeptPartsBehaveTheSame, KeptPartsHaveStates};
 ghost use Rattle.whole_sources.specs.Laws.{EachGivesTheSame, ExpressionsGiveTheSame, StatementsDoTheSame};
 ghost use Rattle.whole_sources.specs.Laws.{KeptFunctionsGiveTheSame, ProceduresOverKeptDoTheSame};

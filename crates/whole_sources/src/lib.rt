@@ -2,6 +2,9 @@
 //!
 //! An actor keeps of what other files declare only what it uses, directly or indirectly. Here it is shown of the evaluator
 //! that whatever uses only names that are kept does over those alone what it does over all declarations.
+//!
+//! Sizes and bounds are written out where an actor is made of its source. That changes nothing either: the actor of a source
+//! behaves as the actor as it is written.
 #![tactic(auto)]
 
 mod laws;
