@@ -7,4 +7,12 @@ pub mod Firings
 pub mod Sources
 pub mod UsedNames
 pub mod WrittenUses
+mod SameCalls
+mod CallsBelow
+mod SameFuns
+mod SettledFuns
+mod Conforming
+mod HeldConstants
+mod WrittenActor
+mod AsWritten
 mod Rows

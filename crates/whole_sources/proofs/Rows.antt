@@ -9,6 +9,7 @@ use Rattle.cal_model.specs.Firing.{body, effect_of_body}
 use Rattle.cal_model.specs.Selection.{State, start_of}
 use Rattle.cal_check.specs.Actors.{Source, actor_given, violations}
 use Rattle.cal_check.specs.Variables.{Spot}
+use Rattle.whole_sources.specs.AsWritten.{actor_as_is}
 use Rattle.whole_sources.specs.Keeping.{narrowed_actor}
 use Rattle.whole_sources.specs.WholeActor.{kept_by, whole_actor}
 
@@ -107,3 +108,57 @@ whole_sends = refl
 part_sends : sends (actor_given importing [] words) ≡ Some (Fires (start_of (actor_given importing [] words)) ((pos 7 ∷ []) ∷ []))
 unfolding turns.max_turns
 part_sends = refl
+
+-- ---- as it is written
+
+-- with all that is declared, and as it is written, which is the same here
+as_is_sends : sends (actor_as_is importing [] words (actor_given importing [] words)) ≡ Some (Fires (start_of (whole_import)) ((pos 7 ∷ []) ∷ []))
+unfolding turns.max_turns
+as_is_sends = refl
+
+-- f is `[[g(), 5] : for int k in c .. d][1][0]`, with two bounds that are constants of another file
+abbrev ranging : Tree → Tree → Tree
+ranging from to =
+    let pairs = tree.comp (tree.list (listed (calls (codes "g") ∷ tree.number 5 72 ∷ [])) 70) (listed (tree.gen (number 73) (name (codes "k") 74) from to 73 ∷ [])) 70 in
+    tree.index (tree.index pairs (tree.number 1 76) 70) (tree.number 0 77) 70
+
+abbrev ranged : Source
+ranged = record importing {
+  funs =
+      record { name = codes "f"; file = 0; decl = function (codes "f") (ranging (tree.variable (codes "c") 75) (tree.variable (codes "d") 75)) }
+      ∷ record { name = codes "g"; file = 0; decl = function (codes "g") (tree.variable (codes "c") 75) }
+      ∷ [];
+}
+
+abbrev whole_ranged : Actor
+whole_ranged = whole_actor ranged [] words (actor_given ranged [] words)
+
+abbrev ranged_as_is : Actor
+ranged_as_is = actor_as_is ranged [] words (actor_given ranged [] words)
+
+abbrev bodies : Actor → List Tree
+bodies actor = map (λ f. f.body) actor.funs
+
+ranged_breaks_nothing : violations ranged [] words ≡ []
+unfolding turns.max_turns
+ranged_breaks_nothing = refl
+
+-- the whole has the bounds as numbers, ..
+ranged_written : bodies whole_ranged ≡ ranging (tree.number 7 75) (tree.number 8 75) ∷ tree.variable (codes "c") 75 ∷ []
+unfolding turns.max_turns
+ranged_written = refl
+
+-- .. and the actor as it is written has the constants, ..
+ranged_stands : bodies ranged_as_is
+    ≡ ranging (tree.variable (codes "c") 75) (tree.variable (codes "d") 75) ∷ tree.variable (codes "c") 75 ∷ []
+unfolding turns.max_turns
+ranged_stands = refl
+
+-- .. and both send the same
+whole_ranged_sends : sends whole_ranged ≡ Some (Fires (start_of whole_ranged) ((pos 7 ∷ []) ∷ []))
+unfolding turns.max_turns
+whole_ranged_sends = refl
+
+ranged_as_is_sends : sends ranged_as_is ≡ Some (Fires (start_of ranged_as_is) ((pos 7 ∷ []) ∷ []))
+unfolding turns.max_turns
+ranged_as_is_sends = refl

@@ -3,3 +3,4 @@ pub mod Closed
 pub mod Laws
 pub mod Behaving
 pub mod WholeActor
+pub mod AsWritten

@@ -1,11 +1,14 @@
-//! Laws of what uses only names that are kept. Each is a function that does nothing: its contract is what is proved.
+//! Laws of what uses only names that are kept, and of the actor as it is written. Each is a function that does nothing:
+//! its contract is what is proved.
 
+ghost use Rattle.whole_sources.specs.AsWritten.{SourcesAreOrderedAsWritten, SourcesBehaveAsWritten};
+ghost use Rattle.whole_sources.specs.AsWritten.{WholesBehaveAsWritten};
 ghost use Rattle.whole_sources.specs.Behaving.{KeptPartsBehaveTheSame, KeptPartsHaveStates};
 ghost use Rattle.whole_sources.specs.Laws.{EachGivesTheSame, ExpressionsGiveTheSame, StatementsDoTheSame};
 ghost use Rattle.whole_sources.specs.Laws.{KeptFunctionsGiveTheSame, ProceduresOverKeptDoTheSame};
 ghost use Rattle.whole_sources.specs.WholeActor.{SourcesAreClosed, SourcesAreParts, SourcesBehaveAsWhole};
 
-use cal_check::sources_without_violations_are_sound;
+use cal_check::{sources_without_violations_are_sound, written_routines_do_the_same};
 
 /// Expressions that use only names that are kept give over the kept variables and functions what they give over all
 /// (`one`), and so do several in order (`each`).
@@ -41,4 +44,16 @@ pub fn sources_behave_as_with_all_declared()
     ensures behaviour { SourcesBehaveAsWhole }
 {
     sources_without_violations_are_sound();
+}
+
+/// The actor of a source that breaks no rule behaves as the actor as it is written, in which nothing is left out and no
+/// size or bound is written out (`behaviour`), and so does the actor with all that is declared (`whole`). The order of
+/// its actions is one of the actor as it is written (`order`).
+pub fn sources_behave_as_written()
+    ensures order { SourcesAreOrderedAsWritten }
+    ensures whole { WholesBehaveAsWritten }
+    ensures behaviour { SourcesBehaveAsWritten }
+{
+    sources_without_violations_are_sound();
+    written_routines_do_the_same();
 }
