@@ -35,7 +35,7 @@ for file in "$here"/proofs/*.txt; do
 done
 {
     printf '//! The code and the tables of actors.\n\nuse code_ir::Instr;\nuse rvc_base::{Num, Scalar};\n\n'
-    awk -f "$top/bench/lowering/tables.awk" "$work/lowered.txt"
+    awk -v apart=1 -f "$top/bench/lowering/tables.awk" "$work/lowered.txt"
 } >"$work/crates/firing_bench/src/tables.rt"
 echo "firing_bench: ${below[*]}" >>"$work/crates.txt"
 echo "building both, which takes some minutes" >&2

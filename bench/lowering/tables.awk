@@ -1,5 +1,6 @@
 # Code as `lower.rt.txt` prints it, or as `hand.txt` has it, as constants that both languages read. Labels become places.
-# What stands in the state cells at first is that of the body of the same name that came first.
+# What stands in the state cells at first is that of the body of the same name that came first. With `-v apart=1` each is a
+# constant of its own, with a function that gives it.
 function place(text,   head, label) {
     if (match(text, /\(@[a-z0-9]+\)/)) {
         label = substr(text, RSTART + 2, RLENGTH - 3)
@@ -48,6 +49,12 @@ $1 == "end" {
 END {
     print "pub struct Action {\n    pub needs: &'static [u32],\n    pub gives: &'static [u32],\n    pub guards: &'static [u32],\n    pub fire: u32,\n    pub sends: &'static [u32],\n}\n"
     print "pub struct Table {\n    pub name: &'static str,\n    pub instrs: &'static [Instr],\n    pub routines: &'static [(u32, u8)],\n    pub entries: &'static [u32],\n    pub cells: u32,\n    pub first: &'static [Num],\n    pub kept: u32,\n    pub start: u16,\n    pub ins: u32,\n    pub outs: u32,\n    pub states: u16,\n    pub saved: &'static [(u32, Scalar)],\n    pub steps: &'static [(u16, u16, u16)],\n    pub actions: &'static [Action],\n}\n"
+    # Each table by itself: the check of one constant goes only so far.
+    for (k = 0; apart && k < count; k++) {
+        printf "pub fn table%d() -> &'static [Table] {\n    T%d\n}\n\n", k, k
+        printf "pub const T%d: &[Table] = &[\n%s];\n\n", k, tables[k]
+    }
+    if (apart) exit
     print "pub const TABLES: &[Table] = &["
     for (k = 0; k < count; k++) printf "%s", tables[k]
     print "];"
