@@ -1,12 +1,15 @@
 -- What the tests of sizes say.
 use Rattle.std.proofs.Common.{◌≡◌, ℕ, zero, suc, ◌<◌, ◌≤◌, Bool, true, false, List, [], ◌∷◌, ◌++◌, map, length, get_or, refl, ap, ◌∙◌, arith}
-use Rattle.std.specs.Prelude.{◌&&◌, nat_le, if◌then◌else◌}
+use Rattle.std.specs.Prelude.{◌&&◌, nat_le, Option, None, Some, IfSome, option_map, if◌then◌else◌}
+use Rattle.std.specs.Borrow.{Bor}
+use Rattle.std.specs.Str.{bytes_eq}
 use Rattle.std.proofs.lemmas.Bool.Decides.{nat_tests}
 use Rattle.rvc_base.specs.declared.scalar.Scalar.{Scalar}
 use Rattle.rvc_base.specs.declared.scalar.Scalar.TheVariants as scalar
 use Rattle.rvc_base.specs.Storing.{IsSize}
 use Rattle.rvc_base.specs.Width.{max_size}
 use Rattle.cal_model.specs.Actor.{Fun}
+use Rattle.cal_model.specs.Call.{fun_named}
 use Rattle.cal_model.specs.View.{fun_view, local_view, shape_view}
 use Rattle.cal_model.specs.declared.bound.BoundLocal.{BoundLocal}
 use Rattle.cal_model.specs.declared.bound.BoundFun.{BoundFun}
@@ -33,10 +36,22 @@ sized_at [] n d h l = absurd (omega arith)
 sized_at (x ∷ xs) zero d h l = and_left (is_sized (shape_view x.shape)) (are_sized (map local_view xs)) h
 sized_at (x ∷ xs) (suc n) d h l = sized_at xs n d (and_right (is_sized (shape_view x.shape)) (are_sized (map local_view xs)) h) (omega arith)
 
-pub fun_sized_at : (fs : List BoundFun) (n : ℕ) (d : BoundFun) → are_sized_funs (map fun_view fs) ≡ true → n < length fs → is_sized_fun (fun_view (get_or fs n d)) ≡ true
-fun_sized_at [] n d h l = absurd (omega arith)
-fun_sized_at (f ∷ fs) zero d h l = and_left (is_sized_fun (fun_view f)) (are_sized_funs (map fun_view fs)) h
-fun_sized_at (f ∷ fs) (suc n) d h l = fun_sized_at fs n d (and_right (is_sized_fun (fun_view f)) (are_sized_funs (map fun_view fs)) h) (omega arith)
+named_sized : (name : List ℕ) (fs : List Fun) (f : Fun) → are_sized_funs fs ≡ true → Some f ≡ fun_named name fs → is_sized_fun f ≡ true
+named_sized name [] f h e = cc
+named_sized name (g ∷ fs) f h e = go (bytes_eq g.name name) e
+  where
+    itself : Some f ≡ Some g → f ≡ g
+    itself e = cc
+
+    go : (b : Bool) → Some f ≡ (if b then Some g else fun_named name fs) → is_sized_fun f ≡ true
+    go true e = ap is_sized_fun (itself e) ∙ and_left (is_sized_fun g) (are_sized_funs fs) h
+    go false e = named_sized name fs f (and_right (is_sized_fun g) (are_sized_funs fs) h) e
+
+-- a function that is found is one whose sizes are allowed
+pub found_sized : (name : List ℕ) (fs : List Fun) (found : Option (Bor BoundFun)) → are_sized_funs fs ≡ true → option_map (λ f. fun_view f.now) found ≡ fun_named name fs
+    → IfSome found (λ f. is_sized_fun (fun_view f.now) ≡ true)
+found_sized name fs None h e = tt
+found_sized name fs (Some f) h e = named_sized name fs (fun_view f.now) h e
 
 both : (a b : Bool) → a ≡ true → b ≡ true → (a && b) ≡ true
 both true true h e = refl
@@ -47,11 +62,6 @@ both false b h e = h
 pub pushed_sized : (fs : List BoundFun) (f : BoundFun) → are_sized_funs (map fun_view fs) ≡ true → is_sized_fun (fun_view f) ≡ true → are_sized_funs (map fun_view (fs ++ f ∷ [])) ≡ true
 pushed_sized [] f h e = rw e refl
 pushed_sized (g ∷ fs) f h e = both (is_sized_fun (fun_view g)) (are_sized_funs (map fun_view (fs ++ f ∷ []))) (and_left (is_sized_fun (fun_view g)) (are_sized_funs (map fun_view fs)) h) (pushed_sized fs f (and_right (is_sized_fun (fun_view g)) (are_sized_funs (map fun_view fs)) h) e)
-
--- .. or none, if it wasn't stored
-pub kept_sized : (b : Bool) (news olds : List BoundFun) (f : BoundFun) → news ≡ (if b then olds ++ f ∷ [] else olds) → are_sized_funs (map fun_view olds) ≡ true → is_sized_fun (fun_view f) ≡ true → are_sized_funs (map fun_view news) ≡ true
-kept_sized true news olds f is h e = ap (λ fs. are_sized_funs (map fun_view fs)) is ∙ pushed_sized olds f h e
-kept_sized false news olds f is h e = ap (λ fs. are_sized_funs (map fun_view fs)) is ∙ h
 
 three : (a b c : Bool) → (a && b && c) ≡ true → (a ≡ true) × (b ≡ true) × (c ≡ true)
 three true true true h = (refl, refl, refl)
