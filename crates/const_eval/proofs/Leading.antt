@@ -96,7 +96,7 @@ lead_one_more {X} {Y} view xs x new places before after leads its others name = 
     go : (b : Bool) → bytes_eq new name ≡ b → LeadsTo view (xs ++ x ∷ []) (place_named name (with_place new (length xs) places)) (after name)
     go true e =
         let there : place_named name (with_place new (length xs) places) ≡ Some (length xs) =
-            subst (λ n. place_named n (with_place new (length xs) places) ≡ Some (length xs)) ((bytes_eq-Decides new name).0 e) (put_same new (length xs) places) in
+        subst (λ n. place_named n (with_place new (length xs) places) ≡ Some (length xs)) ((bytes_eq-Decides new name).0 e) (put_same new (length xs) places) in
         subst (λ o. LeadsTo view (xs ++ x ∷ []) o (after name)) (sym there) (x, get_last xs x, its name e)
     go false e =
         let there : place_named name (with_place new (length xs) places) ≡ place_named name places = put_other name new (length xs) places (turned new name e) in
@@ -142,7 +142,7 @@ fun_more : {X : Type 0} (view : X → Fun) (xs : List X) (x : X) (places : List 
 fun_more view xs x places leads new =
     lead_one_more view xs x (view x).name places (λ name. fun_named name (map view xs)) (λ name. fun_named name (map view (xs ++ x ∷ []))) leads
     (λ name e. ap (fun_named name) (map-append view xs (x ∷ [])) ∙ fun_itself name (map view xs) (view x) e
-        (subst (λ n. fun_named n (map view xs) ≡ None) ((bytes_eq-Decides (view x).name name).0 e) (none_has (fun_named (view x).name (map view xs)) new)))
+    (subst (λ n. fun_named n (map view xs) ≡ None) ((bytes_eq-Decides (view x).name name).0 e) (none_has (fun_named (view x).name (map view xs)) new)))
     (λ name e. ap (fun_named name) (map-append view xs (x ∷ [])) ∙ fun_others name (map view xs) (view x) e)
 
 pub fun_pushed : {X : Type 0} (view : X → Fun) (olds news : List X) (x : X) (name : List ℕ) (places after : List Placed) → LeadEach view olds places (λ n. fun_named n (map view olds))

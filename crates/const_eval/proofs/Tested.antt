@@ -1,15 +1,14 @@
 -- What the tests of sizes say.
-use Rattle.std.proofs.Common.{◌≡◌, ℕ, zero, suc, ◌<◌, ◌≤◌, Bool, true, false, List, [], ◌∷◌, ◌++◌, map, length, get_or, refl, ap, ◌∙◌, arith}
-use Rattle.std.specs.Prelude.{◌&&◌, nat_le, Option, None, Some, IfSome, option_map, if◌then◌else◌}
+use Rattle.std.proofs.Common.{◌≡◌, ℕ, zero, suc, ◌<◌, ◌≤◌, Bool, true, false, List, [], ◌∷◌, ◌++◌, map, length, get_or, refl, sym, ap, ◌∙◌, arith}
+use Rattle.std.specs.Prelude.{◌&&◌, nat_le, nat_lt, Option, None, Some, IfSome, if◌then◌else◌}
 use Rattle.std.specs.Borrow.{Bor}
-use Rattle.std.specs.Str.{bytes_eq}
+use Rattle.std.specs.Slice.{IsItemAt}
 use Rattle.std.proofs.lemmas.Bool.Decides.{nat_tests}
 use Rattle.rvc_base.specs.declared.scalar.Scalar.{Scalar}
 use Rattle.rvc_base.specs.declared.scalar.Scalar.TheVariants as scalar
 use Rattle.rvc_base.specs.Storing.{IsSize}
 use Rattle.rvc_base.specs.Width.{max_size}
 use Rattle.cal_model.specs.Actor.{Fun}
-use Rattle.cal_model.specs.Call.{fun_named}
 use Rattle.cal_model.specs.View.{fun_view, local_view, shape_view}
 use Rattle.cal_model.specs.declared.bound.BoundLocal.{BoundLocal}
 use Rattle.cal_model.specs.declared.bound.BoundFun.{BoundFun}
@@ -26,6 +25,9 @@ and_right false b h = cc
 pub le_holds : (a b : ℕ) → nat_le a b ≡ true → a ≤ b
 le_holds a b h = grind (arith, nat_tests)
 
+lt_holds : (a b : ℕ) → nat_lt a b ≡ true → a < b
+lt_holds a b h = grind (arith, nat_tests)
+
 pub size_holds : (t : Scalar) → is_size t ≡ true → IsSize t
 size_holds scalar.Bool h = tt
 size_holds (scalar.Int n) h = (le_holds 1 n (and_left (nat_le 1 n) (nat_le n max_size) h), le_holds n max_size (and_right (nat_le 1 n) (nat_le n max_size) h))
@@ -36,22 +38,17 @@ sized_at [] n d h l = absurd (omega arith)
 sized_at (x ∷ xs) zero d h l = and_left (is_sized (shape_view x.shape)) (are_sized (map local_view xs)) h
 sized_at (x ∷ xs) (suc n) d h l = sized_at xs n d (and_right (is_sized (shape_view x.shape)) (are_sized (map local_view xs)) h) (omega arith)
 
-named_sized : (name : List ℕ) (fs : List Fun) (f : Fun) → are_sized_funs fs ≡ true → Some f ≡ fun_named name fs → is_sized_fun f ≡ true
-named_sized name [] f h e = cc
-named_sized name (g ∷ fs) f h e = go (bytes_eq g.name name) e
-  where
-    itself : Some f ≡ Some g → f ≡ g
-    itself e = cc
+fun_sized_at : (fs : List BoundFun) (n : ℕ) (d : BoundFun) → are_sized_funs (map fun_view fs) ≡ true → n < length fs → is_sized_fun (fun_view (get_or fs n d)) ≡ true
+fun_sized_at [] n d h l = absurd (omega arith)
+fun_sized_at (f ∷ fs) zero d h l = and_left (is_sized_fun (fun_view f)) (are_sized_funs (map fun_view fs)) h
+fun_sized_at (f ∷ fs) (suc n) d h l = fun_sized_at fs n d (and_right (is_sized_fun (fun_view f)) (are_sized_funs (map fun_view fs)) h) (omega arith)
 
-    go : (b : Bool) → Some f ≡ (if b then Some g else fun_named name fs) → is_sized_fun f ≡ true
-    go true e = ap is_sized_fun (itself e) ∙ and_left (is_sized_fun g) (are_sized_funs fs) h
-    go false e = named_sized name fs f (and_right (is_sized_fun g) (are_sized_funs fs) h) e
-
--- a function that is found is one whose sizes are allowed
-pub found_sized : (name : List ℕ) (fs : List Fun) (found : Option (Bor BoundFun)) → are_sized_funs fs ≡ true → option_map (λ f. fun_view f.now) found ≡ fun_named name fs
-    → IfSome found (λ f. is_sized_fun (fun_view f.now) ≡ true)
-found_sized name fs None h e = tt
-found_sized name fs (Some f) h e = named_sized name fs (fun_view f.now) h e
+-- a function that is lent of a list
+pub lent_sized : (fs : List BoundFun) (n : ℕ) (found : Option (Bor BoundFun)) → are_sized_funs (map fun_view fs) ≡ true → IsItemAt fs n found → IfSome found (λ f. is_sized_fun (fun_view f.now) ≡ true)
+lent_sized fs n None h e = tt
+lent_sized fs n (Some f) h e =
+    let there : nat_lt n (length fs) ≡ true = sym e.0 in
+    ap (λ g. is_sized_fun (fun_view g)) e.1 ∙ fun_sized_at fs n f.now h (lt_holds n (length fs) there)
 
 both : (a b : Bool) → a ≡ true → b ≡ true → (a && b) ≡ true
 both true true h e = refl

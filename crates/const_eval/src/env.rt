@@ -48,9 +48,9 @@ impl Model for Env {
     ghost view = { λ env. record { entries = env.entries.items; funs = env.funs.items } };
 
     ghost invariant = { λ env. (are_sized_funs (map fun_view env.funs.items) ≡ true)
-      × LeadEach entry_view env.entries.items env.entry_places
+        × LeadEach entry_view env.entries.items env.entry_places
         (λ name. known_as name (last_first entry_view env.entries.items []))
-      × LeadEach fun_view env.funs.items env.fun_places
+        × LeadEach fun_view env.funs.items env.fun_places
         (λ name. fun_named name (map fun_view env.funs.items)) };
 }
 
@@ -156,8 +156,7 @@ impl Env {
         ensures same_names { globals_of self.new ≡ globals_of self.old }
         ensures memory { OnErr result (names_in self.new ≡ names_in self.old) }
     {
-        self.fun_places
-            .put_next(fun.name.as_str(), &mut self.funs)?;
+        self.fun_places.put_next(fun.name.as_str(), &mut self.funs)?;
         self.funs.push(fun)?;
         Ok(())
     }

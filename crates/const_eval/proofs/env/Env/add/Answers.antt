@@ -14,10 +14,8 @@ invariant_of-self-2 c =
     let items : c.push.new.self.items ≡ c.self.inside.entries.items ++ x ∷ [] = search rules in
     let name : string_bytes c.in_ok-own.own ≡ c.args.name.now = search rules in
     let places : c.put_next.new.self ≡ with_place c.args.name.now (length c.self.inside.entries.items) c.self.inside.entry_places = search rules in
-    ( c.self.invariant.0
-    , entry_pushed entry_view c.self.inside.entries.items c.push.new.self.items x c.args.name.now c.self.inside.entry_places c.put_next.new.self c.self.invariant.1 items name places
-    , c.self.invariant.2
-    )
+    let leads = entry_pushed entry_view c.self.inside.entries.items c.push.new.self.items x c.args.name.now c.self.inside.entry_places c.put_next.new.self c.self.invariant.1 items name places in
+    (c.self.invariant.0, leads, c.self.invariant.2)
 
 pub returns-clause-added : goal.returns-clause-added
 returns-clause-added c =

@@ -15,10 +15,8 @@ invariant_of-self-2 c =
     let name : string_bytes c.args.fun.name ≡ c.as_str.result.now = search rules in
     let places : c.put_next.new.self ≡ with_place c.as_str.result.now (length c.self.inside.funs.items) c.self.inside.fun_places = search rules in
     let new : has_fun (string_bytes c.args.fun.name) (map fun_view c.self.inside.funs.items) ≡ false =
-        ap (λ env. has_fun (string_bytes c.args.fun.name) (held env).funs) c.self.view_is ∙ c.requires.new in
+    ap (λ env. has_fun (string_bytes c.args.fun.name) (held env).funs) c.self.view_is ∙ c.requires.new in
     let sized : are_sized_funs (map fun_view c.push.new.self.items) ≡ true =
-        ap (λ fs. are_sized_funs (map fun_view fs)) items ∙ pushed_sized c.self.inside.funs.items c.args.fun c.self.invariant.0 c.requires.sized in
-    ( sized
-    , c.self.invariant.1
-    , fun_pushed fun_view c.self.inside.funs.items c.push.new.self.items c.args.fun c.as_str.result.now c.self.inside.fun_places c.put_next.new.self c.self.invariant.2 new items name places
-    )
+    ap (λ fs. are_sized_funs (map fun_view fs)) items ∙ pushed_sized c.self.inside.funs.items c.args.fun c.self.invariant.0 c.requires.sized in
+    let leads = fun_pushed fun_view c.self.inside.funs.items c.push.new.self.items c.args.fun c.as_str.result.now c.self.inside.fun_places c.put_next.new.self c.self.invariant.2 new items name places in
+    (sized, c.self.invariant.1, leads)

@@ -1,11 +1,11 @@
-use Rattle.std.proofs.Common.{◌≡◌, map, rules}
-use Rattle.std.specs.Prelude.{option_map}
-use Rattle.cal_model.specs.Call.{fun_named}
+use Rattle.std.proofs.Common.{◌≡◌, map, true, ap, ◌∙◌, rules}
 use Rattle.cal_model.specs.View.{fun_view}
-use Rattle.const_eval.proofs.Tested.{found_sized}
+use Rattle.const_eval.specs.Sizes.{are_sized_funs}
+use Rattle.const_eval.proofs.Tested.{lent_sized}
 use Rattle.const_eval.proofs.env.Env.fun.Goals as goal
 
 pub returns-clause-sized : goal.returns-clause-sized
 returns-clause-sized c =
-    let is : option_map (λ f. fun_view f.now) c.get-2.result ≡ fun_named c.args.name.now (map fun_view c.self.inside.funs.items) = search rules in
-    found_sized c.args.name.now (map fun_view c.self.inside.funs.items) c.get-2.result c.self.invariant.0 is
+    let items : c.deref.result.now ≡ c.self.inside.funs.items = search rules in
+    let sized : are_sized_funs (map fun_view c.deref.result.now) ≡ true = ap (λ fs. are_sized_funs (map fun_view fs)) items ∙ c.self.invariant.0 in
+    lent_sized c.deref.result.now c.in_ok-place.place c.get-2.result sized c.get-2.ensures.lookup
