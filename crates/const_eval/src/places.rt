@@ -55,9 +55,8 @@ impl Places {
         ensures memory { OnErr result (self.new ≡ self.old) }
     {
         items.reserve(1)?;
-        let place = items.len();
         let name = String::from_str(*items.allocator(), name)?;
-        self.places.insert(name, place)?;
+        self.places.insert(name, items.len())?;
         Ok(())
     }
 
