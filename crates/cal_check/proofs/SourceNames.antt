@@ -1,15 +1,14 @@
 -- The names over which the members of an actor that breaks nothing are judged, and those of the actor that it is.
-use Rattle.std.proofs.Common.{◌≡◌, ℕ, zero, suc, ◌<◌, ◌≤◌, ⊎_elim, Bool, true, false, List, [], ◌∷◌, ◌++◌, map, length, refl, sym, ap, subst, ◌∙◌, arith, Option, None, Some, append_assoc}
-use Rattle.std.proofs.lemmas.Bool.{cases_lt}
+use Rattle.std.proofs.Common.{◌≡◌, ℕ, suc, ◌<◌, Bool, true, false, List, [], ◌∷◌, ◌++◌, map, length, refl, sym, ap, subst, ◌∙◌, Option, None, Some, append_assoc}
 use Rattle.std.specs.Prelude.{if◌then◌else◌}
 use Rattle.cal_model.specs.Actor.{Actor, Fun, Held, Proc}
 use Rattle.cal_model.specs.Call.{fun_named}
-use Rattle.cal_model.specs.Kinding.{Judged, Fine, Broken, Known, Names, known_as}
+use Rattle.cal_model.specs.Kinding.{Known, Names, known_as}
 use Rattle.cal_model.specs.Sound.{AreDistinct, Each, known_of, names_of}
 use Rattle.cal_check.specs.Actors.{Source, all_funs, all_valued, at_rest, before_members, declared_vars, is_kept, kept_funs, kept_vars, members_of, names_at_rest, outers, params_in, params_of, used, vars_in}
 use Rattle.cal_check.specs.Formed.{IsFunFormed}
 use Rattle.cal_check.specs.Laws.{AreAlike, ConstantsFit, IsFunLike, IsKnownLike}
-use Rattle.cal_check.specs.Routines.{FunDecl, fun_judged, funs_after, funs_over, with_fun}
+use Rattle.cal_check.specs.Routines.{FunDecl, funs_after, funs_over}
 use Rattle.cal_check.specs.Sources.{FunDeclsEnd, IsSourceFormed, names_of_source, proc_name, procs_of_source}
 use Rattle.cal_check.specs.Variables.{Given, Spot, VarDecl, none_yet, valued}
 use Rattle.cal_check.proofs.FittingNames.{KnownsFit, after-fit, names-fit}

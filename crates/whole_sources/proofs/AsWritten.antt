@@ -21,12 +21,12 @@ use Rattle.cal_model.specs.Statement.{runs_of}
 use Rattle.cal_model.specs.Value.{Kind}
 use Rattle.cal_model.proofs.ActorStates.{states-are-tested}
 use Rattle.cal_check.specs.Actions.{Around, action_of, or_none, output_judged, outputs_if, outputs_on, patterns_of, with_all_patterns}
-use Rattle.cal_check.specs.Actors.{Conforms, IsSource, Source, actions_of, actor_given, all_funs, all_valued, around_of, declared_vars}
+use Rattle.cal_check.specs.Actors.{Conforms, IsSource, Source, actions_of, actor_given, all_funs, all_valued, around_of}
 use Rattle.cal_check.specs.AsWritten.{ActionsDoTheSame, act_as_is, act_written, action_as_is, done_by, funs_as_are, output_as_is, outputs_as_are, procs_as_are, seen_in_action}
 use Rattle.cal_check.specs.Laws.{AreBare}
 use Rattle.cal_check.specs.Meaning.{HasConstants, HoldsConstants}
 use Rattle.cal_check.specs.Ports.{each_asked, ports_asked}
-use Rattle.cal_check.specs.Sources.{IsSourceFormed, SourcesAreSound, actions_of_source, proc_name, procs_of_source}
+use Rattle.cal_check.specs.Sources.{IsSourceFormed, SourcesAreSound, actions_of_source, procs_of_source}
 use Rattle.cal_check.specs.Variables.{Given, Spot}
 use Rattle.cal_check.specs.Violations.{all_fine, fine}
 use Rattle.cal_check.specs.Written.{behind_vars, written}

@@ -11,7 +11,6 @@ use Rattle.cal_model.specs.Actor.{Fun, Local, Proc}
 use Rattle.cal_model.specs.Call.{answered, arguments, calls_of, calls_within, declared, first_value, fun_named, on_call}
 use Rattle.cal_model.specs.Sound.{Each, EachCall, FunCallsBelow, FunsNeverReturn, StartCalls}
 use Rattle.cal_model.specs.Statement.{Runs, exec_all, performed, proc_named, runs_of, runs_within}
-use Rattle.cal_model.proofs.KindNames.{same-text}
 use Rattle.cal_check.proofs.FittingValues.{named-one}
 use Rattle.whole_sources.specs.Closed.{FunWithin, FunsWithin, ProcWithin, StartWithin, Within}
 use Rattle.whole_sources.specs.Keeping.{DoTheSame, GiveTheSame, IsKept, Keep, mapped, narrowed, only, only_funs}

@@ -12,11 +12,10 @@ use Rattle.cal_model.specs.Firing.{behaviour}
 use Rattle.cal_model.proofs.KindValues.{fine-is, not-fine, split}
 use Rattle.rvc_base.specs.Rules.{unknown_name}
 use Rattle.cal_check.specs.Actions.{Around, action_of, or_none, outputs_fine, patterns_of, with_all_patterns}
-use Rattle.cal_check.specs.Actors.{Conforms, IsSource, Source, actions_in, actions_of, actor_given, all_funs, around_of, funs_in, funs_of, kept_funs, kept_vars, members_of, procs_in, procs_of}
+use Rattle.cal_check.specs.Actors.{Conforms, IsSource, Source, actions_in, actions_of, actor_given, all_funs, around_of, funs_of, kept_funs, kept_vars, members_of, procs_of}
 use Rattle.cal_check.specs.Routines.{FunDecl, Head, formals_judged, fun_if, fun_judged, head_judged, locals_of, proc_judged, proc_of}
 use Rattle.cal_check.specs.Statements.{names_behind}
 use Rattle.cal_check.specs.Sources.{IsSourceFormed, SourcesAreSound, procs_of_source}
-use Rattle.cal_check.specs.Uses.{OnlyUses}
 use Rattle.cal_check.specs.Variables.{Given, Spot}
 use Rattle.cal_check.specs.Violations.{all_fine, fine}
 use Rattle.cal_check.specs.Written.{behind_vars}
