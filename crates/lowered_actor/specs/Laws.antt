@@ -45,7 +45,8 @@ GuardsEnd =
     → GuardEnds actor x (taken actor tokens a) entry o
 
 -- the same of a firing's run, with the state and the tokens that it leaves if it is done
-pub record FiringEnds (actor : Actor) (x : ActorState) (tokens : ℕ → List ℤ) (action : Action) (o : Outcome) (left : List ℤ) : Type 0 where
+pub record FiringEnds (actor : Actor) (x : ActorState) (tokens : ℕ → List ℤ) (action : Action)
+    (o : Outcome) (left : List ℤ) : Type 0 where
   pub end : End
   pub is : end_of actor.code action.fire (cells_of actor x) tokens ≡ Some end
   pub same : end.outcome ≡ o

@@ -32,7 +32,8 @@ use Rattle.replay_job.specs.Replays.{IsReplayFeed, IsToReplay, OpensFeeds, Whate
 pub record WasReplayed (cmd : Command) (end : Line) (counts : Counts) (lines : List ℕ) (about : About) : Type 0 where
   pub net : Network State
   pub is_to_replay : IsToReplay cmd net
-  pub replayed : WhateverIsTold cmd net (λ t inputs text. IsReplayed t text inputs (record { end = end; counts = counts }))
+  pub replayed : WhateverIsTold cmd net
+      (λ t inputs text. IsReplayed t text inputs (record { end = end; counts = counts }))
   pub feeds : OpensFeeds cmd net
   pub only_report : WritesOnlyAt 0 cmd.channels cmd.channels_after
   pub sound : Each IsSound is_to_replay.is_of.files.means.actors

@@ -41,7 +41,8 @@ AllAreOpen cmd net = AreAllOpen net.links (port_names net.ins) (port_names net.o
 -- This network was run until this line. Whatever bytes its inputs have: the trace is the text of its paced lines, of which
 -- this is the last, each output that has a file has the bytes of what was sent to it, and the numbers count these lines. No
 -- more firings were made than the budget permits. The report has these numbers, and how many actors are certified.
-pub record Ran (cmd : Command) (net : Network State) (end : Line) (counts : Counts) (lines : List ℕ) (about : About) : Type 0 where
+pub record Ran (cmd : Command) (net : Network State) (end : Line) (counts : Counts) (lines : List ℕ)
+    (about : About) : Type 0 where
   pub is_to_run : IsToRun cmd net
   pub fits : WouldGrowTooFar cmd net → ⊥
   pub leaves : (inputs : List (List ℕ)) → AreGiven cmd net inputs

@@ -494,11 +494,14 @@ fn behind(
     draft: &mut Draft,
 ) -> Result<(), LowerFault>
     ensures ok { OnOk result
-        (AddsBlock (called scope.now) (behind first.now (shape_view shape.now) cell scope.now) rest.now body.now draft.old draft.new) }
+        (AddsBlock (called scope.now) (behind first.now (shape_view shape.now) cell scope.now)
+        rest.now body.now draft.old draft.new) }
     ensures whole { OnOk result
-        (left_out_block (called scope.now) (behind first.now (shape_view shape.now) cell scope.now) rest.now body.now ≡ None) }
+        (left_out_block (called scope.now) (behind first.now (shape_view shape.now) cell scope.now)
+        rest.now body.now ≡ None) }
     ensures fault { IfErr result
-        (IsFault (left_out_block (called scope.now) (behind first.now (shape_view shape.now) cell scope.now) rest.now body.now) draft.new) }
+        (IsFault (left_out_block (called scope.now)
+        (behind first.now (shape_view shape.now) cell scope.now) rest.now body.now) draft.new) }
 {
     let frame = Frame {
         name: first.name.text.as_str(),

@@ -29,7 +29,8 @@ use Rattle.trace_replay.specs.declared.why.ReplayFault.{ReplayFault}
 use Rattle.trace_replay.specs.declared.why.ReplayFault.TheVariants.{NotRun, ReadFault, Memory}
 
 -- the head of a trace was read, and the network stands where the run begins
-pub record BeginsAt {X : Type 0} (t : Trial X) (text : List ℕ) (inputs : List (List ℕ)) (trace : Trace) (now : Between X) (grow : ℕ) : Type 0 where
+pub record BeginsAt {X : Type 0} (t : Trial X) (text : List ℕ) (inputs : List (List ℕ))
+    (trace : Trace) (now : Between X) (grow : ℕ) : Type 0 where
   pub grow_is : t.grow ≡ grow
   pub wired : IsWired t.net
   pub lawful : AreLawful t.net
@@ -47,7 +48,8 @@ pub record IsTextOf {X : Type 0} (t : Trial X) (text : List ℕ) (lines : List L
   pub leads : played t.net t.start lines ≡ Some s
 
 -- the trace was read to its end, with this end line, and the numbers count its lines
-pub record IsEnded {X : Type 0} (t : Trial X) (text : List ℕ) (inputs : List (List ℕ)) (end : Line) (numbers : Counts) : Type 0 where
+pub record IsEnded {X : Type 0} (t : Trial X) (text : List ℕ) (inputs : List (List ℕ)) (end : Line)
+    (numbers : Counts) : Type 0 where
   pub last : State X
   pub whole : IsWhole t text end last
   pub lines : List Line
@@ -69,7 +71,9 @@ EndsWhole X feeds end old before line = (line ≡ end) × PassesEnd X old (feeds
 -- The whole trace.
 
 -- nothing of the trace was read, and the network stands where the run begins
-pub record BeginsFirst {X : Type 0} (t : Trial X) (text : List ℕ) (inputs : List (List ℕ)) (trace : Trace) (now : Between X) (grow : ℕ) (first : Line) (names : List (List ℕ)) : Type 0 where
+pub record BeginsFirst {X : Type 0} (t : Trial X) (text : List ℕ) (inputs : List (List ℕ))
+    (trace : Trace) (now : Between X) (grow : ℕ) (first : Line)
+    (names : List (List ℕ)) : Type 0 where
   pub head : IsHeadOf t trace.grow first names
   pub grow_is : t.grow ≡ grow
   pub wired : IsWired t.net
