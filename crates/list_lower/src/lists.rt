@@ -703,8 +703,9 @@ fn list_element(
 ///
 /// `NotLowered` if the expression has a part for which no code is made, with the offset of the first one (`fault`):
 /// beside those of single values an index that is to give a list of a named list of tokens, a call that is to give one, a
-/// name, an item or a list with another number of items, or a comprehension whose generators aren't written out. `TooLong` if the draft has 2 to the power of 32 instructions, `TooManyCells` if it has as
-/// many cells. `Memory` if memory runs out.
+/// name, an item or a list with another number of items, or a comprehension whose generators aren't written out.
+/// `TooLong` if the draft has 2 to the power of 32 instructions, `TooManyCells` if it has as many cells. `Memory` if
+/// memory runs out.
 pub fn lower_list(
     names: &[Named],
     callees: &[Callee],

@@ -523,9 +523,9 @@ fn behind(
 /// values or lists, `if`, `while`, and `foreach` and blocks whose types are written without names, over the expressions
 /// for which [`lower_expr`](list_lower::lower_expr) or, of lists, [`lower_list`](list_lower::lower_list) makes code. The
 /// variables of a block may be lists at any depth. A `foreach` uses three cells more, or one if its bounds are written out
-/// and its type holds them, a variable of a block one for each of its numbers, a part of a list in lists one for each of
-/// its places and one for each number of its value, and a list that isn't copied from a name one for each of its numbers,
-/// beside those of its generators; they are added to the draft.
+/// and its type holds them, a variable of a block one for each of its numbers, and a part of a list in lists one for each
+/// of its places. What is stored in such a part or as a whole list uses one for each of its numbers, unless it is copied
+/// from a name, beside those of its generators. All are added to the draft.
 ///
 /// # Errors
 ///
