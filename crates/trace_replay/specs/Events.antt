@@ -1,11 +1,9 @@
 -- Lines of a run that are read one after another, up to an end line.
 -- Trusted are `IsTextOf` and `IsEnded`: part of what a promise means.
-use Rattle.std.specs.Prelude.{◌≡◌, ◌⊎◌, ℕ, suc, ◌+◌, true, List, [], ◌++◌, length, map, flat_map, Some, String, string_bytes}
-use Rattle.std.specs.List.{concat}
+use Rattle.std.specs.Prelude.{◌≡◌, ℕ, suc, ◌+◌, List, [], ◌++◌, length, map, flat_map, Some, String, string_bytes}
 use Rattle.std.specs.declared.alloc.Global.{Global as Heap}
 use Rattle.rvc_io.specs.Feeds.{Inputs}
 use Rattle.trace_text.specs.declared.line.Line.{Line}
-use Rattle.trace_text.specs.Spelling.{Spells}
 use Rattle.trace_text.specs.Table.{AreWritten}
 use Rattle.trace_text.specs.Text.{line_text}
 use Rattle.net_model.specs.declared.wiring.Counts.{Counts}
@@ -18,15 +16,12 @@ use Rattle.net_model.specs.Cell.{Cell}
 use Rattle.trace_replay.specs.Between.{Between, IsAt, stand}
 use Rattle.trace_replay.specs.Counting.{IsCountedTo}
 use Rattle.trace_replay.specs.Head.{IsHeadOf, PassesEnd, StandsAt}
-use Rattle.trace_replay.specs.Judging.{AtEvents, AtFirst, IsNotRun, Lead, Trial, is_of_table}
+use Rattle.trace_replay.specs.Judging.{AtEvents, AtFirst, Trial}
 use Rattle.trace_replay.specs.Laws.{StartFits}
 use Rattle.trace_replay.specs.Reading.{IsJudged, IsWhole}
 use Rattle.trace_replay.specs.declared.between.Replay.{Replay}
 use Rattle.trace_replay.specs.declared.reading.Trace.{Trace}
-use Rattle.trace_replay.specs.declared.why.Why.{Why}
-use Rattle.trace_replay.specs.declared.why.Why.TheVariants.{End}
 use Rattle.trace_replay.specs.declared.why.ReplayFault.{ReplayFault}
-use Rattle.trace_replay.specs.declared.why.ReplayFault.TheVariants.{NotRun, ReadFault, Memory}
 
 -- the head of a trace was read, and the network stands where the run begins
 pub record BeginsAt {X : Type 0} (t : Trial X) (text : List ℕ) (inputs : List (List ℕ))

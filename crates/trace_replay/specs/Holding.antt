@@ -1,6 +1,6 @@
 -- Tokens of input links that were taken back, until they arrive.
 -- Trusted are `tokens_of_stacks`, `stacked`, `IsBehind`, `AreFedBehind` and `StandsHeld`: part of what a promise means.
-use Rattle.std.specs.Prelude.{◌≡◌, ◌≢◌, ℕ, ◌+◌, ◌^◌, ◌≤◌, ◌<◌, true, false, List, [], ◌∷◌, ℤ, length, map, drop, slice_get, slice_set, slice_index_or, Option, Some, if◌then◌else◌}
+use Rattle.std.specs.Prelude.{◌≡◌, ℕ, ◌+◌, ◌^◌, ◌≤◌, ◌<◌, true, false, List, [], ◌∷◌, ℤ, length, map, drop, slice_get, slice_set, slice_index_or, Option, Some, if◌then◌else◌}
 use Rattle.rvc_io.specs.Feeds.{Inputs}
 use Rattle.port_files.specs.Coming.{Reading}
 use Rattle.token_ring.specs.Queue.{Queue}
@@ -11,7 +11,7 @@ use Rattle.net_model.specs.Event.{after_arrival}
 use Rattle.net_model.specs.Cell.{Cell}
 use Rattle.net_model.specs.Wired.{IsWired}
 use Rattle.net_state.specs.declared.filling.Filled.{Filled}
-use Rattle.net_state.specs.Held.{Held, seen}
+use Rattle.net_state.specs.Held.{Held}
 use Rattle.net_state.specs.Moving.{SameActors, SameMarks}
 use Rattle.net_state.specs.Standing.{StandsIn, StandsSince, unarrived}
 use Rattle.net_state.specs.TakingBack.{WaitElsewhere, down, waits_on}
