@@ -5,7 +5,7 @@ use Rattle.rvc_io.specs.Channels.{Channels, WritesOnlyAt}
 use Rattle.rvc_io.specs.Feeds.{Inputs}
 use Rattle.rvc_io.specs.Files.{File, under}
 use Rattle.rvc_io.specs.MemLibrary.{LibraryState, told}
-use Rattle.rvc_words.specs.Words.{PortText, port_text}
+use Rattle.rvc_words.specs.Words.{port_text}
 use Rattle.rvc_words.specs.declared.job.Job.{Job}
 use Rattle.actor_files.specs.Loading.{Counts, Library}
 use Rattle.actor_files.specs.Views.{file_names}

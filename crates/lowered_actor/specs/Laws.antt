@@ -1,6 +1,6 @@
 -- What holds of all lowered actors.
 -- Trusted: part of what a promise means.
-use Rattle.std.specs.Prelude.{◌≡◌, ℕ, ◌<◌, true, ℤ, List, length, take, Some, slice_get, Contains}
+use Rattle.std.specs.Prelude.{◌≡◌, ℕ, true, ℤ, List, length, take, Some, slice_get, Contains}
 use Rattle.rvc_base.specs.Lawful.{IsLawful}
 use Rattle.code_ir.specs.declared.outcome.Outcome.{Outcome}
 use Rattle.code_ir.specs.declared.outcome.Outcome.TheVariants as outcome

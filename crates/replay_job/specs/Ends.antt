@@ -21,7 +21,7 @@ use Rattle.run_report.specs.declared.status.ReadAt.TheVariants.{File, Feed}
 use Rattle.run_report.specs.declared.status.Status.{Status}
 use Rattle.run_report.specs.declared.status.Status.TheVariants as status
 use Rattle.network_commands.specs.Answers.{BreaksFiles, FileUnread, HasWrongWord}
-use Rattle.network_commands.specs.Commands.{AreCertified, Command, IsOfCommand, OpenedNothing, about_files, about_net, port_names, top_of, words_of}
+use Rattle.network_commands.specs.Commands.{AreCertified, Command, IsOfCommand, OpenedNothing, about_files, about_net, port_names, words_of}
 use Rattle.replay_job.specs.Replays.{IsReplayFeed, IsToReplay, OpensFeeds, WhateverIsTold}
 
 -- ---- a trace that was judged

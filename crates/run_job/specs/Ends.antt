@@ -23,7 +23,7 @@ use Rattle.run_report.specs.declared.status.ReadAt.TheVariants.{File, Feed}
 use Rattle.run_report.specs.declared.status.Status.{Status}
 use Rattle.run_report.specs.declared.status.Status.TheVariants as status
 use Rattle.network_commands.specs.Answers.{BreaksFiles, FileUnread, HasWrongWord}
-use Rattle.network_commands.specs.Commands.{AreCertified, AreGiven, Command, HasFiles, IsToRun, OpenedNothing, TouchesOnly, about_files, about_net, port_names, run_over, top_of, words_of}
+use Rattle.network_commands.specs.Commands.{AreCertified, AreGiven, Command, HasFiles, IsToRun, OpenedNothing, TouchesOnly, about_files, about_net, port_names, run_over, words_of}
 
 -- ---- the network that is run
 

@@ -1,4 +1,4 @@
-use Rattle.std.proofs.Common.{map, string_bytes, subst}
+use Rattle.std.proofs.Common.{map, subst}
 use Rattle.rvc_words.specs.Words.{port_text}
 use Rattle.actor_files.specs.Views.{file_names}
 use Rattle.rvc_engine.specs.Built.{IsBuilt}
