@@ -33,7 +33,7 @@ use cal_ast::{Expr, ExprForm, Ident, Stmt, StmtForm, TypeExpr, VarDecl};
 use cal_model::Shape;
 use code_ir::Instr;
 use expr_lower::{
-    Callee, Draft, Frame, LowerFault, Named, close, link, next_place, put, put_all, take_cell,
+    Callee, Draft, Frame, LowerFault, Named, close, link, next_place, put, take_cell,
 };
 use list_lower::{lower, lower_args, lower_test, shape_meant, single_meant, start, start_list};
 use rvc_base::Scalar;
