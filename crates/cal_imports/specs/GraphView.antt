@@ -1,6 +1,6 @@
 -- Nodes, edges and walks, without where they lie in memory.
 -- Trusted: part of what a promise means.
-use Rattle.std.specs.Prelude.{ℕ, List, map, String, string_bytes}
+use Rattle.std.specs.Prelude.{ℕ, List, map, reverse, String, Vec, string_bytes}
 use Rattle.std.specs.declared.alloc.Global.{Global as Heap}
 use Rattle.cal_imports.specs.Walk as walks
 use Rattle.cal_imports.specs.Walk.{Graph}

@@ -1,7 +1,7 @@
-use Rattle.std.proofs.Common.{◌≡◌, [], map, sym, subst, arith, rules}
+use Rattle.std.proofs.Common.{◌≡◌, ◌≤◌, [], length, map, sym, subst, arith, rules}
 use Rattle.cal_ast.specs.View.{actor_tree}
 use Rattle.used_names.specs.Naming.{with_names}
-use Rattle.used_names.specs.Using.{IsFound, outer_view, round_left, round_names}
+use Rattle.used_names.specs.Using.{IsFound, IsSettled, outer_view, round_left, round_names}
 use Rattle.used_names.proofs.Found.{round_done, round_few, round_is, start_found}
 use Rattle.used_names.proofs.used.found_names.Goals as goal
 
