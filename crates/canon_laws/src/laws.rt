@@ -1,4 +1,4 @@
-//! What holds of canonical text.
+//! Laws of canonical text. Each is a function that does nothing: its contract is what is proved.
 
 ghost use Rattle.std.specs.Prelude.{◌≡◌, ℕ, List};
 ghost use Rattle.cal_ast.specs.Apart.{IsEqualApart};
@@ -7,7 +7,10 @@ ghost use Rattle.cal_lexer.specs.Lexeme.{Placed};
 ghost use Rattle.cal_lexer.specs.Lexes.{lexes};
 ghost use Rattle.cal_grammar.specs.Spells.{spells};
 ghost use Rattle.cal_print.specs.Canon.{canon};
-ghost use Rattle.cal_print.specs.ReadBack.{IsReadBack};
+ghost use Rattle.canon_laws.specs.ReadBack.{IsReadBack};
+
+use cal_grammar::one_tree;
+use cal_lexer::one_list;
 
 /// Canonical text is read back. If a tree is that of a text, ignoring offsets, its canonical text has tokens, and these
 /// spell the same tree again, ignoring offsets, and as high.
@@ -25,8 +28,8 @@ pub fn one_canonical_text()
         → lexes source tokens → spells tokens x → lexes other others → spells others y
         → canon x ≡ canon y → IsEqualApart x y }
 {
-    cal_lexer::one_list();
-    cal_parser::one_tree();
+    one_list();
+    one_tree();
 }
 
 /// Offsets don't show in canonical text: trees that are equal, ignoring offsets, have the same.

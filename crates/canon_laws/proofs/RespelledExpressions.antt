@@ -4,8 +4,8 @@ use Rattle.cal_ast.specs.Tree.{Tree, absent, present, nil, cons, ident, tag, par
 use Rattle.cal_lexer.specs.Lexeme.{Lexeme, Placed}
 use Rattle.cal_grammar.specs.Operators.{level_of, binary_of, is_prefix, prefix_of}
 use Rattle.cal_grammar.specs.Spells.{Part, separated, rest, any, repeated, level, a_postfix, a_primary, a_gen, a_type, a_type_arg, a_var, some_vars, a_param, a_port, a_name, a_tag, an_expr, comma, dot, mark, Mark, the_separated, the_last, the_more, the_none, the_end, the_again, the_number, the_true, the_false, the_variable, the_call, the_if, the_list, the_comp, the_gen, the_index, the_prefix, the_binary, the_type, the_type_with, the_shape_arg, the_value_arg, the_var, the_var_changing, the_var_constant, the_no_vars, the_vars, the_param, the_param_default, the_port, the_name, the_tag}
-use Rattle.cal_print.specs.Printable.{IsPrintable}
-use Rattle.cal_print.proofs.Phrases.{mark_printable, Respells, IsBack, back, done, word, part, last, Reads, at_end, a_word, a_part, at_last, respells}
+use Rattle.canon_laws.specs.Printable.{IsPrintable}
+use Rattle.canon_laws.proofs.Phrases.{mark_printable, Respells, IsBack, back, done, word, part, last, Reads, at_end, a_word, a_part, at_last, respells}
 
 pub back_separated : {v : Mark} {p : Part} {v1 v2 : List Lexeme} {y1 y2 : Tree} → Respells p v1 y1 → Respells (rest v p) v2 y2 → Respells (separated v p) (v1 ++ v2) (cons y1 y2)
 back_separated {v = v} {p = p} {v1 = v1} {v2 = v2} {y1 = y1} {y2 = y2} r1 r2 = respells (r1, r2) go

@@ -10,11 +10,11 @@ use Rattle.cal_ast.specs.declared.expr.BinOp.TheVariants as binaries
 use Rattle.cal_lexer.specs.Lexeme.{Lexeme, Placed}
 use Rattle.cal_grammar.specs.Operators.{group, level_of, loosest, binary_of, is_prefix, prefix_of}
 use Rattle.cal_grammar.specs.Spells.{Part, Spells, level, a_postfix, a_primary, an_expr, the_tighter, the_postfix, the_primary, the_pair}
-use Rattle.cal_print.specs.Printable.{IsPrintable}
+use Rattle.canon_laws.specs.Printable.{IsPrintable}
 use Rattle.cal_print.specs.Canon.{words, is_loose, paired, word_of_prefix, word_of_binary}
-use Rattle.cal_print.proofs.Phrases.{Respells, IsBack, back, done, word, part, Reads, at_end, a_word, a_part, respells}
-use Rattle.cal_print.proofs.RespelledExpressions.{back_prefix, back_binary, back_if, back_index}
-use Rattle.cal_print.proofs.Said.{said}
+use Rattle.canon_laws.proofs.Phrases.{Respells, IsBack, back, done, word, part, Reads, at_end, a_word, a_part, respells}
+use Rattle.canon_laws.proofs.RespelledExpressions.{back_prefix, back_binary, back_if, back_index}
+use Rattle.canon_laws.proofs.Said.{said}
 
 -- one part for another, and the same words written otherwise
 

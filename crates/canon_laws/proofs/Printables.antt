@@ -3,7 +3,7 @@ use Rattle.std.proofs.Common.{List, [], ◌∷◌, ◌++◌}
 use Rattle.std.specs.List.{All}
 use Rattle.std.proofs.lemmas.List.Elements.{All-nil, All-cons, All-head, All-tail}
 use Rattle.cal_lexer.specs.Lexeme.{Lexeme}
-use Rattle.cal_print.specs.Printable.{IsPrintable, ArePrintable}
+use Rattle.canon_laws.specs.Printable.{IsPrintable, ArePrintable}
 
 pub joined : (ws vs : List Lexeme) → ArePrintable ws → ArePrintable vs → ArePrintable (ws ++ vs)
 joined [] vs some others = others

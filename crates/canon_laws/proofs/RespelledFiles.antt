@@ -5,8 +5,8 @@ use Rattle.cal_ast.specs.Apart.{unplaced}
 use Rattle.cal_lexer.specs.Lexeme.{Lexeme, Placed}
 use Rattle.cal_grammar.specs.Operators.{onto, import_at, with_package}
 use Rattle.cal_grammar.specs.Spells.{any, repeated, a_param, a_port, a_tag, members, a_unit_member, a_path, an_import, an_actor, a_unit, some_imports, a_file, comma, the_path_name, the_path_all, the_path_on, the_import, the_actor, the_unit, the_actor_file, the_unit_file, the_package_file}
-use Rattle.cal_print.specs.Printable.{IsPrintable}
-use Rattle.cal_print.proofs.Phrases.{Respells, IsBack, back, done, word, part, last, Reads, at_end, a_word, a_part, at_last, respells}
+use Rattle.canon_laws.specs.Printable.{IsPrintable}
+use Rattle.canon_laws.proofs.Phrases.{Respells, IsBack, back, done, word, part, last, Reads, at_end, a_word, a_part, at_last, respells}
 
 -- paths with one name more
 same_onto : (first x : Tree) {z1 z2 : Tree} → unplaced x ≡ import_part z1 z2 0 → unplaced (onto first x) ≡ import_part (cons (unplaced first) z1) z2 0

@@ -7,13 +7,13 @@ use Rattle.cal_lexer.specs.Lexes.{lexes}
 use Rattle.cal_grammar.specs.Spells.{a_file, spells}
 use Rattle.cal_print.specs.Spelling.{text_of}
 use Rattle.cal_print.specs.Canon.{words, canon}
-use Rattle.cal_print.specs.Printable.{ArePrintable, kinds}
-use Rattle.cal_print.specs.ReadBack.{IsReadBack}
-use Rattle.cal_print.proofs.Lexing.{lexes_back}
-use Rattle.cal_print.proofs.Lexed.{lexed_is_printable}
-use Rattle.cal_print.proofs.Phrases.{Front, all_of, IsBack, Respells}
-use Rattle.cal_print.proofs.Respelled.{respelled}
-use Rattle.cal_print.proofs.Placeless.{same_words, same_height}
+use Rattle.canon_laws.specs.Printable.{ArePrintable, kinds}
+use Rattle.canon_laws.specs.ReadBack.{IsReadBack}
+use Rattle.canon_laws.proofs.Lexing.{lexes_back}
+use Rattle.canon_laws.proofs.Lexed.{lexed_is_printable}
+use Rattle.canon_laws.proofs.Phrases.{Front, all_of, IsBack, Respells}
+use Rattle.canon_laws.proofs.Respelled.{respelled}
+use Rattle.canon_laws.proofs.Placeless.{same_words, same_height}
 
 -- the canonical text doesn't depend on offsets
 pub same_canon : (x y : Tree) → unplaced x ≡ unplaced y → canon x ≡ canon y

@@ -7,15 +7,15 @@ use Rattle.cal_ast.specs.Places.{begins}
 use Rattle.cal_lexer.specs.Lexeme.{Lexeme, Placed}
 use Rattle.cal_grammar.specs.Operators.{with_tag, onto, import_at, with_package}
 use Rattle.cal_grammar.specs.Spells.{Mark, mark, Part, Spells, separated, rest, any, repeated, level, a_postfix, a_primary, a_tag, a_stmt, otherwise, an_action, a_labelled, a_path, an_import, some_imports, a_file, an_expr, the_separated, the_last, the_more, the_none, the_some, the_end, the_again, the_binary, the_tighter, the_prefix, the_postfix, the_index, the_primary, the_number, the_true, the_false, the_variable, the_call, the_pair, the_if, the_list, the_comp, the_gen, the_type, the_type_with, the_shape_arg, the_value_arg, the_var, the_var_changing, the_var_constant, the_no_vars, the_vars, the_param, the_param_default, the_port, the_name, the_tag, the_place, the_assign, the_call_stmt, the_if_stmt, the_while, the_foreach, the_block, the_block_with, the_if_end, the_else, the_elsif, the_function, the_procedure, the_no_guards, the_guards, the_no_repeat, the_repeat, the_no_body, the_body, the_in, the_in_at, the_out, the_out_at, the_action, the_initialize, the_unlabelled, the_labelled, the_move, the_schedule, the_chain, the_priority, the_var_member, the_function_member, the_procedure_member, the_action_member, the_priority_member, the_no_members, the_member, the_schedule_member, the_unit_var, the_unit_function, the_path_name, the_path_all, the_path_on, the_import, the_actor, the_unit, the_actor_file, the_unit_file, the_file, the_package_file}
-use Rattle.cal_print.specs.Printable.{IsPrintable, ArePrintable, kinds}
+use Rattle.canon_laws.specs.Printable.{IsPrintable, ArePrintable, kinds}
 use Rattle.cal_print.specs.Canon.{words, joined, each_member, where_any, under}
-use Rattle.cal_print.proofs.Phrases.{Respells}
-use Rattle.cal_print.proofs.Said.{said, joined_by, path_words, said_joined, said_each, said_places, said_chains, said_units, said_member, said_var, said_function, said_procedure, said_priority, said_schedule, said_labelled, some_of, following_of, is_untagged, untagged, is_import, path_is, is_unpackaged, unpackaged}
-use Rattle.cal_print.proofs.Operands.{IsOperand, passes, as_said, level_said, primary_operand, binary_operand, prefix_operand, if_operand, index_operand, group_operand}
-use Rattle.cal_print.proofs.RespelledExpressions.{back_separated, back_last, back_more, back_none, back_end, back_again, back_number, back_true, back_false, back_variable, back_call, back_list, back_comp, back_gen, back_type, back_type_with, back_shape_arg, back_value_arg, back_var, back_var_changing, back_var_constant, back_no_vars, back_vars, back_param, back_param_default, back_port, back_name, back_tag}
-use Rattle.cal_print.proofs.RespelledStatements.{back_place, back_assign, back_call_stmt, back_if_stmt, back_while, back_foreach, back_block, back_block_with, back_if_end, back_else}
-use Rattle.cal_print.proofs.RespelledMembers.{back_function, back_procedure, back_no_guards, back_guards, back_no_repeat, back_repeat, back_no_body, back_body, back_in, back_in_at, back_out, back_out_at, back_action, back_initialize, back_labelled, back_move, back_schedule, back_chain, back_priority, back_var_member, back_unit_var, back_no_members, back_member, back_schedule_member}
-use Rattle.cal_print.proofs.RespelledFiles.{back_path_name, back_path_all, back_path_on, back_import, back_actor, back_unit, back_actor_file, back_unit_file, back_package_file}
+use Rattle.canon_laws.proofs.Phrases.{Respells}
+use Rattle.canon_laws.proofs.Said.{said, joined_by, path_words, said_joined, said_each, said_places, said_chains, said_units, said_member, said_var, said_function, said_procedure, said_priority, said_schedule, said_labelled, some_of, following_of, is_untagged, untagged, is_import, path_is, is_unpackaged, unpackaged}
+use Rattle.canon_laws.proofs.Operands.{IsOperand, passes, as_said, level_said, primary_operand, binary_operand, prefix_operand, if_operand, index_operand, group_operand}
+use Rattle.canon_laws.proofs.RespelledExpressions.{back_separated, back_last, back_more, back_none, back_end, back_again, back_number, back_true, back_false, back_variable, back_call, back_list, back_comp, back_gen, back_type, back_type_with, back_shape_arg, back_value_arg, back_var, back_var_changing, back_var_constant, back_no_vars, back_vars, back_param, back_param_default, back_port, back_name, back_tag}
+use Rattle.canon_laws.proofs.RespelledStatements.{back_place, back_assign, back_call_stmt, back_if_stmt, back_while, back_foreach, back_block, back_block_with, back_if_end, back_else}
+use Rattle.canon_laws.proofs.RespelledMembers.{back_function, back_procedure, back_no_guards, back_guards, back_no_repeat, back_repeat, back_no_body, back_body, back_in, back_in_at, back_out, back_out_at, back_action, back_initialize, back_labelled, back_move, back_schedule, back_chain, back_priority, back_var_member, back_unit_var, back_no_members, back_member, back_schedule_member}
+use Rattle.canon_laws.proofs.RespelledFiles.{back_path_name, back_path_all, back_path_on, back_import, back_actor, back_unit, back_actor_file, back_unit_file, back_package_file}
 
 -- expressions, whose words depend on what they stand in
 abbrev pub is_expression : Part → Bool

@@ -10,7 +10,7 @@ use Rattle.rvc_base.specs.Rules.{name_too_long, number_too_big}
 use Rattle.cal_lexer.specs.Lexeme.{Lexeme, Placed}
 use Rattle.cal_lexer.specs.Lexis.{max_name, flaw, begins_name, goes_on_name, is_name, find, first_of_both, words, long_ends, reserved, symbols_of_one, symbols_of_two, symbols_of_three, symbol, word, hexadecimal, decimal_number, number, token_of}
 use Rattle.cal_lexer.specs.Lexes.{LexesFrom, ends, after_gap, after_token}
-use Rattle.cal_print.specs.Printable.{IsPrintable, ArePrintable, kinds}
+use Rattle.canon_laws.specs.Printable.{IsPrintable, ArePrintable, kinds}
 
 -- if it is a name, then it is one
 abbrev IsSound : Lexeme → Type 0

@@ -3,8 +3,8 @@ use Rattle.std.proofs.Common.{ℕ, List, [], ◌∷◌, ◌++◌, refl}
 use Rattle.cal_ast.specs.Tree.{Tree, absent, present, nil, ident, assign, call_stmt, if_stmt, while_stmt, foreach_stmt, block}
 use Rattle.cal_lexer.specs.Lexeme.{Lexeme, Placed}
 use Rattle.cal_grammar.specs.Spells.{separated, any, repeated, a_type, a_var, a_place, a_stmt, otherwise, an_expr, comma, the_place, the_assign, the_call_stmt, the_if_stmt, the_while, the_foreach, the_block, the_block_with, the_if_end, the_else}
-use Rattle.cal_print.specs.Printable.{IsPrintable}
-use Rattle.cal_print.proofs.Phrases.{Respells, IsBack, back, done, word, part, last, Reads, at_end, a_word, a_part, at_last, respells}
+use Rattle.canon_laws.specs.Printable.{IsPrintable}
+use Rattle.canon_laws.proofs.Phrases.{Respells, IsBack, back, done, word, part, last, Reads, at_end, a_word, a_part, at_last, respells}
 
 pub back_place : {v1 : List Lexeme} {y1 : Tree} → Respells an_expr v1 y1 → Respells a_place (Lexeme.LeftBracket ∷ v1 ++ (Lexeme.RightBracket ∷ [])) y1
 back_place {v1 = v1} {y1 = y1} r1 = respells (tt, (r1, (tt, tt))) go

@@ -4,7 +4,7 @@ use Rattle.cal_ast.specs.Tree.{Tree}
 use Rattle.cal_ast.specs.Apart.{unplaced}
 use Rattle.cal_lexer.specs.Lexeme.{Lexeme, Placed, placed}
 use Rattle.cal_grammar.specs.Spells.{Mark, comma, dot, greater, mark, Part, Spells}
-use Rattle.cal_print.specs.Printable.{IsPrintable, ArePrintable, kinds}
+use Rattle.canon_laws.specs.Printable.{IsPrintable, ArePrintable, kinds}
 
 -- the tokens of a up to those of b are of these kinds
 pub data Front : List Lexeme → List Placed → List Placed → Type 0 where

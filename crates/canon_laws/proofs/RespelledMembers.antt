@@ -5,8 +5,8 @@ use Rattle.cal_ast.specs.Apart.{unplaced}
 use Rattle.cal_lexer.specs.Lexeme.{Lexeme, Placed}
 use Rattle.cal_grammar.specs.Operators.{with_tag}
 use Rattle.cal_grammar.specs.Spells.{separated, any, repeated, a_type, a_var, some_vars, a_port, a_name, a_tag, a_stmt, a_function, a_procedure, some_guards, some_repeat, a_body, an_in, an_out, an_action, a_labelled, a_move, a_schedule, a_chain, a_priority, a_member, members, a_unit_member, an_expr, comma, greater, the_function, the_procedure, the_no_guards, the_guards, the_no_repeat, the_repeat, the_no_body, the_body, the_in, the_in_at, the_out, the_out_at, the_action, the_initialize, the_labelled, the_move, the_schedule, the_chain, the_priority, the_var_member, the_unit_var, the_no_members, the_member, the_schedule_member}
-use Rattle.cal_print.specs.Printable.{IsPrintable}
-use Rattle.cal_print.proofs.Phrases.{Respells, IsBack, back, done, word, part, last, Reads, at_end, a_word, a_part, at_last, respells}
+use Rattle.canon_laws.specs.Printable.{IsPrintable}
+use Rattle.canon_laws.proofs.Phrases.{Respells, IsBack, back, done, word, part, last, Reads, at_end, a_word, a_part, at_last, respells}
 
 -- an action without a tag, and the same under one
 same_with_tag : (t x : Tree) {i : Bool} {y z1 z2 z3 z4 z5 : Tree} → unplaced t ≡ y → unplaced x ≡ action absent i z1 z2 z3 z4 z5 0 → unplaced (with_tag t x) ≡ action (present y) i z1 z2 z3 z4 z5 0

@@ -5,9 +5,9 @@ use Rattle.cal_lexer.specs.Lexeme.{Lexeme, Placed}
 use Rattle.cal_lexer.specs.Lexes.{LexesFrom, lexes, faults}
 use Rattle.cal_lexer.proofs.Once.{one_list, not_both}
 use Rattle.cal_print.specs.Spelling.{text_of}
-use Rattle.cal_print.specs.Printable.{ArePrintable, kinds}
-use Rattle.cal_print.proofs.Lexing.{lexes_back}
-use Rattle.cal_print.proofs.Lexed.{lexed_is_printable}
+use Rattle.canon_laws.specs.Printable.{ArePrintable, kinds}
+use Rattle.canon_laws.proofs.Lexing.{lexes_back}
+use Rattle.canon_laws.proofs.Lexed.{lexed_is_printable}
 
 -- whatever the text of printable tokens lexes to, it is these tokens
 pub only_these : (ws : List Lexeme) (tokens : List Placed) → ArePrintable ws → lexes (text_of ws) tokens → kinds tokens ≡ ws

@@ -13,9 +13,9 @@ use Rattle.cal_lexer.specs.Lexes.{LexesFrom, ends, after_gap, after_token}
 use Rattle.cal_lexer.proofs.Fronts.{front_other}
 use Rattle.cal_lexer.specs.Words.{spelling}
 use Rattle.cal_print.specs.Spelling.{gap_behind, text_of}
-use Rattle.cal_print.specs.Printable.{IsPrintable, ArePrintable, kinds}
-use Rattle.cal_print.proofs.Blanks.{blank_in}
-use Rattle.cal_print.proofs.Digits.{AreDigitsOf, decimal_digits, no_leading_zero}
+use Rattle.canon_laws.specs.Printable.{IsPrintable, ArePrintable, kinds}
+use Rattle.canon_laws.proofs.Blanks.{blank_in}
+use Rattle.canon_laws.proofs.Digits.{AreDigitsOf, decimal_digits, no_leading_zero}
 
 -- a text that is a token is the longest one before a blank
 next_text : (text rest : List ℕ) (gap : ℕ) (w : Lexeme) → is_blank gap ≡ true → front (text ++ (gap ∷ rest)) ≡ Token → token_of text ≡ Some w → IsNext (text ++ (gap ∷ rest)) (length text) w
