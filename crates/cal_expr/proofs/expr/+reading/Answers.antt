@@ -376,4 +376,4 @@ type_arg-returns-in_err-value-clause-told t c =
     (arg_value c.args.room (string_bytes c.in_ok-name.name.text) c.in_ok-name.name.at c.args.tokens.now.now c.name.new.tokens.now c.in_ok-name.ensures c.in_ok-expect.field-0 c.expect.new.tokens.now c.in_ok-expect.ensures c.in_err-value.field-0.0 c.level_expr.new.tokens.now c.in_err-value.ensures.told)
 
 pub type_arg-returns-clause-told : goal.type_arg-returns-clause-told
-type_arg-returns-clause-told t c = arg_valued c.args.room (string_bytes c.in_ok-name.name.text) c.in_ok-name.name.at c.args.tokens.now.now c.name.new.tokens.now c.in_ok-name.ensures c.in_ok-expect.field-0 c.expect.new.tokens.now c.in_ok-expect.ensures (tall_tree c.in_ok-value.value) (tall_type_arg c.in_ok-found.found) c.level_expr.new.tokens.now c.in_ok-value.ensures.told c.in_ok-found.ensures.is
+type_arg-returns-clause-told t c = arg_valued c.args.room (string_bytes c.in_ok-name.name.text) c.in_ok-name.name.at c.args.tokens.now.now c.name.new.tokens.now c.in_ok-name.ensures c.in_ok-expect.field-0 c.expect.new.tokens.now c.in_ok-expect.ensures (tall_tree c.in_ok-value.value) (tall_type_arg c.in_ok-found-2.found) c.level_expr.new.tokens.now c.in_ok-value.ensures.told c.in_ok-found-2.ensures.is
