@@ -1,7 +1,8 @@
--- The forms whose parts are both trees and lists of trees: equal parts make equal forms.
-use Rattle.std.proofs.Common.{◌≡◌, ℕ, map, Vec, Option, Some, None, Global, Box, sym, ap, ◌∙◌, rules}
+-- The forms whose parts are both trees and lists of trees: equal parts make equal forms. And what an action does, as a
+-- part that may be missing.
+use Rattle.std.proofs.Common.{◌≡◌, ℕ, map, option_map, Vec, Option, Some, None, Global, Box, refl, sym, ap, ◌∙◌, rules}
 use Rattle.cal_ast.specs.Tree.{Tree, comp, if_stmt, listed}
-use Rattle.cal_ast.specs.View.{expr_tree, form_tree, gen_tree, stmt_tree, stmt_form_tree, body_tree, stmt_form_step, stmt_step}
+use Rattle.cal_ast.specs.View.{expr_tree, form_tree, gen_tree, stmt_tree, stmt_form_tree, body_tree, optional, stmt_form_step, stmt_step}
 use Rattle.cal_ast.specs.declared.expr.Expr.{Expr}
 use Rattle.cal_ast.specs.declared.expr.Gen.{Gen}
 use Rattle.cal_ast.specs.declared.expr.ExprForm.{Comp}
@@ -28,3 +29,7 @@ form-If test first (Some other) at =
 pub same_if : (test was : Expr) (first firsts : Vec Stmt Global) (other others : Option (Vec Stmt Global)) (at : ℕ) → expr_tree test ≡ expr_tree was → map stmt_tree first.items ≡ map stmt_tree firsts.items → body_tree other ≡ body_tree others
     → stmt_form_tree (If test first other) at ≡ stmt_form_tree (If was firsts others) at
 same_if test was first firsts other others at e f g = form-If test first other at ∙ rw (e, f, g) (sym (form-If was firsts others at))
+
+pub body_parts : (body : Option (Vec Stmt Global)) → body_tree body ≡ optional (option_map (λ stmts. listed (map stmt_tree stmts.items)) body)
+body_parts None = refl
+body_parts (Some stmts) = refl

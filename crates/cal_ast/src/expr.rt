@@ -345,3 +345,11 @@ impl Part for Expr {
         self.copy(alloc)
     }
 }
+
+impl Part for TypeExpr {
+    ghost tree = { type_tree };
+
+    fn copied(&self, alloc: Global) -> Result<TypeExpr, AllocError> {
+        self.copy(alloc)
+    }
+}
