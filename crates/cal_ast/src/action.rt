@@ -83,8 +83,7 @@ impl Action {
     pub fn copy(&self, alloc: Global) -> Result<Action, AllocError>
         ensures { IfOk result (λ copied. action_tree copied ≡ action_tree self.now) }
     {
-        let (tag, patterns, outputs) =
-            copy_three(alloc, &self.tag, &self.patterns, &self.outputs)?;
+        let (tag, patterns, outputs) = copy_three(alloc, &self.tag, &self.patterns, &self.outputs)?;
         let (guards, vars, body) = copy_three(alloc, &self.guards, &self.vars, &self.body)?;
         Ok(Action {
             tag,

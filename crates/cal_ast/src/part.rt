@@ -1,6 +1,6 @@
 //! Copies of parts, of lists of parts, and of parts that may be missing.
 
-ghost use Rattle.std.specs.Prelude.{◌≡◌, IfOk, map, option_map};
+ghost use Rattle.std.specs.Prelude.{◌≡◌, IfOk, Ok, map, option_map};
 
 use std::alloc::{AllocError, Global};
 
@@ -50,11 +50,7 @@ pub(crate) fn copy_all<T: Part>(alloc: Global, parts: &[T]) -> Result<Vec<T>, Al
 }
 
 /// Two equal parts.
-pub(crate) fn copy_two<A: Part, B: Part>(
-    alloc: Global,
-    a: &A,
-    b: &B,
-) -> Result<(A, B), AllocError>
+pub(crate) fn copy_two<A: Part, B: Part>(alloc: Global, a: &A, b: &B) -> Result<(A, B), AllocError>
     ensures { IfOk result (λ copied. (A.tree copied.0 ≡ A.tree a.now)
         × (B.tree copied.1 ≡ B.tree b.now)) }
 {
@@ -72,4 +68,24 @@ pub(crate) fn copy_three<A: Part, B: Part, C: Part>(
         × (B.tree copied.1 ≡ B.tree b.now) × (C.tree copied.2 ≡ C.tree c.now)) }
 {
     Ok((a.copied(alloc)?, b.copied(alloc)?, c.copied(alloc)?))
+}
+
+/// Two parts, if both were copied. The second is tried too where the first has failed.
+pub(crate) fn both<A: Drop, B: Drop>(
+    a: Result<A, AllocError>,
+    b: Result<B, AllocError>,
+) -> Result<(A, B), AllocError>
+    ensures { IfOk result (λ copied. (a ≡ Ok copied.0) × (b ≡ Ok copied.1)) }
+{
+    Ok((a?, b?))
+}
+
+/// A part on the heap, if it was copied.
+pub(crate) fn boxed<T: Drop>(
+    alloc: Global,
+    part: Result<T, AllocError>,
+) -> Result<Box<T>, AllocError>
+    ensures { IfOk result (λ boxed. part ≡ Ok boxed.value) }
+{
+    Ok(Box::new(alloc, part?)?)
 }
