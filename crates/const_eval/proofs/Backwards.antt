@@ -39,10 +39,6 @@ pub none_known : {X Y : Type 0} (view : X → Y) (known : Y → Known) (name : L
 none_known view known name [] e = refl
 none_known view known name (x ∷ xs) e = absurd (omega arith)
 
-pub no_entry : {X : Type 0} (view : X → Known) (name : List ℕ) (all : List X) → length all ≡ 0 → known_as name (last_first view all []) ≡ None
-no_entry view name [] e = refl
-no_entry view name (x ∷ xs) e = absurd (omega arith)
-
 -- what stands inside, and what stands round it
 pub known_round : {X Y : Type 0} (view : X → Y) (known : Y → Known) (name : List ℕ) (xs : List X) (outer : List Y)
     → known_as name (map known (last_first view xs outer)) ≡ or_else (known_as name (map known (last_first view xs []))) (known_as name (map known outer))

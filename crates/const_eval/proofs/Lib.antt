@@ -19,3 +19,4 @@ mod Named
 mod Backwards
 mod Steps
 mod GenSteps
+mod Leading

@@ -11,3 +11,4 @@ pub mod Counting
 pub mod Judging
 pub mod Fitting
 pub mod Shaping
+pub mod Standing

@@ -5,10 +5,10 @@ ghost use Rattle.cal_model.specs.View.{value_view};
 ghost use Rattle.const_eval.specs.Sizes.{is_sized_fun};
 ghost use Rattle.const_eval.specs.Lengths.{is_counted};
 
-use crate::finding::{entry_in, fun_in};
 use crate::held::Entry;
 use crate::kinds::kind_of_value;
 use crate::meant::Meant;
+use crate::places::Places;
 use cal_model::{BoundFun, Kind, Value};
 use rvc_base::Memory;
 use std::alloc::Global;
@@ -18,21 +18,28 @@ use std::marker::Model;
 ///
 /// Contracts see the names, each with its kind, its value if it is a constant, and whether it may be assigned, the one
 /// that was added last first, since it hides those of its name; and the functions in the order in which they were added.
+/// A look-up takes the same time however many they are.
 #[derive(Debug, Drop)]
 pub struct Env {
     entries: Vec<Entry>,
+    /// Where the last entry of each name stands.
+    entry_places: Places,
     funs: Vec<BoundFun>,
+    fun_places: Places,
 }
 
 impl Model for Env {
-    ghost use Rattle.std.specs.Prelude.{◌≡◌, map, true};
+    ghost use Rattle.std.specs.Prelude.{◌≡◌, [], map, true};
     ghost use Rattle.std.specs.Coded.{codes};
+    ghost use Rattle.cal_model.specs.Call.{fun_named};
+    ghost use Rattle.cal_model.specs.Kinding.{known_as};
     ghost use Rattle.cal_model.specs.View.{fun_view};
     ghost use Rattle.cal_model.specs.contracts.bound.BoundFun as fun;
     ghost use Rattle.cal_model.specs.contracts.kind.Kind as kind;
     ghost use Rattle.cal_model.specs.contracts.value.Value as value;
-    ghost use Rattle.const_eval.specs.Held.{Kept};
+    ghost use Rattle.const_eval.specs.Held.{Kept, entry_view, last_first};
     ghost use Rattle.const_eval.specs.Sizes.{are_sized_funs};
+    ghost use Rattle.const_eval.specs.Standing.{LeadEach};
 
     ghost Value = { Kept };
 
@@ -40,7 +47,11 @@ impl Model for Env {
 
     ghost view = { λ env. record { entries = env.entries.items; funs = env.funs.items } };
 
-    ghost invariant = { λ env. are_sized_funs (map fun_view env.funs.items) ≡ true };
+    ghost invariant = { λ env. (are_sized_funs (map fun_view env.funs.items) ≡ true)
+        × LeadEach entry_view env.entries.items env.entry_places
+        (λ name. known_as name (last_first entry_view env.entries.items []))
+        × LeadEach fun_view env.funs.items env.fun_places
+        (λ name. fun_named name (map fun_view env.funs.items)) };
 }
 
 impl Env {
@@ -50,7 +61,7 @@ impl Env {
     ghost use Rattle.cal_model.specs.View.{fun_view, kind_view};
     ghost use Rattle.const_eval.specs.Constants.{constant_named, has_fun, has_value, known_of};
     ghost use Rattle.const_eval.specs.Counting.{meant_view, use_of};
-    ghost use Rattle.const_eval.specs.Held.{globals_of, held, names_in};
+    ghost use Rattle.const_eval.specs.Held.{entry_view, globals_of, held, names_in};
 
     /// No names and no functions.
     pub fn new(alloc: Global) -> Env
@@ -59,7 +70,9 @@ impl Env {
     {
         Env {
             entries: Vec::new(alloc),
+            entry_places: Places::new(alloc),
             funs: Vec::new(alloc),
+            fun_places: Places::new(alloc),
         }
     }
 
@@ -98,9 +111,10 @@ impl Env {
         ensures same_funs { (held self.new).funs ≡ (held self.old).funs }
         ensures memory { OnErr result (names_in self.new ≡ names_in self.old) }
     {
-        let name = String::from_str(*self.entries.allocator(), name)?;
+        let own = String::from_str(*self.entries.allocator(), name)?;
+        self.entry_places.put_next(name, &mut self.entries)?;
         self.entries.push(Entry {
-            name,
+            name: own,
             kind,
             value,
             changes,
@@ -142,8 +156,18 @@ impl Env {
         ensures same_names { globals_of self.new ≡ globals_of self.old }
         ensures memory { OnErr result (names_in self.new ≡ names_in self.old) }
     {
+        self.fun_places.put_next(fun.name.as_str(), &mut self.funs)?;
         self.funs.push(fun)?;
         Ok(())
+    }
+
+    /// Removes all functions; the names stay.
+    pub fn clear_funs(&mut self)
+        ensures cleared { (held self.new).funs ≡ [] }
+        ensures same_names { globals_of self.new ≡ globals_of self.old }
+    {
+        self.funs.clear();
+        self.fun_places.clear();
     }
 
     /// How many functions there are.
@@ -158,7 +182,7 @@ impl Env {
         ensures { option_map (λ v. value_view v.now) result
             ≡ constant_named name.now (held self.now).values }
     {
-        match entry_in(name, &self.entries) {
+        match self.entry(name) {
             Some(entry) => entry.value(),
             None => None,
         }
@@ -169,7 +193,7 @@ impl Env {
         ensures { option_map meant_view result
             ≡ option_map use_of (known_as name.now (globals_of self.now)) }
     {
-        match entry_in(name, &self.entries) {
+        match self.entry(name) {
             Some(entry) => Some(Meant {
                 kind: Some(&entry.kind),
                 changes: entry.changes,
@@ -184,6 +208,16 @@ impl Env {
             ≡ fun_named name.now (held self.now).funs }
         ensures sized { IfSome result (λ f. is_sized_fun (fun_view f.now) ≡ true) }
     {
-        fun_in(name, &self.funs)
+        let place = self.fun_places.get(name)?;
+        self.funs.get(place)
+    }
+
+    /// The last entry of the name.
+    fn entry(&self, name: &str) -> Option<&Entry>
+        ensures { option_map (λ x. entry_view x.now) result
+            ≡ known_as name.now (globals_of self.now) }
+    {
+        let place = self.entry_places.get(name)?;
+        self.entries.get(place)
     }
 }
