@@ -1,17 +1,15 @@
 -- Code of locals, of outputs and of firings writes only cells that may be written, and reads only tokens that may be read.
-use Rattle.std.proofs.Common.{◌≡◌, ℕ, zero, suc, ◌+◌, ◌*◌, ◌<◌, ◌≤◌, List, [], ◌∷◌, ◌++◌, length, true, refl, sym, subst, Some, arith}
+use Rattle.std.proofs.Common.{◌≡◌, ℕ, zero, suc, ◌+◌, ◌*◌, ◌≤◌, List, [], ◌∷◌, ◌++◌, length, true, sym, subst, Some, arith}
 use Rattle.rvc_base.specs.declared.scalar.Scalar.{Scalar}
 use Rattle.cal_ast.specs.Tree.{Tree, listed}
 use Rattle.cal_model.specs.Actor.{Action, Local, Output, Port, Proc}
 use Rattle.cal_model.specs.Kinding.{Names, with_known}
-use Rattle.cal_model.specs.Selection.{kind_of_port}
 use Rattle.cal_model.specs.Sound.{AreStatements, known_local, with_locals}
 use Rattle.cal_model.specs.Value.{Shape, Single, scalars_of_type}
 use Rattle.code_ir.specs.declared.instr.Instr.{Instr}
 use Rattle.code_ir.specs.declared.instr.Instr.TheVariants as op
 use Rattle.expr_lower.specs.Allowing.{Allowed, Allows, AreAllowed, MayWrite}
-use Rattle.expr_lower.specs.Callees.{Function}
-use Rattle.expr_lower.specs.Names.{Name, local, local_of}
+use Rattle.expr_lower.specs.Names.{Name}
 use Rattle.expr_lower.specs.Parted.{number_of}
 use Rattle.expr_lower.proofs.AllowedCode.{allowed_then, allows_local, allows_more, code_allowed, own_all, own_one, start_allowed}
 use Rattle.expr_lower.proofs.Coded.{grows}
@@ -25,7 +23,7 @@ use Rattle.action_lower.specs.FiringCode.{IsFiringCode}
 use Rattle.action_lower.specs.LocalCode.{AreStarted, list_more, none_started, start_more}
 use Rattle.action_lower.specs.Sending.{AreOutputs, AreStored, IsRepeated, IsSentList, in_turns, item_stores, items_of_any, list_output_more, no_output, no_value, one_list, output_more, turn_stores, value_more}
 use Rattle.action_lower.proofs.Storing.{stored-grows}
-use Rattle.action_lower.proofs.TurnSending.{listed_number, repeated-grows}
+use Rattle.action_lower.proofs.TurnSending.{repeated-grows}
 
 module _ (a : Allowed) (rs : Routines) where
   -- ---- locals

@@ -1,16 +1,14 @@
 -- What may be written and read where an action's code stands: the names that it sees.
-use Rattle.std.proofs.Common.{◌≡◌, ℕ, zero, suc, ◌+◌, ◌*◌, ◌<◌, ◌≤◌, ◌⊎◌, inl, inr, ⊎_elim, Bool, true, false, List, [], ◌∷◌, ◌++◌, length, map, refl, sym, ap, ◌∙◌, subst, Option, None, Some, arith}
+use Rattle.std.proofs.Common.{◌≡◌, ℕ, zero, suc, ◌+◌, ◌*◌, ◌<◌, ◌⊎◌, inl, inr, ⊎_elim, Bool, true, false, List, [], ◌∷◌, ◌++◌, length, map, refl, sym, ap, ◌∙◌, subst, Option, None, Some, arith}
 use Rattle.std.specs.Prelude.{if◌then◌else◌}
 use Rattle.std.specs.Str.{bytes_eq}
 use Rattle.rvc_base.specs.declared.scalar.Scalar.{Scalar}
 use Rattle.cal_model.specs.Actor.{Action, Actor, Held, Pattern, Port}
 use Rattle.cal_model.specs.Kinding.{Known, Names, known_as, meant_by, with_known}
-use Rattle.cal_model.specs.Rates.{parts_times, taken_on, times}
+use Rattle.cal_model.specs.Rates.{parts_times, taken_on}
 use Rattle.cal_model.specs.Selection.{kind_of_port}
-use Rattle.cal_model.specs.Sound.{AreDistinct, Each, IsAction, kind_of_tokens, known_of, names_of, with_pattern, with_patterns}
-use Rattle.cal_model.specs.Value.{Kind, Shape, Single, Many, scalars_of_type}
-use Rattle.expr_lower.specs.declared.names.Seat.{Seat}
-use Rattle.expr_lower.specs.declared.names.Seat.TheVariants.{Cell, Tokens}
+use Rattle.cal_model.specs.Sound.{AreDistinct, Each, kind_of_tokens, known_of, names_of, with_pattern, with_patterns}
+use Rattle.cal_model.specs.Value.{Kind, scalars_of_type}
 use Rattle.expr_lower.specs.Allowing.{Allowed, AreRead, MayRead, MayWrite, SeatIsRead}
 use Rattle.expr_lower.specs.Names.{Name, named}
 use Rattle.stmt_lower.specs.AllowingRuns.{ChangesAreWritten, SeatIsWritten}

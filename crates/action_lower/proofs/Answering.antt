@@ -34,7 +34,7 @@ use Rattle.expr_lower.proofs.Effects.{same_number, true_again}
 use Rattle.expr_lower.proofs.Runs.{ends_join, obeys, stands_left, stands_right}
 use Rattle.action_lower.specs.FiringCode.{globals_of, round}
 use Rattle.action_lower.specs.GuardWords.{ClearsBehind}
-use Rattle.action_lower.specs.Guarding.{AnswerAs, AnswersAs, AreGuards, AreGuardsOf, HasFunctionsOf, IsGuardCode, IsGuardOf, IsHead, clearing, guard_more, no_guard, no_head}
+use Rattle.action_lower.specs.Guarding.{AnswerAs, AnswersAs, AreGuards, AreGuardsOf, HasFunctionsOf, IsGuardOf, IsHead, clearing, guard_more, no_guard, no_head}
 use Rattle.action_lower.specs.Seats.{HoldVars, seen_seats, state_cells, taken}
 use Rattle.action_lower.proofs.ClearedCells.{runs-on, runs-so, take-zeroed, zeroed-size}
 use Rattle.action_lower.proofs.BelowState.{each-below, seen-below, vars-below}

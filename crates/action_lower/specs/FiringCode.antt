@@ -30,7 +30,8 @@ use Rattle.action_lower.specs.Sending.{AreOutputs, StandFrom}
 
 -- Code of a firing: that of the locals, of the body, which sees them, and of the outputs, which see what the body left;
 -- and then the run is done.
-pub record IsFiringCode (rs : Routines) (names : List Name) (ports : List Port) (act : Action) (firsts : List ℕ) (base n : ℕ) (code : List Instr) (m : ℕ) : Type 0 where
+pub record IsFiringCode (rs : Routines) (names : List Name) (ports : List Port) (act : Action)
+    (firsts : List ℕ) (base n : ℕ) (code : List Instr) (m : ℕ) : Type 0 where
   pub behind : List Name
   pub a : List Instr
   pub b : List Instr
@@ -67,7 +68,8 @@ EndsAsFiring actor act firsts Clashes o last = ⊥
 
 -- A run from an entry, over the tokens that the action takes, ends as the locals, the body and the outputs of the action
 -- do, and in no other way.
-pub record Fires (actor : Actor) (a : ℕ) (act : Action) (firsts : List ℕ) (whole : Code) (entry : ℕ) (x : State) (u : List (List ℤ)) (cells : List ℤ) : Type 0 where
+pub record Fires (actor : Actor) (a : ℕ) (act : Action) (firsts : List ℕ) (whole : Code) (entry : ℕ)
+    (x : State) (u : List (List ℤ)) (cells : List ℤ) : Type 0 where
   pub outcome : Outcome
   pub last : List ℤ
   pub ends : runs whole entry cells (taken actor u a) outcome last
@@ -84,7 +86,8 @@ abbrev pub globals_of : Actor → List Name
 globals_of actor = var_seats 0 actor.vars
 
 -- code has routines of functions and procedures that do what those of the actor do
-pub record HasRoutinesOf (actor : Actor) (a : ℕ) (rs : Routines) (whole : Code) (low high : ℕ) (u : List (List ℤ)) : Type 0 where
+pub record HasRoutinesOf (actor : Actor) (a : ℕ) (rs : Routines) (whole : Code) (low high : ℕ)
+    (u : List (List ℤ)) : Type 0 where
   pub functions : Serves (round actor a u whole low high) (globals_of actor) rs.functions
   pub procedures :
       ServesRuns (round actor a u whole low high) (runs_of actor.procs (calls_of actor.funs))

@@ -56,7 +56,8 @@ left_out_of rs b a = elim (slice_get b.actions.items a) [
 -- ---- what a call does
 
 -- code of a body and of outputs over names, and the end
-pub record IsBehindCode (rs : Routines) (names : List Name) (ports : List Port) (act : Action) (firsts : List ℕ) (base n : ℕ) (code : List Instr) (m : ℕ) : Type 0 where
+pub record IsBehindCode (rs : Routines) (names : List Name) (ports : List Port) (act : Action)
+    (firsts : List ℕ) (base n : ℕ) (code : List Instr) (m : ℕ) : Type 0 where
   pub b : List Instr
   pub c : List Instr
   pub j : ℕ
@@ -91,7 +92,8 @@ IsFiringFaultAt callees procedures b a draft fault =
     IsSendFault (left_out_of (routines_of callees procedures) b a) draft fault
 
 -- code of a firing was added, over the names that its patterns and the actor's variables have
-abbrev pub AddsFiringCode : List Callee → List ProcCallee → List Named → List BoundPort → BoundAction → List ℕ → Draft → Draft → Type 0
+abbrev pub AddsFiringCode : List Callee → List ProcCallee → List Named → List BoundPort
+    → BoundAction → List ℕ → Draft → Draft → Type 0
 AddsFiringCode callees procedures names ports act firsts old new =
     Adds (IsFiringCode (routines_of callees procedures) (names_view names) (map port_view ports)
     (action_view act) firsts) old new
@@ -108,7 +110,8 @@ IsFiringFault callees procedures names act draft fault =
     fault
 
 -- .. and the same of what is behind the locals
-abbrev pub AddsBehind : List Callee → List ProcCallee → List Named → List BoundPort → BoundAction → List ℕ → Draft → Draft → Type 0
+abbrev pub AddsBehind : List Callee → List ProcCallee → List Named → List BoundPort → BoundAction
+    → List ℕ → Draft → Draft → Type 0
 AddsBehind callees procedures names ports act firsts old new =
     Adds (IsBehindCode (routines_of callees procedures) (names_view names) (map port_view ports)
     (action_view act) firsts) old new

@@ -31,7 +31,8 @@ pub data IsHead : Option ℕ → ℕ → List Instr → Type 0 where
   clearing : (kept n m : ℕ) → kept + n ≡ m → IsHead (Some kept) m (op.Zero kept n ∷ [])
 
 -- code of a guard: that of its expression, which may call functions, and an answer; cells may be cleared before it
-pub record IsGuardCode (clears : Option ℕ) (fs : List Function) (names : List Name) (g : Tree) (base n : ℕ) (code : List Instr) (m : ℕ) : Type 0 where
+pub record IsGuardCode (clears : Option ℕ) (fs : List Function) (names : List Name) (g : Tree)
+    (base n : ℕ) (code : List Instr) (m : ℕ) : Type 0 where
   pub head : List Instr
   pub body : List Instr
   pub is : code ≡ head ++ (body ++ op.Answer ∷ [])
@@ -60,7 +61,8 @@ guard_outcome Clashes = None
 
 -- The code that begins at an entry, run on these cells and tokens, ends as the guard says, and in no other way. The
 -- state cells stay as they were.
-pub record AnswersAs (code : Code) (entry kept : ℕ) (cells : List ℤ) (tokens : ℕ → List ℤ) (says : Out Value) : Type 0 where
+pub record AnswersAs (code : Code) (entry kept : ℕ) (cells : List ℤ) (tokens : ℕ → List ℤ)
+    (says : Out Value) : Type 0 where
   pub outcome : Outcome
   pub said : guard_outcome says ≡ Some outcome
   pub left : List ℤ
@@ -88,7 +90,8 @@ AreGuardsOf actor a act code x u cells guards entries = ⊥
 
 -- Code has routines of functions that do what those of the actor do. Their cells lie behind the state cells and before
 -- those of the guards, which are the ones from n to m; and all are there.
-pub record HasFunctionsOf (actor : Actor) (a : ℕ) (fs : List Function) (code : Code) (n m : ℕ) (u : List (List ℤ)) (cells : List ℤ) : Type 0 where
+pub record HasFunctionsOf (actor : Actor) (a : ℕ) (fs : List Function) (code : Code) (n m : ℕ)
+    (u : List (List ℤ)) (cells : List ℤ) : Type 0 where
   pub low : ℕ
   pub high : ℕ
   pub serve : Serves (round actor a u code low high) (globals_of actor) fs

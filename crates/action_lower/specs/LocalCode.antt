@@ -56,7 +56,8 @@ pub data AreStarted (fs : List Function) :
 -- The run goes on to a place with the operands that there were, with so many turns left, and with cells that hold an
 -- environment. The names that are seen there are locals whose cells lie below m, in a row, and then the globals. Of
 -- the cells, only those from n to m and those of routines may have changed.
-pub record Starts (w : World) (globals behind : List Name) (n m : ℕ) (s : State) (end : ℕ) (env : Env) (left : ℕ) : Type 0 where
+pub record Starts (w : World) (globals behind : List Name) (n m : ℕ) (s : State) (end : ℕ)
+    (env : Env) (left : ℕ) : Type 0 where
   pub locals : List Name
   pub are : behind ≡ locals ++ globals
   pub cells : List ℤ
@@ -78,7 +79,8 @@ EndsStarted w globals names behind n m s end Clashes o last = Unit {0}
 
 -- Wherever these instructions stand, in code that has the routines, they do what declaring the locals does: they leave
 -- cells that hold the environment that comes of it, or trap, after as many turns; and a run of them has no other end.
-pub record StartsAs (rs : Routines) (names : List Name) (xs : List Local) (behind : List Name) (base n m : ℕ) (code : List Instr) : Type 0 where
+pub record StartsAs (rs : Routines) (names : List Name) (xs : List Local) (behind : List Name)
+    (base n m : ℕ) (code : List Instr) : Type 0 where
   pub goes : (w : World) (runs : Runs) (globals locals : List Name) (env : Env) (stack : List ℤ) (frames : List ℕ)
       (cells : List ℤ) (left : ℕ)
       → names ≡ locals ++ globals → StandsAt w.code.instrs base code → LocalsSized xs

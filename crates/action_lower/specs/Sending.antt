@@ -29,7 +29,8 @@ use Rattle.stmt_lower.specs.Procedures.{Routines}
 -- ---- code
 
 -- code of a value that is sent: that of its expression, which may call functions, and a store into a cell, in the type of the port
-pub record IsStored (fs : List Function) (names : List Name) (t : Scalar) (e : Tree) (c base n : ℕ) (code : List Instr) (m : ℕ) : Type 0 where
+pub record IsStored (fs : List Function) (names : List Name) (t : Scalar) (e : Tree) (c base n : ℕ)
+    (code : List Instr) (m : ℕ) : Type 0 where
   pub body : List Instr
   pub is : code ≡ body ++ op.Store c (Some t) ∷ []
   pub coded : IsCode fs names e base n body m
@@ -44,7 +45,8 @@ pub data AreStored (fs : List Function) (names : List Name) (t : Scalar) :
 
 -- Code of an output of single values. It takes as many cells more as there are values, from the number of cells on
 -- that there were before it.
-pub record IsOutputCode (fs : List Function) (names : List Name) (ports : List Port) (o : Output) (base n : ℕ) (code : List Instr) (m : ℕ) : Type 0 where
+pub record IsOutputCode (fs : List Function) (names : List Name) (ports : List Port) (o : Output)
+    (base n : ℕ) (code : List Instr) (m : ℕ) : Type 0 where
   pub parts : List Tree
   pub values : o.values ≡ listed parts
   pub once : o.repeat ≡ None
@@ -56,7 +58,8 @@ items_of_any n = Many n (Single scalar.Bool)
 
 -- Code of a list whose items are sent: the list fills the next cells, as many as it has numbers, and then each number is
 -- stored in the type of the port.
-pub record IsSentList (fs : List Function) (names : List Name) (e : Tree) (t : Shape) (kind : Scalar) (base n : ℕ) (code : List Instr) (m : ℕ) : Type 0 where
+pub record IsSentList (fs : List Function) (names : List Name) (e : Tree) (t : Shape)
+    (kind : Scalar) (base n : ℕ) (code : List Instr) (m : ℕ) : Type 0 where
   pub body : List Instr
   pub is : code ≡ body ++ op.Copy n n (scalars_of_type t) (Some kind) ∷ []
   pub filled : IsFill fs names e t n base (n + scalars_of_type t) body m
@@ -88,7 +91,8 @@ pub data IsRepeated (fs : List Function) (names : List Name) (kind : Scalar) (ti
       (body ++ turn_stores kind times (length es) times n rows) m
 
 -- code of an output that is repeated
-pub record IsListOutput (fs : List Function) (names : List Name) (ports : List Port) (o : Output) (base n : ℕ) (code : List Instr) (m : ℕ) : Type 0 where
+pub record IsListOutput (fs : List Function) (names : List Name) (ports : List Port) (o : Output)
+    (base n : ℕ) (code : List Instr) (m : ℕ) : Type 0 where
   pub parts : List Tree
   pub are : o.values ≡ listed parts
   pub times : ℕ
@@ -122,7 +126,8 @@ AreSent firsts sent cells = ⊥
 
 -- The run goes on to a place with the operands that there were, with so many turns left and with the tokens in their
 -- cells. Of the other cells, those below n and from m on stay.
-pub record Sends (w : World) (firsts : List ℕ) (n m : ℕ) (s : State) (end : ℕ) (sent : List (ℕ × List ℤ)) (left : ℕ) : Type 0 where
+pub record Sends (w : World) (firsts : List ℕ) (n m : ℕ) (s : State) (end : ℕ)
+    (sent : List (ℕ × List ℤ)) (left : ℕ) : Type 0 where
   pub cells : List ℤ
   pub reaches : Reaches w.code w.tokens s (state end s.stack s.frames cells left)
   pub keeps : Keeps n m w.low w.high s.cells cells
@@ -144,7 +149,8 @@ EndsSent w firsts n m s end Clashes o last = Unit {0}
 -- Wherever these instructions stand, in code that has the routines, with cells that hold an environment, they do what
 -- the outputs of an action do: they leave the tokens in their cells, each stored in the type of its port, or trap, after
 -- as many turns; and a run of them has no other end. The names are locals and then globals.
-pub record SendsAs (rs : Routines) (names : List Name) (ports : List Port) (outs : List Output) (firsts : List ℕ) (base n : ℕ) (code : List Instr) (m : ℕ) : Type 0 where
+pub record SendsAs (rs : Routines) (names : List Name) (ports : List Port) (outs : List Output)
+    (firsts : List ℕ) (base n : ℕ) (code : List Instr) (m : ℕ) : Type 0 where
   pub goes : (w : World) (runs : Runs) (globals locals : List Name) (env : Env) (stack : List ℤ) (frames : List ℕ)
       (cells : List ℤ) (left : ℕ)
       → names ≡ locals ++ globals → StandsAt w.code.instrs base code

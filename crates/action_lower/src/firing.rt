@@ -32,7 +32,7 @@ pub struct Firing {
     pub firsts: Vec<u32>,
 }
 
-/// Appends the code of a firing of an action: its locals, its body, its outputs of single values, and the end.
+/// Appends the code of a firing of an action: its locals, its body, its outputs, and the end.
 ///
 /// `callees` holds the functions and `procedures` the procedures that the action may call, with their routines. The code
 /// takes cells of its own, which are added to the draft. Run over the tokens that the action takes, from state cells that

@@ -28,16 +28,16 @@ use stmt_lower::take_list;
 /// Appends the code of outputs, one after the other. The first cell of each comes back.
 ///
 /// `names` holds the names that the outputs use, and `callees` the functions that they may call; the first of several
-/// that are the same is meant. An output takes as
-/// many cells more as it sends tokens. The code leaves there what the output sends, each token stored in the type of the
-/// output's port, and changes no cell that there was. What stood in the draft stays.
+/// that are the same is meant. An output takes as many cells more as it sends tokens. The code leaves there what the
+/// output sends, each token stored in the type of the output's port, and changes no cell that there was. What stood in
+/// the draft stays.
 ///
 /// # Errors
 ///
 /// `NotLowered` with the offset of the first part for which no code is made: such a part of a value, as
 /// [`lower_calling`](list_lower::lower_calling) or, of a list that is repeated, [`lower_list`](list_lower::lower_list)
-/// says. `TooLong` if the draft has 2 to the power of 32
-/// instructions. `TooManyCells` if it has so many cells that those of an output don't fit. `Memory` if memory runs out.
+/// says. `TooLong` if the draft has 2 to the power of 32 instructions. `TooManyCells` if it has so many cells that those
+/// of an output don't fit. `Memory` if memory runs out.
 pub fn lower_outputs(
     alloc: Global,
     names: &[Named],

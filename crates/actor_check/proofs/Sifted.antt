@@ -24,7 +24,7 @@ use Rattle.cal_check.specs.Ports.{each_port, keyed_ports, port_judged}
 use Rattle.cal_check.specs.Routines.{formals_judged, fun_judged, head_judged, proc_judged}
 use Rattle.member_check.specs.Parts.{bare_header_broken}
 use Rattle.variable_check.specs.Causes.{IsCause, SaysRule}
-use Rattle.actor_check.specs.Sifting.{IsFault, IsLack, IsLeft, Sifts, SiftsOn, bare_over, lacks}
+use Rattle.actor_check.specs.Sifting.{IsLack, IsLeft, Sifts, SiftsOn, bare_over}
 use Rattle.actor_check.specs.Phases.{header_over}
 use Rattle.actor_check.proofs.Causes.{cause_in_first, cause_in_others, found_of}
 use Rattle.actor_check.proofs.Heads.{first_is_fine}
@@ -70,9 +70,6 @@ left_more xs ys all h i = record {
   cause = λ f k. i.cause f (cause_in_others f xs ys k);
 }
 
-pub left_then : (xs ys zs : List Found) → IsLeft xs ys → IsLeft ys zs → IsLeft xs zs
-left_then xs ys zs h i = record { only = λ k. i.only (h.only k); cause = λ f k. i.cause f (h.cause f k) }
-
 pub refused_left : (f : Front) (xs ys all : List Found) → IsCause f xs × SaysRule f → IsLeft (xs ++ ys) all → IsCause f all × SaysRule f
 refused_left f xs ys all h i = (i.cause f (cause_in_first f xs ys h.0), h.1)
 
@@ -83,10 +80,6 @@ sifts_on (Err f) xs ys h = (cause_in_first f xs ys h.0, h.1)
 -- in a file
 pub sifts_in : (r : Result (Unit {0}) Front) (file : ℕ) (vs ws : List Violation) → Sifts r (found_in file vs) → SiftsOn r (found_in file ws) (found_in file (vs ++ ws))
 sifts_in r file vs ws h = subst (SiftsOn r (found_in file ws)) (sym (found_append file vs ws)) (sifts_on r (found_in file vs) (found_in file ws) h)
-
-pub sifts_rest : (r : Result (Unit {0}) Front) (left all : List Found) → IsLeft left all → Sifts r left → Sifts r all
-sifts_rest (Ok u) left all h s = h.only s
-sifts_rest (Err f) left all h s = (h.cause f s.0, s.1)
 
 pub sifts_both : (r : Result (Unit {0}) Front) (xs ys : List Found) → Each IsLack xs → Sifts r ys → Sifts r (xs ++ ys)
 sifts_both (Ok u) xs ys h s = each-append IsLack xs ys h s
@@ -198,13 +191,3 @@ outs_refused f s names h =
     subst (Sifts (Err f)) (sym (header_parts s.file (all_broken (each_port (ins_of s.actor) names)) (all_broken (each_port (outs_of s.actor) names))
     (bare_header_broken (ins_of s.actor) (outs_of s.actor) (place_of s.actor))))
     (cause_in_others f (found_in s.file (all_broken (each_port (ins_of s.actor) names))) _ (cause_in_first f _ _ h.0), h.1)
-
--- ---- faults
-
-pub fault_says : (f : Front) (fs : List Found) → lacks f ≡ false → IsCause f fs → IsFault f fs
-fault_says (front.Refused r) fs e h = (h, inl e)
-fault_says front.Memory fs e h = (h, inl tt)
-
-pub fault_sifted : (f g : Front) (fs : List Found) (r : Result (Unit {0}) Front) → Sifts r fs → IsCause f fs → (r ≡ Ok tt → g ≡ f) → ((e : Front) → r ≡ Err e → g ≡ e) → IsFault g fs
-fault_sifted f g fs (Ok u) s h k m = subst (λ e. IsFault e fs) (sym (k refl)) (h, inr s)
-fault_sifted f g fs (Err e) s h k m = subst (λ x. IsFault x fs) (sym (m e refl)) (s.0, inl s.1)

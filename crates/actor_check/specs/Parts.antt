@@ -83,7 +83,8 @@ BuildsActor (Err f) bare scope names = BreaksParts f bare scope names
 -- ---- parts
 
 -- the parts of an actor, without what it doesn't use
-pub record AreKept (bare : BareActor) (held : Vec BoundVar Global) (header : Header) (routines : Routines) (s : Source) : Type 0 where
+pub record AreKept (bare : BareActor) (held : Vec BoundVar Global) (header : Header)
+    (routines : Routines) (s : Source) : Type 0 where
   pub class : string_bytes bare.class ≡ s.class
   pub ins : bare.ins.items ≡ header.ins.items
   pub outs : bare.outs.items ≡ header.outs.items
@@ -96,7 +97,8 @@ abbrev pub header_names : Source → List Given → Spot → Names
 header_names s gs owner = seen (all_funs s) (before_members s gs owner).known
 
 -- the header, and the functions and procedures over the names that are seen inside
-pub record ArePartsIn (header : Header) (routines : Routines) (names : Names) (s : Source) (gs : List Given) (owner : Spot) : Type 0 where
+pub record ArePartsIn (header : Header) (routines : Routines) (names : Names) (s : Source)
+    (gs : List Given) (owner : Spot) : Type 0 where
   pub inside : (around_of s gs owner).names ≡ names
   pub ports : IsHeaderOf header s (header_names s gs owner)
   pub heads : AreRoutinesOf routines s names

@@ -70,8 +70,10 @@ pub(crate) fn keep_used(
     vars: &mut Vec<BoundVar>,
     funs: &mut Vec<BoundFun>,
 ) -> Result<(), Memory>
-    ensures vars { OnOk result (map var_view vars.new.items ≡ kept_vars (map var_view vars.old.items) (source_in scope.now)) }
-    ensures funs { OnOk result (map fun_view funs.new.items ≡ kept_funs (map fun_view funs.old.items) (source_in scope.now)) }
+    ensures vars { OnOk result (map var_view vars.new.items
+        ≡ kept_vars (map var_view vars.old.items) (source_in scope.now)) }
+    ensures funs { OnOk result (map fun_view funs.new.items
+        ≡ kept_funs (map fun_view funs.old.items) (source_in scope.now)) }
 {
     let used = kept_names(alloc, scope)?;
     keep_vars(&used, vars);

@@ -111,7 +111,8 @@ fn sift_member(names: &Names, file: u32, member: &Member) -> Result<(), Front>
 
 /// The formals of procedures.
 fn sift_members(names: &Names, file: u32, members: &[Member]) -> Result<(), Front>
-    ensures { Sifts result (found_in file (formals_broken (procs_in (members_tree members.now)) (names_view names.now))) }
+    ensures { Sifts result (found_in file
+        (formals_broken (procs_in (members_tree members.now)) (names_view names.now))) }
 {
     let mut rest = members;
     'members: while let Some((first, others)) = rest.split_first() {

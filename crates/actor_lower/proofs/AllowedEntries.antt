@@ -1,6 +1,6 @@
 -- What the guards, the firings and the routines of an actor may write and read.
-use Rattle.std.proofs.Common.{◌≡◌, ℕ, zero, suc, ◌+◌, ◌*◌, ◌<◌, ◌≤◌, ◌⊎◌, inl, inr, ⊎_elim, Bool, true, false, List, [], ◌∷◌, ◌++◌, length, map, refl, sym, ap, subst, ◌∙◌, Option, None, Some, arith, append-nil}
-use Rattle.std.specs.Prelude.{◌==◌, ◌&&◌, ◌||◌, if◌then◌else◌, nat_le, nat_lt, slice_get, slice_index_or}
+use Rattle.std.proofs.Common.{◌≡◌, ℕ, zero, suc, ◌+◌, ◌*◌, ◌<◌, ◌≤◌, ◌⊎◌, inl, inr, Bool, true, false, List, [], ◌∷◌, ◌++◌, length, map, refl, sym, ap, subst, ◌∙◌, Option, None, Some, arith, append-nil}
+use Rattle.std.specs.Prelude.{◌==◌, ◌&&◌, ◌||◌, if◌then◌else◌, nat_le, nat_lt, slice_get}
 use Rattle.std.specs.List.{range_with_len}
 use Rattle.std.specs.Str.{bytes_eq}
 use Rattle.std.proofs.lemmas.Bool.{cases_lt}
@@ -15,13 +15,12 @@ use Rattle.cal_model.specs.Value.{scalars_of_type}
 use Rattle.cal_model.proofs.KeptByFirings.{action-at}
 use Rattle.code_ir.specs.declared.instr.Instr.{Instr}
 use Rattle.code_ir.specs.declared.instr.Instr.TheVariants as op
-use Rattle.code_ir.specs.Code.{Code, results_of}
+use Rattle.code_ir.specs.Code.{Code}
 use Rattle.expr_lower.specs.declared.draft.Draft.{Draft}
 use Rattle.expr_lower.specs.Allowing.{Allowed, Allows, AreRead, IsAllowed}
 use Rattle.expr_lower.specs.Callees.{Function, function_named}
-use Rattle.expr_lower.specs.Calling.{HasFormals, HasRoutines}
+use Rattle.expr_lower.specs.Calling.{HasRoutines}
 use Rattle.expr_lower.specs.Fitting.{IsInner}
-use Rattle.expr_lower.proofs.AllowedCode.{allows_more}
 use Rattle.stmt_lower.specs.AllowingRuns.{AllowsRuns, ChangesAreWritten}
 use Rattle.stmt_lower.specs.Proceeding.{AreProcRoutines}
 use Rattle.stmt_lower.specs.Procedures.{Routines}

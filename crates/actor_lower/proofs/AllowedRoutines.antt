@@ -1,14 +1,12 @@
 -- The routines of an actor write only cells that may be written, and read only tokens that may be read.
-use Rattle.std.proofs.Common.{◌≡◌, ℕ, zero, suc, ◌+◌, ◌-◌, ◌<◌, ◌≤◌, ◌⊎◌, inl, inr, ⊎_elim, Bool, true, false, List, [], ◌∷◌, ◌++◌, length, refl, sym, ap, subst, ◌∙◌, Option, None, Some, arith, append_assoc, append-nil}
-use Rattle.std.specs.Prelude.{slice_get, slice_index_or, if◌then◌else◌}
+use Rattle.std.proofs.Common.{◌≡◌, ℕ, suc, ◌+◌, ◌-◌, ◌≤◌, ◌⊎◌, ⊎_elim, Bool, true, false, List, [], ◌∷◌, ◌++◌, length, refl, sym, ap, subst, ◌∙◌, Some, arith, append_assoc}
+use Rattle.std.specs.Prelude.{slice_get, if◌then◌else◌}
 use Rattle.std.specs.Str.{bytes_eq}
-use Rattle.std.proofs.lemmas.Bool.{cases_lt}
-use Rattle.std.proofs.lemmas.Option.{slice_get-get_or}
 use Rattle.rvc_base.specs.declared.scalar.Scalar.{Scalar}
 use Rattle.cal_ast.specs.Tree.{Tree}
-use Rattle.cal_model.specs.Actor.{Actor, Fun, Local, Proc}
+use Rattle.cal_model.specs.Actor.{Fun, Local, Proc}
 use Rattle.cal_model.specs.Kinding.{Names}
-use Rattle.cal_model.specs.Sound.{Each, IsProc, IsSound, names_of}
+use Rattle.cal_model.specs.Sound.{Each, IsProc}
 use Rattle.cal_model.specs.Statement.{proc_named}
 use Rattle.code_ir.specs.declared.instr.Instr.{Instr}
 use Rattle.code_ir.specs.declared.instr.Instr.TheVariants as op
@@ -27,10 +25,7 @@ use Rattle.stmt_lower.specs.Proceeding.{AreProcRoutines, IsProcBody, local_list,
 use Rattle.stmt_lower.specs.Procedures.{Procedure, Routines, procedure_named}
 use Rattle.stmt_lower.proofs.AllowedStmts.{proc_allowed}
 use Rattle.stmt_lower.proofs.ProcServed.{proc_grows}
-use Rattle.action_lower.specs.FiringCode.{globals_of}
-use Rattle.action_lower.specs.Seats.{state_cells}
-use Rattle.actor_lower.specs.ClearedBodies.{IsAllowedAt, callable_in}
-use Rattle.actor_lower.specs.Drafted.{AreFirst, AreNext}
+use Rattle.actor_lower.specs.ClearedBodies.{IsAllowedAt}
 use Rattle.actor_lower.specs.Settled.{calling}
 use Rattle.actor_lower.proofs.Placed.{last-or-before}
 use Rattle.actor_lower.proofs.Routined.{named-or-last}

@@ -1,5 +1,5 @@
 -- Functions and procedures that have routines, and those that are left.
-use Rattle.std.proofs.Common.{◌≡◌, ℕ, zero, suc, ◌+◌, ◌^◌, ◌<◌, ◌≤◌, ◌⊎◌, inl, inr, ⊎_elim, List, [], ◌∷◌, ◌++◌, length, map, refl, sym, ap, subst, ◌∙◌, None, Some, Result, Ok, Err, arith, length-append}
+use Rattle.std.proofs.Common.{◌≡◌, ℕ, zero, suc, ◌+◌, ◌<◌, ◌≤◌, ◌⊎◌, inl, inr, ⊎_elim, List, [], ◌∷◌, ◌++◌, length, map, refl, sym, ap, subst, ◌∙◌, None, Some, Result, Ok, Err, arith, length-append}
 use Rattle.std.specs.Prelude.{IfErr, OnOk, slice_get, slice_index_or}
 use Rattle.std.specs.Result.{IsErrAnd}
 use Rattle.std.specs.List.{remove}
@@ -8,27 +8,21 @@ use Rattle.cal_model.specs.declared.bound.Bound.{Bound}
 use Rattle.cal_model.specs.Actor.{Actor, Fun, Proc}
 use Rattle.cal_model.specs.Sound.{IsSound}
 use Rattle.expr_lower.specs.declared.draft.Draft.{Draft}
-use Rattle.expr_lower.specs.Callees.{Function, function_view, functions_view}
+use Rattle.expr_lower.specs.Callees.{Function}
 use Rattle.expr_lower.specs.Names.{Name}
 use Rattle.expr_lower.specs.Routining.{left_out_fun}
 use Rattle.stmt_lower.specs.Proceeding.{left_out_proc}
 use Rattle.expr_lower.specs.declared.fault.LowerFault.{LowerFault}
 use Rattle.expr_lower.specs.declared.fault.LowerFault.TheVariants as lowering
-use Rattle.stmt_lower.specs.Procedures.{Procedure, Routines, procedure_view, procedures_view, routines_of}
+use Rattle.stmt_lower.specs.Procedures.{Procedure, Routines, routines_of}
 use Rattle.stmt_lower.specs.declared.callees.ProcCallee.{ProcCallee}
 use Rattle.expr_lower.specs.declared.callees.Callee.{Callee}
-use Rattle.cal_model.specs.View.{actor_of, fun_view, proc_view}
-use Rattle.code_ir.specs.Code.{Code}
-use Rattle.code_ir.specs.Typing.{AreFew}
-use Rattle.actor_lower.specs.Coded.{AreBodiesOf, all_entries}
-use Rattle.actor_lower.specs.Fitting.{AreBodies, body_more, no_body}
-use Rattle.std.proofs.lemmas.List.{length-map}
+use Rattle.cal_model.specs.View.{actor_of}
 use Rattle.action_lower.specs.FiringCode.{globals_of}
-use Rattle.actor_lower.specs.Drafted.{AddsFunction, AddsProcedure, FunctionsSoFar, HasFunctionAt, HasProcedureAt, HoldsFunctions, HoldsProcedures, IsLeft, IsServed, starts, NoFunctionMore, NoProcedureMore, ProceduresSoFar}
+use Rattle.actor_lower.specs.Drafted.{AddsFunction, AddsProcedure, FunctionsSoFar, HasFunctionAt, HasProcedureAt, HoldsFunctions, HoldsProcedures, IsLeft, IsServed, NoFunctionMore, NoProcedureMore, ProceduresSoFar}
 use Rattle.actor_lower.specs.declared.fault.ActorFault.{ActorFault}
 use Rattle.actor_lower.specs.declared.fault.ActorFault.TheVariants.{Memory, NotLowered}
 use Rattle.actor_lower.specs.Faults.{AreWhole, IsActorFault, IsLeftOut, IsWhole, IsWhyAction, IsWhyActions, OnlyMemory, actor_fault}
-use Rattle.lowered_actor.specs.declared.parts.ActionCode.{ActionCode}
 use Rattle.actor_lower.specs.Settled.{AllFunctions, AllProcedures, AreFunctions, AreProcedures, AreSettled, HasFunction, HasProcedure, IsFunction, IsProcedure, calling, function_more, no_function, no_procedure, procedure_more}
 use Rattle.actor_lower.proofs.Likeness.{mapped}
 use Rattle.actor_lower.proofs.Sent.{below, found}

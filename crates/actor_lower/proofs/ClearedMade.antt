@@ -1,8 +1,6 @@
 -- Bodies of routines, and guards and firings that clear their cells first, in a draft.
-use Rattle.std.proofs.Common.{◌≡◌, ℕ, zero, suc, ◌+◌, ◌-◌, ◌<◌, ◌≤◌, ⊎_elim, Bool, true, false, List, [], ◌∷◌, ◌++◌, length, map, refl, sym, ap, subst, ◌∙◌, arith, Option, None, Some, append-nil, append_assoc, length-append}
+use Rattle.std.proofs.Common.{◌≡◌, ℕ, zero, suc, ◌+◌, ◌-◌, ◌<◌, ◌≤◌, ⊎_elim, Bool, true, false, List, [], ◌∷◌, ◌++◌, length, map, refl, sym, ap, subst, ◌∙◌, arith, Option, Some, append-nil, append_assoc, length-append}
 use Rattle.std.specs.Prelude.{slice_get}
-use Rattle.std.proofs.lemmas.List.{length-map}
-use Rattle.std.proofs.lemmas.Option.{slice_get_within}
 use Rattle.cal_ast.specs.Tree.{Tree}
 use Rattle.cal_model.specs.declared.bound.Bound.{Bound}
 use Rattle.cal_model.specs.Actor.{Action, Actor}
@@ -33,14 +31,14 @@ use Rattle.action_lower.proofs.AllowedFirings.{firing_allowed}
 use Rattle.action_lower.proofs.BelowState.{seen-below}
 use Rattle.action_lower.proofs.FiringRuns.{locals-sized}
 use Rattle.action_lower.proofs.Holding.{size-at}
-use Rattle.actor_lower.specs.ClearedBodies.{AreRoutineBodies, ClearedAction, ClearedFiring, ClearedFrom, ClearedGuards, ClearsAction, ClearsActions, IsClearedBody, IsRoutineBody, StayIn, bounds_of}
+use Rattle.actor_lower.specs.ClearedBodies.{AreRoutineBodies, ClearedAction, ClearedFiring, ClearedFrom, ClearedGuards, ClearsAction, ClearsActions, IsClearedBody, StayIn, bounds_of}
 use Rattle.actor_lower.specs.Coded.{IsMore, SendsInside}
-use Rattle.actor_lower.specs.Drafted.{BeginsWith, GoesOn, HoldsRoutines, IsServed, starts}
+use Rattle.actor_lower.specs.Drafted.{GoesOn, HoldsRoutines, IsServed, starts}
 use Rattle.actor_lower.specs.Fitting.{AreBodies, EndsBody, FitsAsFiring, IsBody, body_more, no_body}
 use Rattle.actor_lower.proofs.AllowedEntries.{firing-allows, firing-changes, first-ones, functions-wider, guards-allow}
 use Rattle.actor_lower.proofs.AllowedRoutines.{allowed-left}
 use Rattle.actor_lower.proofs.ClearedStand.{stay-behind, stay-more, stay-of}
-use Rattle.actor_lower.proofs.Extending.{firing-added, goes-more, guards-grow}
+use Rattle.actor_lower.proofs.Extending.{firing-added, goes-more}
 use Rattle.actor_lower.proofs.FiringFits.{firing-fits, has-more}
 use Rattle.actor_lower.proofs.Placed.{action-there, last-or-before}
 use Rattle.actor_lower.proofs.Rowed.{second-sized, stood-in}

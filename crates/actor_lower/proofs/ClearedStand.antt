@@ -1,10 +1,10 @@
 -- Code whose guards and firings clear their cells first stands: each of its instructions may stand where it does.
 use Rattle.std.proofs.Common.{◌≡◌, ℕ, zero, suc, ◌+◌, ◌<◌, ◌≤◌, ◌⊎◌, inl, inr, ⊎_elim, Bool, true, false, List, [], ◌∷◌, ◌++◌, length, map, All, refl, sym, ap, subst, ◌∙◌, arith, Option, None, Some, append-nil}
-use Rattle.std.specs.Prelude.{◌==◌, slice_get, slice_index_or}
+use Rattle.std.specs.Prelude.{slice_get, slice_index_or}
 use Rattle.std.proofs.lemmas.Bool.{cases_lt, eqb-true}
 use Rattle.std.proofs.lemmas.List.FromFn.{get_or-map-range_with_len}
 use Rattle.std.proofs.lemmas.Option.{slice_get-get_or, slice_get_within}
-use Rattle.cal_model.specs.Actor.{Action, Actor}
+use Rattle.cal_model.specs.Actor.{Actor}
 use Rattle.cal_model.specs.Rates.{give, given_on}
 use Rattle.code_ir.specs.declared.instr.Instr.{Instr}
 use Rattle.code_ir.specs.declared.instr.Instr.TheVariants as op
@@ -21,7 +21,7 @@ use Rattle.lowered_actor.specs.declared.parts.ActionCode.{ActionCode}
 use Rattle.lowered_actor.specs.Actor as coded
 use Rattle.kept_facts.specs.declared.body.Last.{Last}
 use Rattle.kept_facts.specs.declared.body.Last.TheVariants as last
-use Rattle.kept_facts.specs.Clearing.{ActionStands, AllStand, BodyStands, EntryStands, FiringStands, GuardStands, RoutineStands, RoutinesStand, SendsBelow, Stands, ends_body, stop_of}
+use Rattle.kept_facts.specs.Clearing.{ActionStands, AllStand, BodyStands, EntryStands, GuardStands, RoutineStands, SendsBelow, Stands, ends_body, stop_of}
 use Rattle.kept_facts.specs.Fitting.{MayStand, last_of}
 use Rattle.kept_facts.specs.Rows.{called, reads}
 use Rattle.kept_facts.proofs.BodyEnds.{stop-here, stop-next}
@@ -30,7 +30,7 @@ use Rattle.action_lower.specs.FiringCode.{first_on}
 use Rattle.action_lower.specs.Seats.{state_cells}
 use Rattle.actor_tables.specs.Tables.{needs_of, saved_from}
 use Rattle.actor_lower.specs.ClearedBodies.{AreRoutineBodies, ClearedAction, ClearedFrom, ClearsActions, IsAllowedAt, IsClearedBody, IsRoutineBody, StayIn, StaysIn, bounds_at, callable_in}
-use Rattle.actor_lower.specs.Coded.{AreCodedActions, AreSends, IsCodeOf, IsCodedAction}
+use Rattle.actor_lower.specs.Coded.{AreCodedActions, IsCodeOf, IsCodedAction}
 use Rattle.actor_lower.specs.Drafted.{GoesOn}
 use Rattle.actor_lower.proofs.AllowedEntries.{may-stand, own-cells}
 use Rattle.actor_lower.proofs.AllowedRoutines.{allowed-there}

@@ -1,5 +1,5 @@
 -- Nothing is left out of a sound actor.
-use Rattle.std.proofs.Common.{◌≡◌, ℕ, List, refl, ap, ◌∙◌, Option, None, Some}
+use Rattle.std.proofs.Common.{◌≡◌, ℕ, None, Some}
 use Rattle.cal_model.specs.declared.bound.Bound.{Bound}
 use Rattle.cal_model.specs.Sound.{IsSound}
 use Rattle.cal_model.specs.View.{actor_of}

@@ -76,7 +76,8 @@ pub record IsClearedBody (whole : Code) (bounds : Allowed) (callable kept entry 
   pub allowed : AreAllowed bounds rest
 
 -- .. whatever is written behind a draft; and the limit is not below one
-pub record ClearedFrom (actor : Actor) (a : ℕ) (fs : List Function) (firing : Bool) (low entry limit : ℕ) (last : Instr) (draft : Draft) : Type 0 where
+pub record ClearedFrom (actor : Actor) (a : ℕ) (fs : List Function) (firing : Bool)
+    (low entry limit : ℕ) (last : Instr) (draft : Draft) : Type 0 where
   pub below : low ≤ limit
   pub body : (whole : Code) (more : List Instr) → GoesOn draft whole more
       → IsClearedBody whole (bounds_of actor a firing) (callable_in whole fs firing)
@@ -88,14 +89,16 @@ ClearedGuards actor a fs low entries draft = (k entry : ℕ) → slice_get entri
     → (limit : ℕ) × ClearedFrom actor a fs false low entry limit op.Answer draft
 
 -- .. a firing of it, and what it sends stands in cells below the limit
-pub record ClearedFiring (actor : Actor) (a : ℕ) (fs : List Function) (low entry : ℕ) (firsts : List ℕ) (draft : Draft) : Type 0 where
+pub record ClearedFiring (actor : Actor) (a : ℕ) (fs : List Function) (low entry : ℕ)
+    (firsts : List ℕ) (draft : Draft) : Type 0 where
   pub limit : ℕ
   pub from : ClearedFrom actor a fs true low entry limit op.Done draft
   pub sends : (act : Action) (port : ℕ) → slice_get actor.actions a ≡ Some act
       → first_on act.outputs firsts port + given_on port act.outputs ≤ limit
 
 -- .. the guards and the firing of an action
-pub record ClearedAction (actor : Actor) (a : ℕ) (fs : List Function) (low : ℕ) (coded : ActionCode) (draft : Draft) : Type 0 where
+pub record ClearedAction (actor : Actor) (a : ℕ) (fs : List Function) (low : ℕ) (coded : ActionCode)
+    (draft : Draft) : Type 0 where
   pub guards : ClearedGuards actor a fs low coded.guards.items draft
   pub firsts : List ℕ
   pub firing : ClearedFiring actor a fs low coded.fire firsts draft

@@ -109,7 +109,8 @@ pub record HoldsProcedures (actor : Actor) (fs : List Function) (ps : List Proce
   pub first : AreFirst fs
   pub next : AreNext (length fs) ps
 
-pub record AddsProcedure (globals : List Name) (fs : List Function) (p : Proc) (before now : List Procedure) (old new : Draft) : Type 0 where
+pub record AddsProcedure (globals : List Name) (fs : List Function) (p : Proc)
+    (before now : List Procedure) (old new : Draft) : Type 0 where
   pub procedure : Procedure
   pub is : now ≡ before ++ procedure ∷ []
   pub added : IsProcAdded globals (calling fs before) p procedure old new
@@ -119,12 +120,14 @@ pub record HasProcedureAt (actor : Actor) (fs : List Function) (ps : List Proced
   pub there : slice_get actor.procs k ≡ Some procedure
   pub whole : left_out_proc (calling fs ps) (globals_of actor) procedure ≡ None
 
-pub record IsWholeProcedure (actor : Actor) (fs : List Function) (ps : List Procedure) (left : List ℕ) (place : ℕ) : Type 0 where
+pub record IsWholeProcedure (actor : Actor) (fs : List Function) (ps : List Procedure)
+    (left : List ℕ) (place : ℕ) : Type 0 where
   pub number : ℕ
   pub is : slice_get left place ≡ Some number
   pub at : HasProcedureAt actor fs ps number
 
-pub record ProceduresSoFar (actor : Actor) (fs : List Function) (ps : List Procedure) (left : List ℕ) (draft : Draft) : Type 0 where
+pub record ProceduresSoFar (actor : Actor) (fs : List Function) (ps : List Procedure)
+    (left : List ℕ) (draft : Draft) : Type 0 where
   pub holds : HoldsProcedures actor fs ps draft
   pub are : AreProcedures actor fs ps
   pub others : (k : ℕ) (p : Proc) → slice_get actor.procs k ≡ Some p

@@ -1,6 +1,6 @@
 -- Why an actor isn't lowered.
 -- Trusted but for `OnlyMemory`, `IsWhyAction` and `IsWhyActions`: part of what a promise means.
-use Rattle.std.specs.Prelude.{◌≡◌, ℕ, ◌<◌, List, length, Option, None, Some}
+use Rattle.std.specs.Prelude.{◌≡◌, ℕ, ◌<◌, length, Option, None, Some}
 use Rattle.cal_model.specs.declared.bound.Bound.{Bound}
 use Rattle.cal_model.specs.View.{actor_of}
 use Rattle.expr_lower.specs.declared.fault.LowerFault.{LowerFault}

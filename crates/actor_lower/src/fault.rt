@@ -4,7 +4,7 @@ use expr_lower::LowerFault;
 use rvc_base::Memory;
 use std::alloc::{AllocError, AllocFailed};
 
-/// Why an actor isn't lowered. `NotLowered` says what the lowering can't do yet.
+/// Why an actor isn't lowered. Of a sound actor no part is left out, so memory is all that may be lacking for one.
 #[derive(Clone, Copy, Debug, PartialEq, Eq)]
 pub enum ActorFault {
     /// Memory ran out: an allocation was refused, or the code has so many instructions or cells that 32 bits don't count

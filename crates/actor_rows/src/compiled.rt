@@ -37,7 +37,7 @@ fn first_code(image: &Image) -> Result<Option<Arc<Lowered>>, Memory> {
     }
 }
 
-/// The code of the actor of a source, and none if it isn't built.
+/// The code of the actor of a source, and none if it is refused.
 fn code_of(alloc: Global, source: &str) -> Result<Option<Arc<Lowered>>, Fail> {
     let (_, rest) = cut(source, "actor ");
     let (name, _) = cut(rest, "(");
@@ -120,7 +120,7 @@ fn told(alloc: Global, cell: &Cell, end: Option<BurstEnd>) -> Result<String, All
 /// What the cell of a source's actor does with tokens; those of two ports have a semicolon between them.
 fn answer(alloc: Global, source: &str, tokens: &str) -> Result<String, Fail> {
     let Some(code) = code_of(alloc, source)? else {
-        return Ok(String::from_str(alloc, "isn't built")?);
+        return Ok(String::from_str(alloc, "is refused")?);
     };
     let Some(mut cell) = cell_of(alloc, code)? else {
         return Ok(String::from_str(alloc, "has other ports")?);

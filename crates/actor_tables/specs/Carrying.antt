@@ -56,7 +56,8 @@ abbrev pub MayCome : Actor → ℕ → ℤ → Type 0
 MayCome actor port v = InRange (kind_of_port actor.ins port) v
 
 -- an action that is eligible in a state and has its tokens there, and the same action as code
-pub record IsReady (actor : Actor) (l : coded.Actor) (y : State) (u : List (List ℤ)) (a : ℕ) (act : Action) (action : coded.Action) : Type 0 where
+pub record IsReady (actor : Actor) (l : coded.Actor) (y : State) (u : List (List ℤ)) (a : ℕ)
+    (act : Action) (action : coded.Action) : Type 0 where
   pub tokens : AreTokensOf actor u
   pub there : slice_get actor.actions a ≡ Some act
   pub coded_there : slice_get l.actions a ≡ Some action
@@ -119,7 +120,8 @@ IsSaid Lacks o = ⊥
 IsSaid Clashes o = ⊥
 
 -- a run of a guard's code, from cells of a state and over these tokens, ends as the guard says
-pub record GuardRuns (l : coded.Actor) (x : lowered.ActorState) (tokens : ℕ → List ℤ) (entry : ℕ) (says : Out Value) : Type 0 where
+pub record GuardRuns (l : coded.Actor) (x : lowered.ActorState) (tokens : ℕ → List ℤ) (entry : ℕ)
+    (says : Out Value) : Type 0 where
   pub cells : List ℤ
   pub are : AreCellsOf l x cells
   pub o : Outcome
@@ -145,7 +147,8 @@ GuardsRunAlike actor numbers l =
     act.guards action.guards
 
 -- a run of a firing's code, from cells of a state and over these tokens, ends as locals, body and outputs do
-pub record BodyRuns (numbers : List Var → List ℤ) (l : coded.Actor) (x : lowered.ActorState) (tokens : ℕ → List ℤ) (action : coded.Action) (out : Out Fired) : Type 0 where
+pub record BodyRuns (numbers : List Var → List ℤ) (l : coded.Actor) (x : lowered.ActorState)
+    (tokens : ℕ → List ℤ) (action : coded.Action) (out : Out Fired) : Type 0 where
   pub cells : List ℤ
   pub are : AreCellsOf l x cells
   pub o : Outcome

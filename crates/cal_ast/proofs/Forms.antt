@@ -1,7 +1,8 @@
--- The forms whose parts are both trees and lists of trees: equal parts make equal forms.
-use Rattle.std.proofs.Common.{◌≡◌, ℕ, map, Vec, Option, Some, None, Global, Box, sym, ap, ◌∙◌, rules}
+-- The forms whose parts are both trees and lists of trees: equal parts make equal forms. And what an action does, as a
+-- part that may be missing.
+use Rattle.std.proofs.Common.{◌≡◌, ℕ, map, option_map, Vec, Option, Some, None, Global, Box, refl, sym, ap, ◌∙◌, rules}
 use Rattle.cal_ast.specs.Tree.{Tree, comp, if_stmt, listed}
-use Rattle.cal_ast.specs.View.{expr_tree, form_tree, gen_tree, stmt_tree, stmt_form_tree, body_tree, stmt_form_step, stmt_step}
+use Rattle.cal_ast.specs.View.{expr_tree, form_tree, gen_tree, stmt_tree, stmt_form_tree, body_tree, optional, stmt_form_step, stmt_step}
 use Rattle.cal_ast.specs.declared.expr.Expr.{Expr}
 use Rattle.cal_ast.specs.declared.expr.Gen.{Gen}
 use Rattle.cal_ast.specs.declared.expr.ExprForm.{Comp}
@@ -13,18 +14,14 @@ use Rattle.cal_ast.specs.declared.stmt.StmtForm.TheVariants.{rolls-If}
 use Rattle.cal_ast.specs.declared.stmt.StmtForm.TheOpen.{StmtForm-F}
 use Rattle.cal_ast.specs.declared.stmt.StmtForm.TheFolds.{fold-roll-StmtForm}
 
-form-Comp : (item : Box Expr Global) (gens : Vec Gen Global) (at : ℕ) → form_tree (Comp item gens) at ≡ comp (expr_tree item.value) (listed (map gen_tree gens.items)) at
-form-Comp item gens at = search (rules, forms.the_lemmas)
+pub form_comp : (item : Box Expr Global) (gens : Vec Gen Global) (at : ℕ) → form_tree (Comp item gens) at ≡ comp (expr_tree item.value) (listed (map gen_tree gens.items)) at
+form_comp item gens at = search (rules, forms.the_lemmas)
 
-pub same_comp : (item other : Box Expr Global) (gens others : Vec Gen Global) (at : ℕ) → expr_tree item.value ≡ expr_tree other.value → map gen_tree gens.items ≡ map gen_tree others.items
-    → form_tree (Comp item gens) at ≡ form_tree (Comp other others) at
-same_comp item other gens others at e f = form-Comp item gens at ∙ rw (e, f) (sym (form-Comp other others at))
-
-form-If : (test : Expr) (first : Vec Stmt Global) (other : Option (Vec Stmt Global)) (at : ℕ) → stmt_form_tree (If test first other) at ≡ if_stmt (expr_tree test) (listed (map stmt_tree first.items)) (body_tree other) at
-form-If test first None at = search (rules, stmts.the_lemmas)
-form-If test first (Some other) at =
+pub form_if : (test : Expr) (first : Vec Stmt Global) (other : Option (Vec Stmt Global)) (at : ℕ) → stmt_form_tree (If test first other) at ≡ if_stmt (expr_tree test) (listed (map stmt_tree first.items)) (body_tree other) at
+form_if test first None at = search (rules, stmts.the_lemmas)
+form_if test first (Some other) at =
     ap (λ f. stmt_form_tree f at) (sym (rolls-If test first (Some other))) ∙ ap (λ f. f at) (fold-roll-StmtForm (ℕ → Tree) Tree stmt_form_step stmt_step (StmtForm-F.If test first (Some other)))
 
-pub same_if : (test was : Expr) (first firsts : Vec Stmt Global) (other others : Option (Vec Stmt Global)) (at : ℕ) → expr_tree test ≡ expr_tree was → map stmt_tree first.items ≡ map stmt_tree firsts.items → body_tree other ≡ body_tree others
-    → stmt_form_tree (If test first other) at ≡ stmt_form_tree (If was firsts others) at
-same_if test was first firsts other others at e f g = form-If test first other at ∙ rw (e, f, g) (sym (form-If was firsts others at))
+pub body_parts : (body : Option (Vec Stmt Global)) → body_tree body ≡ optional (option_map (λ stmts. listed (map stmt_tree stmts.items)) body)
+body_parts None = refl
+body_parts (Some stmts) = refl

@@ -1,12 +1,12 @@
 //! Actions, and what orders them: schedules and priorities.
 
 ghost use Rattle.std.specs.Prelude.{◌≡◌, IfOk};
-ghost use Rattle.cal_ast.specs.View.{action_tree, pattern_tree, output_tree, schedule_tree, move_tree, priority_tree, chain_tree, body_tree};
+ghost use Rattle.cal_ast.specs.View.{action_tree, pattern_tree, output_tree, schedule_tree, move_tree, priority_tree};
 
 use crate::expr::Expr;
 use crate::ident::{Ident, Tag};
 use crate::member::VarDecl;
-use crate::part::{Part, copy_all, copy_optional};
+use crate::part::{Part, copy_all, copy_three, copy_two};
 use crate::stmt::Stmt;
 use std::alloc::{AllocError, Global};
 
@@ -79,29 +79,22 @@ impl Action {
     /// # Errors
     ///
     /// `AllocError` if memory runs out.
+    #[tactic(auto, using(crate::proofs::Forms::body_parts))]
     pub fn copy(&self, alloc: Global) -> Result<Action, AllocError>
         ensures { IfOk result (λ copied. action_tree copied ≡ action_tree self.now) }
     {
+        let (tag, patterns, outputs) = copy_three(alloc, &self.tag, &self.patterns, &self.outputs)?;
+        let (guards, vars, body) = copy_three(alloc, &self.guards, &self.vars, &self.body)?;
         Ok(Action {
-            tag: copy_optional(alloc, &self.tag)?,
+            tag,
             initialize: self.initialize,
-            patterns: copy_all(alloc, &self.patterns)?,
-            outputs: copy_all(alloc, &self.outputs)?,
-            guards: copy_all(alloc, &self.guards)?,
-            vars: copy_all(alloc, &self.vars)?,
-            body: copy_body(alloc, &self.body)?,
+            patterns,
+            outputs,
+            guards,
+            vars,
+            body,
             at: self.at,
         })
-    }
-}
-
-/// The statements after an action's `do`.
-fn copy_body(alloc: Global, body: &Option<Vec<Stmt>>) -> Result<Option<Vec<Stmt>>, AllocError>
-    ensures { IfOk result (λ copied. body_tree copied ≡ body_tree body.now) }
-{
-    match body {
-        Some(stmts) => Ok(Some(copy_all(alloc, stmts)?)),
-        None => Ok(None),
     }
 }
 
@@ -114,10 +107,11 @@ impl Pattern {
     pub fn copy(&self, alloc: Global) -> Result<Pattern, AllocError>
         ensures { IfOk result (λ copied. pattern_tree copied ≡ pattern_tree self.now) }
     {
+        let (port, names, repeat) = copy_three(alloc, &self.port, &self.names, &self.repeat)?;
         Ok(Pattern {
-            port: copy_optional(alloc, &self.port)?,
-            names: copy_all(alloc, &self.names)?,
-            repeat: copy_optional(alloc, &self.repeat)?,
+            port,
+            names,
+            repeat,
             at: self.at,
         })
     }
@@ -140,10 +134,11 @@ impl Output {
     pub fn copy(&self, alloc: Global) -> Result<Output, AllocError>
         ensures { IfOk result (λ copied. output_tree copied ≡ output_tree self.now) }
     {
+        let (port, values, repeat) = copy_three(alloc, &self.port, &self.values, &self.repeat)?;
         Ok(Output {
-            port: copy_optional(alloc, &self.port)?,
-            values: copy_all(alloc, &self.values)?,
-            repeat: copy_optional(alloc, &self.repeat)?,
+            port,
+            values,
+            repeat,
             at: self.at,
         })
     }
@@ -166,9 +161,10 @@ impl Schedule {
     pub fn copy(&self, alloc: Global) -> Result<Schedule, AllocError>
         ensures { IfOk result (λ copied. schedule_tree copied ≡ schedule_tree self.now) }
     {
+        let (start, moves) = copy_two(alloc, &self.start, &self.moves)?;
         Ok(Schedule {
-            start: self.start.copy(alloc)?,
-            moves: copy_all(alloc, &self.moves)?,
+            start,
+            moves,
             at: self.at,
         })
     }
@@ -183,10 +179,11 @@ impl Move {
     pub fn copy(&self, alloc: Global) -> Result<Move, AllocError>
         ensures { IfOk result (λ copied. move_tree copied ≡ move_tree self.now) }
     {
+        let (from, tags, to) = copy_three(alloc, &self.from, &self.tags, &self.to)?;
         Ok(Move {
-            from: self.from.copy(alloc)?,
-            tags: copy_all(alloc, &self.tags)?,
-            to: self.to.copy(alloc)?,
+            from,
+            tags,
+            to,
             at: self.at,
         })
     }
@@ -213,13 +210,5 @@ impl Priority {
             chains: copy_all(alloc, &self.chains)?,
             at: self.at,
         })
-    }
-}
-
-impl Part for Vec<Tag> {
-    ghost tree = { chain_tree };
-
-    fn copied(&self, alloc: Global) -> Result<Vec<Tag>, AllocError> {
-        copy_all(alloc, self)
     }
 }

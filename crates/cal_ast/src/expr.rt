@@ -4,7 +4,7 @@ ghost use Rattle.std.specs.Prelude.{◌≡◌, ℕ, IfOk, Ok, map};
 ghost use Rattle.cal_ast.specs.View.{expr_tree, form_tree, gen_tree, type_tree, type_arg_tree};
 
 use crate::ident::Ident;
-use crate::part::Part;
+use crate::part::{Part, both, boxed};
 use std::alloc::{AllocError, Global};
 
 /// A type: its name and its arguments, as in `int(size=8)`.
@@ -179,9 +179,10 @@ impl TypeExpr {
     pub fn copy(&self, alloc: Global) -> Result<TypeExpr, AllocError>
         ensures { IfOk result (λ copied. type_tree copied ≡ type_tree self.now) }
     {
+        let (name, args) = both(self.name.copy(alloc), copy_type_args(alloc, &self.args))?;
         Ok(TypeExpr {
-            name: self.name.copy(alloc)?,
-            args: copy_type_args(alloc, &self.args)?,
+            name,
+            args,
             at: self.at,
         })
     }
@@ -198,14 +199,14 @@ impl TypeArg {
         ensures { IfOk result (λ copied. type_arg_tree copied ≡ type_arg_tree self.now) }
     {
         match self {
-            TypeArg::Shape { name, shape } => Ok(TypeArg::Shape {
-                name: name.copy(alloc)?,
-                shape: shape.copy(alloc)?,
-            }),
-            TypeArg::Value { name, value } => Ok(TypeArg::Value {
-                name: name.copy(alloc)?,
-                value: value.copy(alloc)?,
-            }),
+            TypeArg::Shape { name, shape } => {
+                let (name, shape) = both(name.copy(alloc), shape.copy(alloc))?;
+                Ok(TypeArg::Shape { name, shape })
+            }
+            TypeArg::Value { name, value } => {
+                let (name, value) = both(name.copy(alloc), value.copy(alloc))?;
+                Ok(TypeArg::Value { name, value })
+            }
         }
     }
 }
@@ -220,11 +221,14 @@ impl Gen {
     pub fn copy(&self, alloc: Global) -> Result<Gen, AllocError>
         ensures { IfOk result (λ copied. gen_tree copied ≡ gen_tree self.now) }
     {
+        let declared = both(self.shape.copy(alloc), self.name.copy(alloc));
+        let range = both(self.from.copy(alloc), self.to.copy(alloc));
+        let ((shape, name), (from, to)) = both(declared, range)?;
         Ok(Gen {
-            shape: self.shape.copy(alloc)?,
-            name: self.name.copy(alloc)?,
-            from: self.from.copy(alloc)?,
-            to: self.to.copy(alloc)?,
+            shape,
+            name,
+            from,
+            to,
             at: self.at,
         })
     }
@@ -254,6 +258,7 @@ impl ExprForm {
     ///
     /// `AllocError` if memory runs out.
     #[cycle(copy)]
+    #[tactic(auto, using(crate::proofs::Forms::form_comp))]
     pub fn copy(&self, alloc: Global) -> Result<ExprForm, AllocError>
         ensures { IfOk result (λ copied. (at : ℕ) → form_tree copied at ≡ form_tree self.now at) }
     {
@@ -261,10 +266,10 @@ impl ExprForm {
             ExprForm::Number(value) => Ok(ExprForm::Number(*value)),
             ExprForm::Bool(value) => Ok(ExprForm::Bool(*value)),
             ExprForm::Name(text) => Ok(ExprForm::Name(text.clone()?)),
-            ExprForm::Call { name, args } => Ok(ExprForm::Call {
-                name: name.clone()?,
-                args: copy_exprs(alloc, args)?,
-            }),
+            ExprForm::Call { name, args } => {
+                let (name, args) = both(name.clone(), copy_exprs(alloc, args))?;
+                Ok(ExprForm::Call { name, args })
+            }
             ExprForm::Paren(inner) => Ok(ExprForm::Paren(copy_box(alloc, inner)?)),
             ExprForm::If { test, yes, no } => Ok(ExprForm::If {
                 test: copy_box(alloc, test)?,
@@ -272,10 +277,10 @@ impl ExprForm {
                 no: copy_box(alloc, no)?,
             }),
             ExprForm::List(items) => Ok(ExprForm::List(copy_exprs(alloc, items)?)),
-            ExprForm::Comp { item, gens } => Ok(ExprForm::Comp {
-                item: copy_box(alloc, item)?,
-                gens: copy_gens(alloc, gens)?,
-            }),
+            ExprForm::Comp { item, gens } => {
+                let (item, gens) = both(copy_box(alloc, item), copy_gens(alloc, gens))?;
+                Ok(ExprForm::Comp { item, gens })
+            }
             ExprForm::Index { base, place } => Ok(ExprForm::Index {
                 base: copy_box(alloc, base)?,
                 place: copy_box(alloc, place)?,
@@ -284,11 +289,14 @@ impl ExprForm {
                 op: *op,
                 of: copy_box(alloc, of)?,
             }),
-            ExprForm::Binary { op, left, right } => Ok(ExprForm::Binary {
-                op: *op,
-                left: copy_box(alloc, left)?,
-                right: copy_box(alloc, right)?,
-            }),
+            ExprForm::Binary { op, left, right } => {
+                let (left, right) = both(copy_box(alloc, left), copy_box(alloc, right))?;
+                Ok(ExprForm::Binary {
+                    op: *op,
+                    left,
+                    right,
+                })
+            }
         }
     }
 }
@@ -298,8 +306,7 @@ impl ExprForm {
 fn copy_box(alloc: Global, e: &Box<Expr>) -> Result<Box<Expr>, AllocError>
     ensures { IfOk result (λ copied. expr_tree copied.value ≡ expr_tree e.now.value) }
 {
-    let copied = e.copy(alloc)?;
-    Ok(Box::new(alloc, copied)?)
+    boxed(alloc, e.copy(alloc))
 }
 
 /// Equal expressions in the same order.
@@ -342,6 +349,14 @@ impl Part for Expr {
     ghost tree = { expr_tree };
 
     fn copied(&self, alloc: Global) -> Result<Expr, AllocError> {
+        self.copy(alloc)
+    }
+}
+
+impl Part for TypeExpr {
+    ghost tree = { type_tree };
+
+    fn copied(&self, alloc: Global) -> Result<TypeExpr, AllocError> {
         self.copy(alloc)
     }
 }

@@ -5,7 +5,7 @@ ghost use Rattle.cal_ast.specs.View.{file_tree, file_body_tree, import_tree, act
 
 use crate::ident::{Ident, Tag};
 use crate::member::{Member, Param, PortDecl};
-use crate::part::{Part, copy_all, copy_optional};
+use crate::part::{Part, copy_three, copy_two};
 use std::alloc::{AllocError, Global};
 
 /// A file.
@@ -65,9 +65,10 @@ impl File {
     pub fn copy(&self, alloc: Global) -> Result<File, AllocError>
         ensures { IfOk result (λ copied. file_tree copied ≡ file_tree self.now) }
     {
+        let (package, imports) = copy_two(alloc, &self.package, &self.imports)?;
         Ok(File {
-            package: copy_optional(alloc, &self.package)?,
-            imports: copy_all(alloc, &self.imports)?,
+            package,
+            imports,
             body: self.body.copy(alloc)?,
             at: self.at,
         })
@@ -99,9 +100,10 @@ impl Import {
     pub fn copy(&self, alloc: Global) -> Result<Import, AllocError>
         ensures { IfOk result (λ copied. import_tree copied ≡ import_tree self.now) }
     {
+        let (path, last) = copy_two(alloc, &self.path, &self.last)?;
         Ok(Import {
-            path: copy_all(alloc, &self.path)?,
-            last: copy_optional(alloc, &self.last)?,
+            path,
+            last,
             at: self.at,
         })
     }
@@ -124,12 +126,14 @@ impl Actor {
     pub fn copy(&self, alloc: Global) -> Result<Actor, AllocError>
         ensures { IfOk result (λ copied. actor_tree copied ≡ actor_tree self.now) }
     {
+        let (name, params, members) = copy_three(alloc, &self.name, &self.params, &self.members)?;
+        let (ins, outs) = copy_two(alloc, &self.ins, &self.outs)?;
         Ok(Actor {
-            name: self.name.copy(alloc)?,
-            params: copy_all(alloc, &self.params)?,
-            ins: copy_all(alloc, &self.ins)?,
-            outs: copy_all(alloc, &self.outs)?,
-            members: copy_all(alloc, &self.members)?,
+            name,
+            params,
+            ins,
+            outs,
+            members,
             at: self.at,
         })
     }
@@ -144,9 +148,10 @@ impl UnitFile {
     pub fn copy(&self, alloc: Global) -> Result<UnitFile, AllocError>
         ensures { IfOk result (λ copied. unit_tree copied ≡ unit_tree self.now) }
     {
+        let (name, members) = copy_two(alloc, &self.name, &self.members)?;
         Ok(UnitFile {
-            name: self.name.copy(alloc)?,
-            members: copy_all(alloc, &self.members)?,
+            name,
+            members,
             at: self.at,
         })
     }

@@ -6,7 +6,7 @@ ghost use Rattle.cal_ast.specs.View.{member_tree, param_tree, port_tree, var_tre
 use crate::action::{Action, Priority, Schedule};
 use crate::expr::{Expr, TypeExpr};
 use crate::ident::Ident;
-use crate::part::{Part, copy_all, copy_optional};
+use crate::part::{Part, copy_three, copy_two};
 use crate::stmt::Stmt;
 use std::alloc::{AllocError, Global};
 
@@ -114,10 +114,11 @@ impl Param {
     pub fn copy(&self, alloc: Global) -> Result<Param, AllocError>
         ensures { IfOk result (λ copied. param_tree copied ≡ param_tree self.now) }
     {
+        let (shape, name, start) = copy_three(alloc, &self.shape, &self.name, &self.start)?;
         Ok(Param {
-            shape: self.shape.copy(alloc)?,
-            name: self.name.copy(alloc)?,
-            start: copy_optional(alloc, &self.start)?,
+            shape,
+            name,
+            start,
             at: self.at,
         })
     }
@@ -140,9 +141,10 @@ impl PortDecl {
     pub fn copy(&self, alloc: Global) -> Result<PortDecl, AllocError>
         ensures { IfOk result (λ copied. port_tree copied ≡ port_tree self.now) }
     {
+        let (shape, name) = copy_two(alloc, &self.shape, &self.name)?;
         Ok(PortDecl {
-            shape: self.shape.copy(alloc)?,
-            name: self.name.copy(alloc)?,
+            shape,
+            name,
             at: self.at,
         })
     }
@@ -165,10 +167,11 @@ impl VarDecl {
     pub fn copy(&self, alloc: Global) -> Result<VarDecl, AllocError>
         ensures { IfOk result (λ copied. var_tree copied ≡ var_tree self.now) }
     {
+        let (shape, name, start) = copy_three(alloc, &self.shape, &self.name, &self.start)?;
         Ok(VarDecl {
-            shape: self.shape.copy(alloc)?,
-            name: self.name.copy(alloc)?,
-            start: copy_optional(alloc, &self.start)?,
+            shape,
+            name,
+            start,
             changes: self.changes,
             at: self.at,
         })
@@ -192,12 +195,14 @@ impl Function {
     pub fn copy(&self, alloc: Global) -> Result<Function, AllocError>
         ensures { IfOk result (λ copied. function_tree copied ≡ function_tree self.now) }
     {
+        let (name, formals, result) = copy_three(alloc, &self.name, &self.formals, &self.result)?;
+        let (vars, body) = copy_two(alloc, &self.vars, &self.body)?;
         Ok(Function {
-            name: self.name.copy(alloc)?,
-            formals: copy_all(alloc, &self.formals)?,
-            result: self.result.copy(alloc)?,
-            vars: copy_all(alloc, &self.vars)?,
-            body: self.body.copy(alloc)?,
+            name,
+            formals,
+            result,
+            vars,
+            body,
             at: self.at,
         })
     }
@@ -212,11 +217,13 @@ impl Procedure {
     pub fn copy(&self, alloc: Global) -> Result<Procedure, AllocError>
         ensures { IfOk result (λ copied. procedure_tree copied ≡ procedure_tree self.now) }
     {
+        let (name, formals) = copy_two(alloc, &self.name, &self.formals)?;
+        let (vars, body) = copy_two(alloc, &self.vars, &self.body)?;
         Ok(Procedure {
-            name: self.name.copy(alloc)?,
-            formals: copy_all(alloc, &self.formals)?,
-            vars: copy_all(alloc, &self.vars)?,
-            body: copy_all(alloc, &self.body)?,
+            name,
+            formals,
+            vars,
+            body,
             at: self.at,
         })
     }

@@ -92,7 +92,7 @@ outputs-same c d runs others other numbers ports k outs env left fit w h e =
 
 -- ---- actions
 
-patterns-outside : (ports : List Port) (qs : List Pattern) (n : Names) → ((with_all_patterns ports qs n).globals ≡ n.globals) × ((with_all_patterns ports qs n).funs ≡ n.funs)
+pub patterns-outside : (ports : List Port) (qs : List Pattern) (n : Names) → ((with_all_patterns ports qs n).globals ≡ n.globals) × ((with_all_patterns ports qs n).funs ≡ n.funs)
 patterns-outside ports [] n = (refl, refl)
 patterns-outside ports (q ∷ qs) n =
     let rest = patterns-outside ports qs (with_pattern (kind_of_tokens (kind_of_port ports q.port) q.repeat) q.names n) in

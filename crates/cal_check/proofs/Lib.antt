@@ -9,7 +9,7 @@ mod Distinct
 mod SoundPorts
 mod SameNames
 mod SameParts
-mod SoundActions
+pub mod SoundActions
 mod SoundHeader
 mod SoundRoutines
 pub mod Lists
@@ -18,30 +18,30 @@ pub mod Departs
 pub mod SoundSchedules
 mod SoundCounts
 mod SoundRates
-mod SoundVariables
-mod FittingValues
+pub mod SoundVariables
+pub mod FittingValues
 mod FittingNames
-mod RestNames
-mod SameCalls
+pub mod RestNames
+pub mod SameCalls
 mod SameFuns
-mod WrittenUses
+pub mod WrittenUses
 mod CallsBelow
-mod SettledFuns
-mod UsedNames
+pub mod SettledFuns
+pub mod UsedNames
 mod HiddenCalls
 mod CallsKnown
-mod NoneBroken
+pub mod NoneBroken
 mod SubLists
-mod JudgedRoutines
+pub mod JudgedRoutines
 mod ScopedActions
 mod RankedFuns
 mod SameOrder
-mod SourceNames
-mod SoundSource
+pub mod SourceNames
+pub mod SoundSource
 mod ValuesKept
 mod StatementsKept
 mod MeaningKept
 mod FunctionsKept
 mod ProceduresKept
-mod ActionsKept
+pub mod ActionsKept
 mod SourceFunctions

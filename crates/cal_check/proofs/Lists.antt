@@ -1,5 +1,6 @@
 -- Lists, and lists of which each element keeps something.
-use Rattle.std.proofs.Common.{◌≡◌, zero, suc, ◌<◌, ◌⊎◌, inl, inr, List, [], ◌∷◌, ◌++◌, length, refl, arith, Contains}
+use Rattle.std.proofs.Common.{◌≡◌, ℕ, zero, suc, ◌<◌, ◌⊎◌, inl, inr, List, [], ◌∷◌, ◌++◌, length, refl, subst, arith, Contains, Some}
+use Rattle.std.specs.Prelude.{slice_get}
 use Rattle.cal_model.specs.Sound.{Each}
 
 pub none-left : {A : Type 0} (xs : List A) → length xs ≡ 0 → xs ≡ []
@@ -35,3 +36,9 @@ in-rest x y xs (k, h, e) = (suc k, omega arith, e)
 pub each-of : {A : Type 0} (P : A → Type 0) (xs : List A) → ((x : A) → Contains xs x → P x) → Each P xs
 each-of P [] f = tt
 each-of P (x ∷ xs) f = (f x (at-head x x xs refl), each-of P xs (λ y c. f y (in-rest y x xs c)))
+
+-- what holds of each holds of the one at a place
+pub each-at : {A : Type 0} (P : A → Type 0) (xs : List A) (i : ℕ) (x : A) → Each P xs → slice_get xs i ≡ Some x → P x
+each-at P [] i x h e = absurd (cc)
+each-at P (y ∷ ys) zero x h e = subst P (let s : y ≡ x = cc in s) h.0
+each-at P (y ∷ ys) (suc i) x h e = each-at P ys i x h.1 e

@@ -28,7 +28,7 @@ pub turn-same : {A : Type 0} (left : ℕ) (f g : ℕ → Out A) → ((k : ℕ) �
 turn-same zero f g h = refl
 turn-same (suc left) f g h = h left
 
-pub chosen-same : (v : Value) (f g f' g' : ℕ → Out Value) (left : ℕ) → ((k : ℕ) → f k ≡ f' k) → ((k : ℕ) → g k ≡ g' k) → chosen v f g left ≡ chosen v f' g' left
+pub chosen-same : {A : Type 0} (v : Value) (f g f' g' : ℕ → Out A) (left : ℕ) → ((k : ℕ) → f k ≡ f' k) → ((k : ℕ) → g k ≡ g' k) → chosen v f g left ≡ chosen v f' g' left
 chosen-same (Truth true) f g f' g' left h i = h left
 chosen-same (Truth false) f g f' g' left h i = i left
 chosen-same (Num z) f g f' g' left h i = refl
@@ -39,7 +39,7 @@ right-same And (Truth false) f g left h = refl
 right-same Or (Truth true) f g left h = refl
 right-same op v f g left h = ap (λ o. and_then o (λ w m. applied op v w m)) (h left)
 
-pub range-same : (a b : Value) (f g : ℤ → ℤ → Out Values) → ((low high : ℤ) → f low high ≡ g low high) → range_of a b f ≡ range_of a b g
+pub range-same : {A : Type 0} (a b : Value) (f g : ℤ → ℤ → Out A) → ((low high : ℤ) → f low high ≡ g low high) → range_of a b f ≡ range_of a b g
 range-same (Num a) (Num b) f g h = h a b
 range-same v w f g h = refl
 

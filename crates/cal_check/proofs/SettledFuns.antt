@@ -253,3 +253,24 @@ settled rank (suc k) fs names formed calls name l =
     over-same fs (on a names) (on b names) name
     (each-judged rank k a b names fs name formed calls (omega arith)
     (funs-settled rank k a b (after-call rank k fs names calls) (λ other i. settled rank k fs names formed calls other i)))
+
+-- ---- all functions
+
+all-same : (rank : List ℕ → ℕ) (k : ℕ) (a b : List Fun) (names : Names) (fs : List FunDecl) → FunsFormed fs → DeclsCallBelow rank fs → Each (λ f. rank f.name < suc k) fs
+    → FunsSame (λ other. rank other < k) a b → funs_over fs (on a names) ≡ funs_over fs (on b names)
+all-same rank k a b names [] formed calls l same = refl
+all-same rank k a b names (f ∷ fs) formed calls l same =
+    let low : rank f.name < suc k = l.0 in
+    ap (λ j. with_fun j (funs_over fs (on a names))) (judged-same rank k a b names f.name f.decl formed.0 calls.0 (omega arith) same)
+    ∙ ap (λ gs. with_fun (fun_judged f.name f.decl (on b names)) gs) (all-same rank k a b names fs formed.1 calls.1 l.1 same)
+
+-- as many rounds as there are ranks find all functions as they stay
+pub rounds-same : (rank : List ℕ → ℕ) (k : ℕ) (fs : List FunDecl) (names : Names) → FunsFormed fs → DeclsCallBelow rank fs → Each (λ f. rank f.name < k) fs
+    → funs_after k fs names ≡ funs_after (suc k) fs names
+rounds-same rank zero [] names formed calls l = refl
+rounds-same rank zero (f ∷ fs) names formed calls l = absurd (let no : rank f.name < 0 = l.0 in omega arith)
+rounds-same rank (suc k) fs names formed calls l =
+    let a = funs_after k fs names in
+    let b = funs_after (suc k) fs names in
+    all-same rank k a b names fs formed calls l
+    (funs-settled rank k a b (after-call rank k fs names calls) (λ other i. settled rank k fs names formed calls other i))

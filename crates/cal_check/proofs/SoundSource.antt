@@ -1,5 +1,5 @@
 -- An actor that breaks no rule is sound.
-use Rattle.std.proofs.Common.{◌≡◌, ℕ, zero, suc, ◌<◌, ◌≤◌, Bool, true, false, List, [], ◌∷◌, ◌++◌, map, length, refl, sym, ap, subst, ◌∙◌, arith, Option, None, Some}
+use Rattle.std.proofs.Common.{◌≡◌, ℕ, ◌<◌, ◌≤◌, Bool, true, false, List, [], ◌∷◌, ◌++◌, map, length, refl, sym, ap, subst, ◌∙◌, arith, Option, None, Some}
 use Rattle.std.specs.Prelude.{if◌then◌else◌, slice_get}
 use Rattle.cal_ast.specs.Tree as tree
 use Rattle.cal_ast.specs.Tree.{Tree}
@@ -21,7 +21,7 @@ use Rattle.cal_check.specs.Variables.{Given, Spot, seen}
 use Rattle.cal_check.specs.Violations.{all_fine}
 use Rattle.cal_check.proofs.Fine.{none-of}
 use Rattle.cal_check.proofs.JudgedRoutines.{Functions, Procedures, each-fun, each-proc, fun-scoped, functions-found, funs-fine, funs-named, kept-each, proc-calls, proc-named, proc-scoped, procedures-found, procs-counted, procs-fine, procs-named}
-use Rattle.cal_check.proofs.Lists.{each-append}
+use Rattle.cal_check.proofs.Lists.{each-append, each-at}
 use Rattle.cal_check.proofs.NoneBroken.{BreaksNothing, NothingBroken, nothing-broken}
 use Rattle.cal_check.proofs.RankedFuns.{never-return}
 use Rattle.cal_check.proofs.SameOrder.{moves-same, pairs-same}
@@ -37,14 +37,6 @@ use Rattle.cal_check.proofs.SoundVariables.{IsTyped}
 use Rattle.cal_check.proofs.SourceNames.{all-are-valued, all-distinct, names-alike, rest-names-fit}
 use Rattle.cal_check.proofs.UsedNames.{IsKept, actor-uses, outers-use}
 
--- ---- lists
-
--- what holds of each holds of the one at a place
-each-at : {A : Type 0} (P : A → Type 0) (xs : List A) (i : ℕ) (x : A) → Each P xs → slice_get xs i ≡ Some x → P x
-each-at P [] i x h e = absurd (cc)
-each-at P (y ∷ ys) zero x h e = subst P (let s : y ≡ x = cc in s) h.0
-each-at P (y ∷ ys) (suc i) x h e = each-at P ys i x h.1 e
-
 -- ---- what an actor's members use
 
 module _ (P : List ℕ → Type 0) where
@@ -57,24 +49,24 @@ module _ (P : List ℕ → Type 0) where
   own-funs-use file (tree.cons m ms) u = own-funs-use file ms u.1
   own-funs-use file other u = tt
 
-  procs-use : (members : Tree) → OnlyUses P members → Each (OnlyUses P) (procs_in members)
+  pub procs-use : (members : Tree) → OnlyUses P members → Each (OnlyUses P) (procs_in members)
   procs-use (tree.cons (tree.procedure name formals vars body at) ms) u = (u.0, procs-use ms u.1)
   procs-use (tree.cons m ms) u = procs-use ms u.1
   procs-use other u = tt
 
-  actions-use : (members : Tree) → OnlyUses P members → Each (OnlyUses P) (actions_in members)
+  pub actions-use : (members : Tree) → OnlyUses P members → Each (OnlyUses P) (actions_in members)
   actions-use (tree.cons (tree.action tagged initialize ins outs guards vars body at) ms) u = (u.0, actions-use ms u.1)
   actions-use (tree.cons m ms) u = actions-use ms u.1
   actions-use other u = tt
 
-members-use : (s : Source) → OnlyUses (IsKept s) (members_of s.actor)
+pub members-use : (s : Source) → OnlyUses (IsKept s) (members_of s.actor)
 members-use s = params-skip (IsKept s) s.actor (actor-uses s)
 
 each-const : {A : Type 0} (P Q : A → Type 0) (xs : List A) → ((x : A) → Q x → P x) → Each Q xs → Each P xs
 each-const P Q [] f h = tt
 each-const P Q (x ∷ xs) f h = (f x h.0, each-const P Q xs f h.1)
 
-funs-use : (s : Source) → Each (λ f. IsKept s f.name → OnlyUses (IsKept s) f.decl) (all_funs s)
+pub funs-use : (s : Source) → Each (λ f. IsKept s f.name → OnlyUses (IsKept s) f.decl) (all_funs s)
 funs-use s =
     each-append (λ f. IsKept s f.name → OnlyUses (IsKept s) f.decl) s.funs (funs_in s.file (members_of s.actor)) (outers-use s)
     (each-const (λ f. IsKept s f.name → OnlyUses (IsKept s) f.decl) (λ f. OnlyUses (IsKept s) f.decl) (funs_in s.file (members_of s.actor)) (λ f u k. u)

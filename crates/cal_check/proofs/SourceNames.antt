@@ -1,22 +1,20 @@
 -- The names over which the members of an actor that breaks nothing are judged, and those of the actor that it is.
-use Rattle.std.proofs.Common.{◌≡◌, ℕ, zero, suc, ◌<◌, ◌≤◌, ⊎_elim, Bool, true, false, List, [], ◌∷◌, ◌++◌, map, length, refl, sym, ap, subst, ◌∙◌, arith, Option, None, Some, append_assoc}
-use Rattle.std.proofs.lemmas.Bool.{cases_lt}
+use Rattle.std.proofs.Common.{◌≡◌, ℕ, suc, ◌<◌, Bool, true, false, List, [], ◌∷◌, ◌++◌, map, length, refl, sym, ap, subst, ◌∙◌, Option, None, Some, append_assoc}
 use Rattle.std.specs.Prelude.{if◌then◌else◌}
 use Rattle.cal_model.specs.Actor.{Actor, Fun, Held, Proc}
 use Rattle.cal_model.specs.Call.{fun_named}
-use Rattle.cal_model.specs.Kinding.{Judged, Fine, Broken, Known, Names, known_as}
+use Rattle.cal_model.specs.Kinding.{Known, Names, known_as}
 use Rattle.cal_model.specs.Sound.{AreDistinct, Each, known_of, names_of}
 use Rattle.cal_check.specs.Actors.{Source, all_funs, all_valued, at_rest, before_members, declared_vars, is_kept, kept_funs, kept_vars, members_of, names_at_rest, outers, params_in, params_of, used, vars_in}
 use Rattle.cal_check.specs.Formed.{IsFunFormed}
 use Rattle.cal_check.specs.Laws.{AreAlike, ConstantsFit, IsFunLike, IsKnownLike}
-use Rattle.cal_check.specs.Routines.{FunDecl, fun_judged, funs_after, funs_over, with_fun}
+use Rattle.cal_check.specs.Routines.{FunDecl, funs_after, funs_over}
 use Rattle.cal_check.specs.Sources.{FunDeclsEnd, IsSourceFormed, names_of_source, proc_name, procs_of_source}
 use Rattle.cal_check.specs.Variables.{Given, Spot, VarDecl, none_yet, valued}
 use Rattle.cal_check.proofs.FittingNames.{KnownsFit, after-fit, names-fit}
-use Rattle.cal_check.proofs.FittingValues.{named-one}
 use Rattle.cal_check.proofs.JudgedRoutines.{kept-named, kept-part}
 use Rattle.cal_check.proofs.RestNames.{map-rest, meant-alike, rest-fits, rest_behind}
-use Rattle.cal_check.proofs.SettledFuns.{fun-name, settled}
+use Rattle.cal_check.proofs.SettledFuns.{rounds-same}
 use Rattle.cal_check.proofs.SoundHeader.{map-append}
 use Rattle.cal_check.proofs.SoundVariables.{AreValued, are-valued, was-fine}
 use Rattle.cal_check.proofs.SubLists.{IsPart, part-append, part-both, part-distinct, part-more}
@@ -82,39 +80,11 @@ all-distinct s held gs procs ev ef ep d =
 abbrev pub base_names : List Known → Names
 base_names globals = record { globals = globals; locals = []; funs = [] }
 
-ranks-over : (rank : List ℕ → ℕ) (n : ℕ) (fs : List FunDecl) (names : Names) → Each (λ f. rank f.name < n) fs → Each (λ g. rank g.name < n) (funs_over fs names)
-ranks-over rank n [] names h = tt
-ranks-over rank n (f ∷ fs) names h = go (fun_judged f.name f.decl names) refl (ranks-over rank n fs names h.1)
-  where
-    go : (j : Judged Fun) → fun_judged f.name f.decl names ≡ j → Each (λ g. rank g.name < n) (funs_over fs names) → Each (λ g. rank g.name < n) (with_fun j (funs_over fs names))
-    go (Fine g) e rest = (subst (λ t. rank t < n) (sym (fun-name f.name f.decl names g e)) h.0, rest)
-    go (Broken rule at) e rest = rest
-
-none-above : (rank : List ℕ → ℕ) (n : ℕ) (name : List ℕ) (gs : List Fun) → Each (λ g. rank g.name < n) gs → n ≤ rank name → fun_named name gs ≡ None
-none-above rank n name gs h l = go (fun_named name gs) refl
-  where
-    go : (o : Option Fun) → fun_named name gs ≡ o → fun_named name gs ≡ None
-    go None e = e
-    go (Some g) e =
-        let is = named-one (λ g. rank g.name < n) name gs g h e in
-        let same : rank g.name ≡ rank name = ap rank is.1 in
-        let less : rank g.name < n = is.0 in
-        absurd (omega arith)
-
 -- the function of a name is the same in one more round than there are functions
 pub round-same : (n : ℕ) (fs : List FunDecl) (names : Names) (name : List ℕ) (end : FunDeclsEnd fs) → n ≡ length fs → Each (λ f. IsFunFormed f.decl) fs → fun_named name (funs_after n fs names) ≡ fun_named name (funs_after (suc n) fs names)
 round-same n fs names name end e formed =
-    ⊎_elim (λ (l : end.rank name < n). settled end.rank n fs names formed end.calls name l)
-    (λ (l : n ≤ end.rank name). above n e l) (cases_lt (end.rank name) n)
-  where
-    in-range : (n : ℕ) → n ≡ length fs → Each (λ f. end.rank f.name < n) fs
-    in-range n e = subst (λ k. Each (λ f. end.rank f.name < k) fs) (sym e) end.in_range
-
-    above : (n : ℕ) → n ≡ length fs → n ≤ end.rank name → fun_named name (funs_after n fs names) ≡ fun_named name (funs_after (suc n) fs names)
-    above zero e l = sym (none-above end.rank 0 name (funs_after 1 fs names) (ranks-over end.rank 0 fs (record names { funs = [] }) (in-range 0 e)) l)
-    above (suc n) e l =
-        none-above end.rank (suc n) name (funs_after (suc n) fs names) (ranks-over end.rank (suc n) fs (record names { funs = funs_after n fs names }) (in-range (suc n) e)) l
-        ∙ sym (none-above end.rank (suc n) name (funs_after (suc (suc n)) fs names) (ranks-over end.rank (suc n) fs (record names { funs = funs_after (suc n) fs names }) (in-range (suc n) e)) l)
+    let in_range = subst (λ k. Each (λ f. end.rank f.name < k) fs) (sym e) end.in_range in
+    ap (λ gs. fun_named name gs) (rounds-same end.rank n fs names formed end.calls in_range)
 
 fun-like : (o : Option Fun) → IsFunLike o o
 fun-like None = tt

@@ -51,7 +51,7 @@ fine-some (Fine y) x h = let e : y ≡ x = cc in ap Fine e
 fine-some (Broken rule at) x h = absurd (cc)
 
 -- what holds of what is written out holds of the values of each output
-output-has : (S R : Tree → Type 0) (names : Names) → ((t : Tree) → S t → R (written t names)) → (o : Tree) (port : ℕ) (t : Scalar) (out : Output) → OfValues S o → output_judged o port t names ≡ Fine out → R out.values
+pub output-has : (S R : Tree → Type 0) (names : Names) → ((t : Tree) → S t → R (written t names)) → (o : Tree) (port : ℕ) (t : Scalar) (out : Output) → OfValues S o → output_judged o port t names ≡ Fine out → R out.values
 output-has S R names f (tree.output asked values repeat at) port t out s h =
     let ks = split (kinds values names) _ out h in
     let n = split (repeat_judged repeat at names) _ out ks.2 in

@@ -43,13 +43,13 @@ Reads view m r result old new = Answers view (read m r (plain_tokens old)) resul
 -- the trees of parts with their heights
 
 abbrev pub tall_tree : TallExpr → Tree
-tall_tree x = expr_tree x.expr
+tall_tree x = expr_tree x.expr.value
 
 abbrev pub each_expr : TallExprs → Tree
 each_expr xs = listed (map expr_tree xs.exprs.items)
 
 abbrev pub tall_gen : TallGen → Tree
-tall_gen g = gen_tree g.generator
+tall_gen g = gen_tree g.generator.value
 
 abbrev pub each_gen : TallGens → Tree
 each_gen gs = listed (map gen_tree gs.gens.items)
@@ -58,7 +58,7 @@ abbrev pub tall_type : TallType → Tree
 tall_type t = type_tree t.shape
 
 abbrev pub tall_type_arg : TallTypeArg → Tree
-tall_type_arg t = type_arg_tree t.arg
+tall_type_arg t = type_arg_tree t.arg.value
 
 abbrev pub each_type_arg : TallTypeArgs → Tree
 each_type_arg ts = listed (map type_arg_tree ts.args.items)

@@ -1,6 +1,6 @@
 -- What the code's answers say of the rules: it does what the rule reads, and stands where the rule's outcome says.
 -- Not trusted: no promise is read with it.
-use Rattle.std.specs.Prelude.{◌≡◌, ℕ, List, [], ◌∷◌, map, Result, Ok, Err, Vec}
+use Rattle.std.specs.Prelude.{◌≡◌, ℕ, List, [], ◌∷◌, map, Result, Ok, Err, Vec, Box}
 use Rattle.std.specs.declared.alloc.Global.{Global}
 use Rattle.look_ahead.specs.Program.{Outcome, Gave, Refused, TooHigh, Spent}
 use Rattle.cal_ast.specs.Tree.{Tree, cons, listed}
@@ -24,6 +24,10 @@ abbrev pub Tells : {A : Type 0} → (A → Tree) → ℕ → Rule → Result A F
     → Type 0
 Tells view m r (Ok x) old new = read m r (plain_tokens old) ≡ Gave (view x) (plain_tokens new)
 Tells view m r (Err fault) old new = TellsFault fault new (read m r (plain_tokens old))
+
+-- the tree of a value on the heap
+abbrev pub boxed : {A : Type 0} → (A → Tree) → Box A Global → Tree
+boxed view x = view x.value
 
 -- the tree of a list of values
 abbrev pub each : {A : Type 0} → (A → Tree) → Vec A Global → Tree

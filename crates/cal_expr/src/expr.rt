@@ -11,7 +11,7 @@ ghost use Rattle.cal_expr.specs.Cursor.{stands};
 ghost use Rattle.cal_grammar.specs.Rules.{if_body, list_body, name_body, part, places, type_tail};
 ghost use Rattle.cal_grammar.specs.Spells.{a_gen, a_primary, a_type, a_type_arg, an_expr, any, comma, level, separated};
 ghost use Rattle.cal_expr.specs.Steps.{Answers, Does, Reads, climbs, each_expr, each_gen, each_type_arg, tall_gen, tall_tree, tall_type, tall_type_arg};
-ghost use Rattle.cal_expr.specs.Tells.{Tells, each};
+ghost use Rattle.cal_expr.specs.Tells.{Tells, boxed, each};
 ghost use Rattle.cal_grammar.specs.Token.{names, same_word};
 
 use crate::cursor::{expect, is_name, is_number, is_word, name, take_word};
@@ -36,6 +36,14 @@ use std::alloc::Global;
 /// An expression.
 pub fn expr(alloc: Global, tokens: &mut &[Token], room: u32) -> Result<Expr, Fault>
     ensures { Tells expr_tree room (part an_expr) result tokens.old.now tokens.new.now }
+{
+    let found = boxed_expr(alloc, tokens, room)?;
+    Ok(Box::into_inner(found))
+}
+
+/// An expression, on the heap.
+pub fn boxed_expr(alloc: Global, tokens: &mut &[Token], room: u32) -> Result<Box<Expr>, Fault>
+    ensures { Tells (boxed expr_tree) room (part an_expr) result tokens.old.now tokens.new.now }
 {
     let found = level_expr(alloc, tokens, room, LOOSEST)?;
     Ok(found.expr)
@@ -184,16 +192,16 @@ fn primary(alloc: Global, tokens: &mut &[Token], room: u32) -> Result<TallExpr, 
     ensures low { IfOk result (λ x. x.high ≤ room) }
 {
     if is_number(tokens) {
-        return number(tokens, room);
+        return number(alloc, tokens, room);
     }
     if is_name(tokens) {
         return named(alloc, tokens, room);
     }
     if is_word(tokens, Word::True) {
-        return truth(tokens, room, true);
+        return truth(alloc, tokens, room, true);
     }
     if is_word(tokens, Word::False) {
-        return truth(tokens, room, false);
+        return truth(alloc, tokens, room, false);
     }
     if is_word(tokens, Word::If) {
         return choice(alloc, tokens, room);
@@ -214,11 +222,12 @@ fn named(alloc: Global, tokens: &mut &[Token], room: u32) -> Result<TallExpr, Fa
 {
     let name = leading_name(alloc, tokens, room)?;
     if !is_word(tokens, Word::LeftParen) {
-        return Ok(variable(name));
+        let found = variable(alloc, name)?;
+        return Ok(found);
     }
     take_word(tokens, Word::LeftParen);
     let args = tall_args(alloc, tokens, room - 1)?;
-    called(tokens, room, name, args)
+    called(alloc, tokens, room, name, args)
 }
 
 /// An `if`.
@@ -255,12 +264,12 @@ fn bracketed(alloc: Global, tokens: &mut &[Token], room: u32) -> Result<TallExpr
     }
     if !is_word(tokens, Word::Comma) {
         let alone = with_expr(no_exprs(alloc), first)?;
-        return listing(tokens, room, at, alone);
+        return listing(alloc, tokens, room, at, alone);
     }
     take_word(tokens, Word::Comma);
     let others = tall_exprs(alloc, tokens, room - 1)?;
     let items = before_exprs(first, others)?;
-    listing(tokens, room, at, items)
+    listing(alloc, tokens, room, at, items)
 }
 
 /// Any number of expressions, with commas between them.
@@ -327,7 +336,8 @@ fn generator(alloc: Global, tokens: &mut &[Token], room: u32) -> Result<TallGen,
     let from = level_expr(alloc, tokens, room, LOOSEST)?;
     expect(tokens, Word::DotDot)?;
     let to = level_expr(alloc, tokens, room, LOOSEST)?;
-    Ok(generated(at, shape, name, from, to))
+    let found = generated(alloc, at, shape, name, from, to)?;
+    Ok(found)
 }
 
 /// A type.
@@ -377,9 +387,11 @@ fn type_arg(alloc: Global, tokens: &mut &[Token], room: u32) -> Result<TallTypeA
     if is_word(tokens, Word::Colon) {
         take_word(tokens, Word::Colon);
         let shape = tall_type(alloc, tokens, room)?;
-        return Ok(shape_arg(name, shape));
+        let found = shape_arg(alloc, name, shape)?;
+        return Ok(found);
     }
     expect(tokens, Word::Equal)?;
     let value = level_expr(alloc, tokens, room, LOOSEST)?;
-    Ok(value_arg(name, value))
+    let found = value_arg(alloc, name, value)?;
+    Ok(found)
 }

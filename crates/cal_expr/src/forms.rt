@@ -9,8 +9,9 @@ ghost use Rattle.cal_expr.specs.Steps.{Does, each_expr, each_gen, call_step, com
 use crate::cursor::{expect, finish};
 use crate::fault::Fault;
 use crate::operators::Prefix;
-use crate::tall::{TallExpr, TallExprs, TallGens};
-use cal_ast::{BinOp, Expr, ExprForm, Ident};
+use crate::parts::{before_parts, with_part};
+use crate::tall::{TallExpr, TallExprs, TallGens, tall};
+use cal_ast::{BinOp, ExprForm, Ident};
 use cal_lexer::{Token, Word};
 use std::alloc::{AllocError, Global};
 
@@ -22,22 +23,16 @@ pub fn prefixed(
     operand: TallExpr,
 ) -> Result<TallExpr, AllocError>
     requires { operand.high < room }
-    ensures is { IfOk result (λ x. expr_tree x.expr
-        ≡ prefix operator.op (expr_tree operand.expr) operator.at) }
+    ensures is { IfOk result (λ x. tall_tree x
+        ≡ prefix operator.op (tall_tree operand) operator.at) }
     ensures low { IfOk result (λ x. x.high ≤ room) }
 {
     let high = operand.high + 1;
     let form = ExprForm::Prefix {
         op: operator.op,
-        of: Box::new(alloc, operand.expr)?,
+        of: operand.expr,
     };
-    Ok(TallExpr {
-        expr: Expr {
-            form,
-            at: operator.at,
-        },
-        high,
-    })
+    tall(alloc, form, operator.at, high)
 }
 
 /// A binary operation, which begins where its left side does.
@@ -50,21 +45,18 @@ pub fn operation(
 ) -> Result<TallExpr, AllocError>
     requires left_fits { left.high < room }
     requires right_fits { right.high < room }
-    ensures is { IfOk result (λ x. expr_tree x.expr
-        ≡ binary op (expr_tree left.expr) (expr_tree right.expr) (begins (expr_tree left.expr))) }
+    ensures is { IfOk result (λ x. tall_tree x
+        ≡ binary op (tall_tree left) (tall_tree right) (begins (tall_tree left))) }
     ensures low { IfOk result (λ x. x.high ≤ room) }
 {
     let high = left.high.max(right.high) + 1;
     let at = left.expr.at;
     let form = ExprForm::Binary {
         op,
-        left: Box::new(alloc, left.expr)?,
-        right: Box::new(alloc, right.expr)?,
+        left: left.expr,
+        right: right.expr,
     };
-    Ok(TallExpr {
-        expr: Expr { form, at },
-        high,
-    })
+    tall(alloc, form, at, high)
 }
 
 /// What stands at an index, whose closing bracket is taken.
@@ -78,25 +70,22 @@ pub fn indexed(
     requires base_fits { base.high < room }
     requires place_fits { place.high < room }
     ensures told { Does tall_tree room
-        (index_step (expr_tree base.expr) (expr_tree place.expr)) result tokens.old.now
-        tokens.new.now }
+        (index_step (tall_tree base) (tall_tree place)) result tokens.old.now tokens.new.now }
     ensures low { IfOk result (λ x. x.high ≤ room) }
 {
     expect(tokens, Word::RightBracket)?;
     let high = base.high.max(place.high) + 1;
     let at = base.expr.at;
     let form = ExprForm::Index {
-        base: Box::new(alloc, base.expr)?,
-        place: Box::new(alloc, place.expr)?,
+        base: base.expr,
+        place: place.expr,
     };
-    Ok(TallExpr {
-        expr: Expr { form, at },
-        high,
-    })
+    Ok(tall(alloc, form, at, high)?)
 }
 
 /// A call, whose closing parenthesis is taken.
 pub fn called(
+    alloc: Global,
     tokens: &mut &[Token],
     room: u32,
     name: Ident,
@@ -113,10 +102,7 @@ pub fn called(
         name: name.text,
         args: args.exprs,
     };
-    Ok(TallExpr {
-        expr: Expr { form, at: name.at },
-        high: args.high + 1,
-    })
+    Ok(tall(alloc, form, name.at, args.high + 1)?)
 }
 
 /// An `if` that begins here, whose end is taken.
@@ -133,8 +119,8 @@ pub fn conditional(
     requires yes_fits { yes.high < room }
     requires no_fits { no.high < room }
     ensures told { Does tall_tree room
-        (if_step at (expr_tree test.expr) (expr_tree yes.expr) (expr_tree no.expr)) result
-        tokens.old.now tokens.new.now }
+        (if_step at (tall_tree test) (tall_tree yes) (tall_tree no)) result tokens.old.now
+        tokens.new.now }
     ensures low { IfOk result (λ x. x.high ≤ room) }
 {
     if !finish(tokens, Word::If) {
@@ -142,18 +128,16 @@ pub fn conditional(
     }
     let high = test.high.max(yes.high.max(no.high)) + 1;
     let form = ExprForm::If {
-        test: Box::new(alloc, test.expr)?,
-        yes: Box::new(alloc, yes.expr)?,
-        no: Box::new(alloc, no.expr)?,
+        test: test.expr,
+        yes: yes.expr,
+        no: no.expr,
     };
-    Ok(TallExpr {
-        expr: Expr { form, at },
-        high,
-    })
+    Ok(tall(alloc, form, at, high)?)
 }
 
 /// A list that begins here, whose closing bracket is taken.
 pub fn listing(
+    alloc: Global,
     tokens: &mut &[Token],
     room: u32,
     at: u32,
@@ -165,13 +149,7 @@ pub fn listing(
     ensures low { IfOk result (λ x. x.high ≤ room) }
 {
     expect(tokens, Word::RightBracket)?;
-    Ok(TallExpr {
-        expr: Expr {
-            form: ExprForm::List(items.exprs),
-            at,
-        },
-        high: items.high + 1,
-    })
+    Ok(tall(alloc, ExprForm::List(items.exprs), at, items.high + 1)?)
 }
 
 /// A comprehension that begins here, whose closing bracket is taken.
@@ -186,19 +164,16 @@ pub fn comprehension(
     requires item_fits { item.high < room }
     requires gens_fit { gens.high < room }
     ensures told { Does tall_tree room
-        (comp_step at (expr_tree item.expr) (each_gen gens)) result tokens.old.now tokens.new.now }
+        (comp_step at (tall_tree item) (each_gen gens)) result tokens.old.now tokens.new.now }
     ensures low { IfOk result (λ x. x.high ≤ room) }
 {
     expect(tokens, Word::RightBracket)?;
     let high = item.high.max(gens.high) + 1;
     let form = ExprForm::Comp {
-        item: Box::new(alloc, item.expr)?,
+        item: item.expr,
         gens: gens.gens,
     };
-    Ok(TallExpr {
-        expr: Expr { form, at },
-        high,
-    })
+    Ok(tall(alloc, form, at, high)?)
 }
 
 /// No expressions.
@@ -215,11 +190,10 @@ pub fn no_exprs(alloc: Global) -> TallExprs
 /// These expressions and one more.
 pub fn with_expr(found: TallExprs, next: TallExpr) -> Result<TallExprs, AllocError>
     ensures is { IfOk result (λ xs. map expr_tree xs.exprs.items
-        ≡ map expr_tree found.exprs.items ++ expr_tree next.expr ∷ []) }
+        ≡ map expr_tree found.exprs.items ++ tall_tree next ∷ []) }
     ensures high { IfOk result (λ xs. xs.high ≡ max found.high next.high) }
 {
-    let mut exprs = found.exprs;
-    exprs.push(next.expr)?;
+    let exprs = with_part(found.exprs, next.expr)?;
     Ok(TallExprs {
         exprs,
         high: found.high.max(next.high),
@@ -229,11 +203,10 @@ pub fn with_expr(found: TallExprs, next: TallExpr) -> Result<TallExprs, AllocErr
 /// An expression before others.
 pub fn before_exprs(first: TallExpr, others: TallExprs) -> Result<TallExprs, AllocError>
     ensures is { IfOk result (λ xs. map expr_tree xs.exprs.items
-        ≡ expr_tree first.expr ∷ map expr_tree others.exprs.items) }
+        ≡ tall_tree first ∷ map expr_tree others.exprs.items) }
     ensures high { IfOk result (λ xs. xs.high ≡ max first.high others.high) }
 {
-    let mut exprs = others.exprs;
-    exprs.insert(0, first.expr)?;
+    let exprs = before_parts(first.expr, others.exprs)?;
     Ok(TallExprs {
         exprs,
         high: first.high.max(others.high),

@@ -2,7 +2,6 @@
 
 ghost use Rattle.std.specs.Prelude.{◌≡◌, ◌≤◌, IfOk, true, string_bytes};
 ghost use Rattle.cal_ast.specs.Tree.{variable};
-ghost use Rattle.cal_ast.specs.View.{expr_tree};
 ghost use Rattle.cal_expr.specs.Cursor.{stands};
 ghost use Rattle.cal_expr.specs.Steps.{number_step, truth_step};
 ghost use Rattle.cal_expr.specs.Steps.{Does, tall_tree, truth_word};
@@ -12,12 +11,13 @@ ghost use Rattle.cal_lexer.specs.Words.{lexeme_of};
 use crate::cursor::take_word;
 use crate::fault::Fault;
 use crate::leading::leading_word;
-use crate::tall::TallExpr;
-use cal_ast::{Expr, ExprForm, Ident};
+use crate::tall::{TallExpr, tall};
+use cal_ast::{ExprForm, Ident};
 use cal_lexer::{Token, TokenKind, Word};
+use std::alloc::{AllocError, Global};
 
 /// The number at the front.
-pub fn number(tokens: &mut &[Token], room: u32) -> Result<TallExpr, Fault>
+pub fn number(alloc: Global, tokens: &mut &[Token], room: u32) -> Result<TallExpr, Fault>
     requires { stands counts tokens.old.now ≡ true }
     ensures told { Does tall_tree room number_step result tokens.old.now tokens.new.now }
     ensures low { IfOk result (λ x. x.high ≤ room) }
@@ -33,13 +33,7 @@ pub fn number(tokens: &mut &[Token], room: u32) -> Result<TallExpr, Fault>
         unreachable!()
     };
     *tokens = rest;
-    Ok(TallExpr {
-        expr: Expr {
-            form: ExprForm::Number(*value),
-            at: token.at,
-        },
-        high: 1,
-    })
+    Ok(tall(alloc, ExprForm::Number(*value), token.at, 1)?)
 }
 
 /// The word of a truth value.
@@ -53,31 +47,24 @@ fn word_of(value: bool) -> Word
 }
 
 /// The truth value at the front.
-pub fn truth(tokens: &mut &[Token], room: u32, value: bool) -> Result<TallExpr, Fault>
+pub fn truth(
+    alloc: Global,
+    tokens: &mut &[Token],
+    room: u32,
+    value: bool,
+) -> Result<TallExpr, Fault>
     requires { stands (same_word (truth_word value)) tokens.old.now ≡ true }
     ensures told { Does tall_tree room (truth_step value) result tokens.old.now tokens.new.now }
     ensures low { IfOk result (λ x. x.high ≤ room) }
 {
     let at = leading_word(tokens, room, word_of(value))?;
-    Ok(TallExpr {
-        expr: Expr {
-            form: ExprForm::Bool(value),
-            at,
-        },
-        high: 1,
-    })
+    Ok(tall(alloc, ExprForm::Bool(value), at, 1)?)
 }
 
 /// A name that stands alone.
-pub fn variable(name: Ident) -> TallExpr
-    ensures is { expr_tree result.expr ≡ variable (string_bytes name.text) name.at }
-    ensures low { result.high ≡ 1 }
+pub fn variable(alloc: Global, name: Ident) -> Result<TallExpr, AllocError>
+    ensures is { IfOk result (λ x. tall_tree x ≡ variable (string_bytes name.text) name.at) }
+    ensures low { IfOk result (λ x. x.high ≡ 1) }
 {
-    TallExpr {
-        expr: Expr {
-            form: ExprForm::Name(name.text),
-            at: name.at,
-        },
-        high: 1,
-    }
+    tall(alloc, ExprForm::Name(name.text), name.at, 1)
 }

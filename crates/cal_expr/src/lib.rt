@@ -13,5 +13,6 @@ mod leading;
 mod leaves;
 mod operators;
 mod pairs;
+pub mod parts;
 mod tall;
 mod types;

@@ -1,6 +1,6 @@
 //! Pairs of parentheses round expressions.
 
-ghost use Rattle.std.specs.Prelude.{◌≡◌, ◌≤◌, IfOk, nat_le};
+ghost use Rattle.std.specs.Prelude.{◌≡◌, ◌≤◌, IfOk, nat_le, true};
 ghost use Rattle.cal_ast.specs.View.{expr_tree};
 ghost use Rattle.cal_expr.specs.Leading.{TookOpens};
 ghost use Rattle.cal_grammar.specs.Operators.{group, height};
@@ -8,7 +8,7 @@ ghost use Rattle.cal_expr.specs.Steps.{Does, closing_step, drops, tall_tree};
 
 use crate::cursor::{is_word, take_word};
 use crate::fault::Fault;
-use crate::tall::TallExpr;
+use crate::tall::{TallExpr, tall};
 use cal_ast::{Expr, ExprForm};
 use cal_lexer::{Token, Word};
 use std::alloc::{AllocError, Global};
@@ -47,7 +47,7 @@ fn is_dropped(expr: &Expr) -> bool
 /// Whether an expression in a pair of parentheses fits the room.
 fn fits_in_pair(room: u32, inner: &TallExpr) -> bool
     requires { inner.now.high ≤ room }
-    ensures { result ≡ nat_le (height (group 0 (expr_tree inner.now.expr))) room }
+    ensures { result ≡ nat_le (height (group 0 (tall_tree inner.now))) room }
 {
     if is_dropped(&inner.expr) {
         true
@@ -56,27 +56,31 @@ fn fits_in_pair(room: u32, inner: &TallExpr) -> bool
     }
 }
 
+/// The same expression, which begins here.
+fn moved(inner: TallExpr, at: u32) -> TallExpr
+    requires { drops (tall_tree inner) ≡ true }
+    ensures is { tall_tree result ≡ group at (tall_tree inner) }
+    ensures same { result.high ≡ inner.high }
+{
+    let mut expr = inner.expr;
+    expr.at = at;
+    TallExpr {
+        expr,
+        high: inner.high,
+    }
+}
+
 /// An expression in a pair of parentheses whose first stands here.
 fn grouped(alloc: Global, room: u32, at: u32, inner: TallExpr) -> Result<TallExpr, AllocError>
-    requires { height (group 0 (expr_tree inner.expr)) ≤ room }
-    ensures is { IfOk result (λ x. expr_tree x.expr ≡ group at (expr_tree inner.expr)) }
+    requires { height (group 0 (tall_tree inner)) ≤ room }
+    ensures is { IfOk result (λ x. tall_tree x ≡ group at (tall_tree inner)) }
     ensures low { IfOk result (λ x. x.high ≤ room) }
 {
     if is_dropped(&inner.expr) {
-        return Ok(TallExpr {
-            expr: Expr {
-                form: inner.expr.form,
-                at,
-            },
-            high: inner.high,
-        });
+        return Ok(moved(inner, at));
     }
     let high = inner.high + 1;
-    let form = ExprForm::Paren(Box::new(alloc, inner.expr)?);
-    Ok(TallExpr {
-        expr: Expr { form, at },
-        high,
-    })
+    tall(alloc, ExprForm::Paren(inner.expr), at, high)
 }
 
 /// Takes the parenthesis that closes a pair, whose first stands here.
@@ -88,8 +92,8 @@ pub fn close_pair(
     inner: TallExpr,
 ) -> Result<TallExpr, Fault>
     requires { inner.high ≤ room }
-    ensures told { Does tall_tree room
-        (closing_step at (expr_tree inner.expr)) result tokens.old.now tokens.new.now }
+    ensures told { Does tall_tree room (closing_step at (tall_tree inner)) result tokens.old.now
+        tokens.new.now }
     ensures low { IfOk result (λ x. x.high ≤ room) }
 {
     if !is_word(tokens, Word::RightParen) {

@@ -2,11 +2,12 @@
 
 ghost use Rattle.std.specs.Prelude.{◌≡◌, ◌+◌, ◌≤◌, ◌-◌, ◌++◌, ◌∷◌, [], IfOk, map, max, string_bytes};
 ghost use Rattle.cal_ast.specs.Tree.{gen, nil, type_of, shape_arg as shape_arg_tree, value_arg as value_arg_tree};
-ghost use Rattle.cal_ast.specs.View.{expr_tree, gen_tree, ident_tree, type_arg_tree, type_tree};
-ghost use Rattle.cal_expr.specs.Steps.{Does, each_type_arg, tall_type, type_step};
+ghost use Rattle.cal_ast.specs.View.{gen_tree, ident_tree, type_arg_tree, type_tree};
+ghost use Rattle.cal_expr.specs.Steps.{Does, each_type_arg, tall_gen, tall_tree, tall_type, tall_type_arg, type_step};
 
 use crate::cursor::expect;
 use crate::fault::Fault;
+use crate::parts::with_part;
 use crate::tall::{TallExpr, TallGen, TallGens, TallType, TallTypeArg, TallTypeArgs};
 use cal_ast::{Gen, Ident, TypeArg, TypeExpr};
 use cal_lexer::{Token, Word};
@@ -55,52 +56,62 @@ pub fn closed_type(
 }
 
 /// An argument that is a type.
-pub fn shape_arg(name: Ident, shape: TallType) -> TallTypeArg
-    ensures is { type_arg_tree result.arg
-        ≡ shape_arg_tree (ident_tree name) (type_tree shape.shape) }
-    ensures high { result.high ≡ shape.high }
+pub fn shape_arg(alloc: Global, name: Ident, shape: TallType) -> Result<TallTypeArg, AllocError>
+    ensures is { IfOk result (λ x. tall_type_arg x
+        ≡ shape_arg_tree (ident_tree name) (tall_type shape)) }
+    ensures high { IfOk result (λ x. x.high ≡ shape.high) }
 {
-    TallTypeArg {
-        arg: TypeArg::Shape {
-            name,
-            shape: shape.shape,
-        },
+    let arg = TypeArg::Shape {
+        name,
+        shape: shape.shape,
+    };
+    Ok(TallTypeArg {
+        arg: Box::new(alloc, arg)?,
         high: shape.high,
-    }
+    })
 }
 
 /// An argument that is a value.
-pub fn value_arg(name: Ident, value: TallExpr) -> TallTypeArg
-    ensures is { type_arg_tree result.arg
-        ≡ value_arg_tree (ident_tree name) (expr_tree value.expr) }
-    ensures high { result.high ≡ value.high }
+pub fn value_arg(alloc: Global, name: Ident, value: TallExpr) -> Result<TallTypeArg, AllocError>
+    ensures is { IfOk result (λ x. tall_type_arg x
+        ≡ value_arg_tree (ident_tree name) (tall_tree value)) }
+    ensures high { IfOk result (λ x. x.high ≡ value.high) }
 {
-    TallTypeArg {
-        arg: TypeArg::Value {
-            name,
-            value: value.expr,
-        },
+    let arg = TypeArg::Value {
+        name,
+        value: Box::into_inner(value.expr),
+    };
+    Ok(TallTypeArg {
+        arg: Box::new(alloc, arg)?,
         high: value.high,
-    }
+    })
 }
 
 /// A generator that begins here.
-pub fn generated(at: u32, shape: TallType, name: Ident, from: TallExpr, to: TallExpr) -> TallGen
-    ensures is { gen_tree result.generator
-        ≡ gen (type_tree shape.shape) (ident_tree name) (expr_tree from.expr)
-        (expr_tree to.expr) at }
-    ensures high { result.high ≡ max shape.high (max from.high to.high) }
+pub fn generated(
+    alloc: Global,
+    at: u32,
+    shape: TallType,
+    name: Ident,
+    from: TallExpr,
+    to: TallExpr,
+) -> Result<TallGen, AllocError>
+    ensures is { IfOk result (λ x. tall_gen x
+        ≡ gen (tall_type shape) (ident_tree name) (tall_tree from) (tall_tree to) at) }
+    ensures high { IfOk result (λ x. x.high ≡ max shape.high (max from.high to.high)) }
 {
-    TallGen {
-        generator: Gen {
-            shape: shape.shape,
-            name,
-            from: from.expr,
-            to: to.expr,
-            at,
-        },
-        high: shape.high.max(from.high.max(to.high)),
-    }
+    let high = shape.high.max(from.high.max(to.high));
+    let generator = Gen {
+        shape: shape.shape,
+        name,
+        from: Box::into_inner(from.expr),
+        to: Box::into_inner(to.expr),
+        at,
+    };
+    Ok(TallGen {
+        generator: Box::new(alloc, generator)?,
+        high,
+    })
 }
 
 /// No arguments.
@@ -117,11 +128,10 @@ pub fn no_type_args(alloc: Global) -> TallTypeArgs
 /// These arguments and one more.
 pub fn with_type_arg(found: TallTypeArgs, next: TallTypeArg) -> Result<TallTypeArgs, AllocError>
     ensures is { IfOk result (λ xs. map type_arg_tree xs.args.items
-        ≡ map type_arg_tree found.args.items ++ type_arg_tree next.arg ∷ []) }
+        ≡ map type_arg_tree found.args.items ++ tall_type_arg next ∷ []) }
     ensures high { IfOk result (λ xs. xs.high ≡ max found.high next.high) }
 {
-    let mut args = found.args;
-    args.push(next.arg)?;
+    let args = with_part(found.args, next.arg)?;
     Ok(TallTypeArgs {
         args,
         high: found.high.max(next.high),
@@ -142,11 +152,10 @@ pub fn no_gens(alloc: Global) -> TallGens
 /// These generators and one more.
 pub fn with_gen(found: TallGens, next: TallGen) -> Result<TallGens, AllocError>
     ensures is { IfOk result (λ xs. map gen_tree xs.gens.items
-        ≡ map gen_tree found.gens.items ++ gen_tree next.generator ∷ []) }
+        ≡ map gen_tree found.gens.items ++ tall_gen next ∷ []) }
     ensures high { IfOk result (λ xs. xs.high ≡ max found.high next.high) }
 {
-    let mut gens = found.gens;
-    gens.push(next.generator)?;
+    let gens = with_part(found.gens, next.generator)?;
     Ok(TallGens {
         gens,
         high: found.high.max(next.high),

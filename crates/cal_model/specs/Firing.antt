@@ -98,7 +98,8 @@ body actor x u a = elim (slice_get actor.actions a) [
 
 -- The action fires: it takes so many tokens from each input port, sends these on each output port, and leaves this
 -- state.
-pub record IsFiring (actor : Actor) (x : State) (u : List (List ℤ)) (a : ℕ) (y : State) (taken : ℕ → ℕ) (sent : List (List ℤ)) : Type 0 where
+pub record IsFiring (actor : Actor) (x : State) (u : List (List ℤ)) (a : ℕ) (y : State)
+    (taken : ℕ → ℕ) (sent : List (List ℤ)) : Type 0 where
   pub exposed : IsExposed actor x u a
   pub enabled : IsEnabled actor x u a
   pub takes : (port : ℕ) → taken port ≡ need actor a port

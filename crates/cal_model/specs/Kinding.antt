@@ -194,7 +194,10 @@ pub data Argument : Type 0 where
   OfSize : List ℕ → ℤ → Argument
 
 abbrev pub is_word : List ℕ → Bool
-is_word name = bytes_eq name (codes "bool") || bytes_eq name (codes "int") || bytes_eq name (codes "uint") || bytes_eq name (codes "List") || bytes_eq name (codes "float") || bytes_eq name (codes "half") || bytes_eq name (codes "String")
+is_word name =
+    bytes_eq name (codes "bool") || bytes_eq name (codes "int") || bytes_eq name (codes "uint")
+    || bytes_eq name (codes "List") || bytes_eq name (codes "float") || bytes_eq name (codes "half")
+    || bytes_eq name (codes "String")
 
 abbrev pub bits_of : ℤ → (ℕ → Scalar) → ℕ → Judged Shape
 bits_of (pos n) f at = if nat_le 1 n && nat_le n max_size then Fine (Single (f n))
@@ -204,7 +207,8 @@ bits_of (negsuc n) f at = Broken wrong_type_argument at
 -- a number type, whose one argument may be its size
 abbrev pub number_type : List Argument → (ℕ → Scalar) → ℕ → Judged Shape
 number_type [] f at = Fine (Single (f default_size))
-number_type (OfSize name z ∷ []) f at = if bytes_eq name (codes "size") then bits_of z f at else Broken wrong_type_argument at
+number_type (OfSize name z ∷ []) f at =
+    if bytes_eq name (codes "size") then bits_of z f at else Broken wrong_type_argument at
 number_type args f at = Broken wrong_type_argument at
 
 abbrev pub truth_type : List Argument → ℕ → Judged Shape
@@ -219,8 +223,12 @@ list_type_of t (negsuc n) at = Broken wrong_type_argument at
 
 -- a list type, whose arguments are the type of its items and its size, in either order
 abbrev pub list_type : List Argument → ℕ → Judged Shape
-list_type (OfShape name t ∷ OfSize other z ∷ []) at = if bytes_eq name (codes "type") && bytes_eq other (codes "size") then list_type_of t z at else Broken wrong_type_argument at
-list_type (OfSize other z ∷ OfShape name t ∷ []) at = if bytes_eq name (codes "type") && bytes_eq other (codes "size") then list_type_of t z at else Broken wrong_type_argument at
+list_type (OfShape name t ∷ OfSize other z ∷ []) at =
+    if bytes_eq name (codes "type") && bytes_eq other (codes "size") then list_type_of t z at
+    else Broken wrong_type_argument at
+list_type (OfSize other z ∷ OfShape name t ∷ []) at =
+    if bytes_eq name (codes "type") && bytes_eq other (codes "size") then list_type_of t z at
+    else Broken wrong_type_argument at
 list_type args at = Broken wrong_type_argument at
 
 abbrev pub type_with : List ℕ → List Argument → ℕ → Judged Shape

@@ -1,20 +1,3 @@
-pub mod Blanks
-pub mod Digits
-pub mod Lexing
-pub mod Lexed
-pub mod Printables
-pub mod Again
-pub mod Samples
-mod Phrases
-mod RespelledExpressions
-mod RespelledStatements
-mod RespelledMembers
-mod RespelledFiles
-mod Said
-mod Operands
-mod Respelled
-mod Placeless
-mod ReadAgain
 pub mod Texts
 pub mod Loops
 pub mod Forms

@@ -4,7 +4,6 @@
 mod action;
 mod expr;
 mod file;
-mod laws;
 mod member;
 mod name;
 mod operators;
@@ -13,4 +12,3 @@ mod stmt;
 mod writer;
 
 pub use file::print_file;
-pub use laws::{canonical_text_is_read_back, offsets_do_not_show, one_canonical_text};

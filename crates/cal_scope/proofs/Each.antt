@@ -1,5 +1,5 @@
 -- Lists of expressions, generators and arguments of types as parts in order.
-use Rattle.std.proofs.Common.{◌≡◌, ℕ, List, [], ◌∷◌, map, refl, ap, ◌∙◌}
+use Rattle.std.proofs.Common.{◌≡◌, ℕ, List, [], ◌∷◌, map, refl, ap}
 use Rattle.cal_ast.specs.Tree.{Tree, listed}
 use Rattle.cal_ast.specs.View.{expr_tree, gen_tree, type_arg_tree}
 use Rattle.cal_ast.specs.declared.expr.Expr.{Expr}

@@ -1,5 +1,5 @@
 -- Lists of variables, formals, statements, patterns, outputs and members as parts in order.
-use Rattle.std.proofs.Common.{◌≡◌, ℕ, false, List, [], ◌∷◌, map, refl, ap, ◌∙◌}
+use Rattle.std.proofs.Common.{◌≡◌, ℕ, false, List, [], ◌∷◌, map, refl, ap}
 use Rattle.std.specs.Prelude.{string_bytes, if◌then◌else◌}
 use Rattle.rvc_base.specs.Rules.{declared_twice}
 use Rattle.cal_ast.specs.Tree as tree

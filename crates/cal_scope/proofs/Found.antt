@@ -1,5 +1,5 @@
 -- Names among others, and the index of the names of a file.
-use Rattle.std.proofs.Common.{◌≡◌, ℕ, Bool, true, false, cond, ◌||◌, List, [], ◌∷◌, ◌++◌, map, refl, sym, ap, ◌∙◌}
+use Rattle.std.proofs.Common.{◌≡◌, ℕ, Bool, true, false, cond, ◌||◌, List, [], ◌∷◌, ◌++◌, map, refl, ap, ◌∙◌}
 use Rattle.std.proofs.lemmas.List.{map-append}
 use Rattle.std.proofs.lemmas.Slice.Eq.{bytes_eq-Decides}
 use Rattle.std.specs.Prelude.{Option, None, Some, String, if◌then◌else◌, option_map, option_copied, string_bytes}
@@ -10,7 +10,7 @@ use Rattle.std.specs.Str.{bytes_eq}
 use Rattle.std.specs.declared.alloc.Global.{Global as Heap}
 use Rattle.indexmap.specs.IndexMap.{IndexMap, insert_entry}
 use Rattle.indexmap.proofs.CallerLemmas.{insert_entry-new}
-use Rattle.cal_scope.specs.Names.{Global, global_named, is_among, with_name}
+use Rattle.cal_scope.specs.Names.{global_named, is_among, with_name}
 use Rattle.cal_scope.specs.Meanings.{global_of, meaning_of}
 use Rattle.cal_scope.specs.declared.file_names.Meaning.{Meaning}
 

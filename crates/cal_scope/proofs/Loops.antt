@@ -1,8 +1,8 @@
 -- Parts in order, one part off.
-use Rattle.std.proofs.Common.{◌≡◌, ℕ, suc, ◌+◌, ◌<◌, ◌≤◌, List, [], ◌∷◌, ◌++◌, map, length, drop, get_or, refl, sym, ap, subst, ◌∙◌, add-one, arith}
+use Rattle.std.proofs.Common.{◌≡◌, ℕ, ◌+◌, ◌<◌, ◌≤◌, List, [], ◌∷◌, ◌++◌, map, length, drop, get_or, refl, sym, ap, subst, ◌∙◌, add-one}
 use Rattle.std.proofs.Math.Seq.{drop-cons}
 use Rattle.std.proofs.lemmas.List.{drop_all, append_assoc, append-nil}
-use Rattle.cal_ast.specs.Tree.{Tree, listed, cons}
+use Rattle.cal_ast.specs.Tree.{Tree, listed}
 use Rattle.cal_model.specs.Kinding.{Judged, Fine, Broken, and_so}
 use Rattle.cal_scope.specs.Names.{with_name}
 use Rattle.cal_scope.specs.Expressions.{declared_by, declared_name}

@@ -1,15 +1,15 @@
 -- Worked rows: parts with their names written out in full, and the rules that others break.
-use Rattle.std.proofs.Common.{◌≡◌, ℕ, ◌+◌, List, [], ◌∷◌, true, false, refl}
+use Rattle.std.proofs.Common.{◌≡◌, ℕ, ◌+◌, List, [], ◌∷◌, false, refl}
 use Rattle.std.specs.Prelude.{codes}
 use Rattle.rvc_base.specs.Rules.{unknown_name, declared_twice, not_as_asked}
 use Rattle.cal_ast.specs.Tree as tree
 use Rattle.cal_ast.specs.Tree.{Tree, listed}
-use Rattle.cal_model.specs.Kinding.{Judged, Fine, Broken}
+use Rattle.cal_model.specs.Kinding.{Fine, Broken}
 use Rattle.cal_scope.specs.declared.role.Role.TheVariants.{Variable, Function, Procedure}
-use Rattle.cal_scope.specs.Names.{Global, Names}
+use Rattle.cal_scope.specs.Names.{Names}
 use Rattle.cal_scope.specs.Expressions.{expr_resolved, type_resolved}
 use Rattle.cal_scope.specs.Statements.{stmt_resolved, vars_resolved}
-use Rattle.cal_scope.specs.Members.{Ports, action_resolved, function_resolved, members_resolved}
+use Rattle.cal_scope.specs.Members.{Ports, action_resolved}
 
 -- the variable `n`, the function `f` and the procedure `p` of the file, and `k` of the unit `U`
 abbrev names : Names

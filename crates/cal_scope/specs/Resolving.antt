@@ -1,7 +1,7 @@
 -- What calls answer for a part that sees names.
 -- Trusted: part of what a promise means.
 use Rattle.std.specs.declared.result.Result.{Result}
-use Rattle.std.specs.Prelude.{List, Vec}
+use Rattle.std.specs.Prelude.{Vec}
 use Rattle.std.specs.declared.alloc.Global.{Global as Heap}
 use Rattle.cal_ast.specs.Tree.{Tree}
 use Rattle.cal_ast.specs.View.{expr_tree, stmt_tree, type_arg_tree}

@@ -91,7 +91,8 @@ fn patterns(
     patterns: &[Pattern],
     here: &mut NameSet,
 ) -> Result<Vec<Pattern>, ScopeFault>
-    ensures judged { Judges pattern_trees result (patterns_among ports.now patterns.now here.old (names_view names.now)) }
+    ensures judged { Judges pattern_trees result
+        (patterns_among ports.now patterns.now here.old (names_view names.now)) }
     ensures here { OnOk result (here.new ≡ declared_by_patterns (patterns_tree patterns.now)
         here.old) }
 {

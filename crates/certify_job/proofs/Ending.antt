@@ -1,5 +1,5 @@
 -- How a command ends, from what the engine, the port words and the certification rule answer.
-use Rattle.std.proofs.Common.{◌≡◌, ℕ, List, [], refl, sym, ap, subst}
+use Rattle.std.proofs.Common.{ℕ, List, [], refl, sym, ap, subst}
 use Rattle.rvc_base.specs.declared.refusal.Refusal.{Refusal}
 use Rattle.cal_model.specs.Laws.{SoundHavePriorities}
 use Rattle.determinacy_cert.specs.Certifying.{NoFailureWhereCertified}

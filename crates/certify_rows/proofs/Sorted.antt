@@ -17,7 +17,7 @@ use Rattle.certify_rows.specs.declared.actors.Takes.TheVariants.{One, Two, Other
 use Rattle.certify_rows.specs.declared.sorting.Sort.{Sort}
 use Rattle.certify_rows.specs.declared.sorting.Sort.TheVariants.{Number, Truth, Unfit}
 use Rattle.certify_rows.specs.Examples.{taken, of_actions}
-use Rattle.certify_rows.specs.Sorts.{both, branches, called, is_list, is_nil, item, named, of_numbers, of_truths, prefixed, is_token, sort, token}
+use Rattle.certify_rows.specs.Sorts.{both, branches, is_list, is_nil, item, of_numbers, of_truths, prefixed, is_token, sort, token}
 
 -- the names that the guard of an action sees
 abbrev pub scope : Takes → Names

@@ -1,13 +1,13 @@
 -- An example with guards that are truth values is sound.
-use Rattle.std.proofs.Common.{◌≡◌, ◌≢◌, ℕ, zero, suc, ◌<◌, ◌≤◌, Bool, true, false, List, [], ◌∷◌, ◌++◌, length, refl, sym, ap, ◌∙◌, arith, codes, None, Some}
-use Rattle.std.specs.Prelude.{Contains, slice_get, if◌then◌else◌, ◌==◌, map}
+use Rattle.std.proofs.Common.{◌≡◌, ℕ, zero, suc, ◌<◌, ◌≤◌, Bool, true, false, List, [], ◌∷◌, ◌++◌, length, refl, sym, ap, ◌∙◌, arith, codes, None, Some}
+use Rattle.std.specs.Prelude.{Contains, slice_get, if◌then◌else◌, ◌==◌}
 use Rattle.std.proofs.lemmas.Int.{ints}
 use Rattle.rvc_base.specs.Chain.{ChainLeads}
 use Rattle.cal_ast.specs.Tree.{Tree}
 use Rattle.cal_model.specs.Value.{BoolKind}
-use Rattle.cal_model.specs.Actor.{Action, Actor}
+use Rattle.cal_model.specs.Actor.{Action}
 use Rattle.cal_model.specs.Rates.{need, give, taken_on}
-use Rattle.cal_model.specs.Sound.{IsSound, IsAction, IsPattern, ActionHidesNoCall, AreDistinct, AreTagged, IsRepeat, Each, names_in_patterns}
+use Rattle.cal_model.specs.Sound.{IsSound, IsAction, ActionHidesNoCall, AreDistinct, AreTagged, IsRepeat, Each, names_in_patterns}
 use Rattle.certify_rows.specs.declared.actors.Takes.{Takes}
 use Rattle.certify_rows.specs.declared.actors.Takes.TheVariants.{One, Two, Other, Four}
 use Rattle.certify_rows.specs.Examples.{acting, example, inlets, of_actions, ranks, taken}

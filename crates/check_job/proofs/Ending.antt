@@ -13,7 +13,6 @@ use Rattle.net_model.specs.Network.{Network}
 use Rattle.net_model.specs.Ready.{port_of}
 use Rattle.net_model.specs.declared.wiring.Port.{Port}
 use Rattle.port_words.specs.Matching.{AreMatched, IsWrongWord, names_of}
-use Rattle.run_report.specs.About.{About}
 use Rattle.run_report.specs.Report.{size_lines}
 use Rattle.run_report.specs.declared.status.Status.TheVariants as status
 use Rattle.rvc_engine.specs.Checked.{IsChecked, IsNetworkOf}

@@ -43,7 +43,8 @@ module _ {P X : Type 0} (state : P → X) (marked : P → Bool) (gives : X → X
     -- it drew no more numbers past the last place than it stands for passes
     pub few_past : past (length put) v.drawn ≤ v.passes
 
-pub record Kept {P X : Type 0} (state : P → X) (marked : P → Bool) (gives : X → X → Type 0) (put : List P) (passes : ℕ) (s : State (Slot P) (View P)) : Type 0 where
+pub record Kept {P X : Type 0} (state : P → X) (marked : P → Bool) (gives : X → X → Type 0)
+    (put : List P) (passes : ℕ) (s : State (Slot P) (View P)) : Type 0 where
   -- the one word is the counter
   pub counter : ℕ
   pub word : s.words ≡ counter ∷ []

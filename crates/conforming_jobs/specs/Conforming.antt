@@ -33,7 +33,8 @@ no_ports net = []
 
 -- All files that the top needs are there and break no rule, and mean this network; and each port word names one of its ports
 -- that are opened, no two the same one. Where none is opened, there is no port word.
-pub record ConformsWith (opened : Opened) (library : Library) (top : Asked) (words : List PortText) (net : Network State) : Type 0 where
+pub record ConformsWith (opened : Opened) (library : Library) (top : Asked) (words : List PortText)
+    (net : Network State) : Type 0 where
   pub means : IsLibraryNetwork library top net
   pub matched : AreMatched (opened net) words
 

@@ -1,6 +1,6 @@
 -- The expressions that must be constant inside parts as they lie in memory.
 -- Not trusted: no promise is read with it.
-use Rattle.std.specs.Prelude.{List, ◌∷◌, ◌++◌, map}
+use Rattle.std.specs.Prelude.{List, ◌∷◌, map}
 use Rattle.cal_ast.specs.Tree.{Tree, listed}
 use Rattle.cal_ast.specs.View.{expr_tree, gen_tree}
 use Rattle.cal_ast.specs.declared.expr.Expr.{Expr}

@@ -27,7 +27,8 @@ abbrev pub LeadsTo : {X : Type 0} → Network X → List (List ℕ) → List Eve
 LeadsTo net inputs events s = run net (start_of net inputs) events ≡ Some s
 
 -- .. that is quiet
-pub record IsQuietRun {X : Type 0} (net : Network X) (inputs : List (List ℕ)) (events : List Event) (q : State X) : Type 0 where
+pub record IsQuietRun {X : Type 0} (net : Network X) (inputs : List (List ℕ)) (events : List Event)
+    (q : State X) : Type 0 where
   pub leads : LeadsTo net inputs events q
   pub quiet : IsQuiet net q
 

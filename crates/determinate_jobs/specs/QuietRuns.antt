@@ -30,7 +30,8 @@ use Rattle.run_job.specs.Ends.{Comes, Ran}
 -- state. Each output has there what the run sent to it, or more behind that, and no more if the run was quiet itself; what
 -- the run wrote to the file of an output begins or is that, too. If the run trapped, there are no such events. If it ended
 -- by its budget, these have more firings than the budget permits.
-pub record GoesOn {X : Type 0} (run : Setting X) (end : Line) (last : State X) (channels : Channels) (events : List Event) (quiet : State X) : Type 0 where
+pub record GoesOn {X : Type 0} (run : Setting X) (end : Line) (last : State X) (channels : Channels)
+    (events : List Event) (quiet : State X) : Type 0 where
   pub continues : (p : ℕ) → IsPrefix (bytes_out run.net last p) (bytes_out run.net quiet p)
   pub equals : end ≡ QuietLine → (p : ℕ) → bytes_out run.net quiet p ≡ bytes_out run.net last p
   pub file_continues : channels.tells ≡ true → (p : ℕ) (file : List ℕ) → file_out run p ≡ Some file
@@ -49,13 +50,15 @@ AllGoOn {X} run end counts channels ended = (events : List Event) (quiet : State
 -- ---- a command
 
 -- the actors at the leaves of the network that a command ran
-abbrev pub actors_of : {cmd : Command} {net : Network ActorState} {end : Line} {counts : Counts} {lines : List ℕ} {about : About}
+abbrev pub actors_of : {cmd : Command} {net : Network ActorState} {end : Line} {counts : Counts}
+    {lines : List ℕ} {about : About}
     → Ran cmd net end counts lines about → List Actor
 actors_of ran = ran.is_to_run.files.means.actors
 
 -- A command ran until this line. Each of its actors is certified exactly if its report counts as many that are as there are
 -- instances. If they are, then whatever bytes its inputs have, every quiet run over these goes on from where it ended.
-pub record TellsQuietRuns {cmd : Command} {net : Network ActorState} {end : Line} {counts : Counts} {lines : List ℕ} {about : About} (ran : Ran cmd net end counts lines about) : Type 0 where
+pub record TellsQuietRuns {cmd : Command} {net : Network ActorState} {end : Line} {counts : Counts}
+    {lines : List ℕ} {about : About} (ran : Ran cmd net end counts lines about) : Type 0 where
   pub shown : (ran.certified ≡ about.instances) ↔ Each IsCertified (actors_of ran)
   pub go_on : Each IsCertified (actors_of ran) → (inputs : List (List ℕ))
       → (given : AreGiven cmd net inputs) → AllGoOn (run_over cmd net inputs) end counts

@@ -1,5 +1,5 @@
 -- Code of an expression writes only cells that may be written, and reads only tokens that may be read.
-use Rattle.std.proofs.Common.{◌≡◌, ℕ, zero, suc, ◌+◌, ◌*◌, ◌<◌, ◌≤◌, Bool, List, [], ◌∷◌, ◌++◌, length, true, false, refl, sym, ap, ◌∙◌, subst, Option, None, Some, arith}
+use Rattle.std.proofs.Common.{◌≡◌, ℕ, zero, suc, ◌+◌, ◌*◌, ◌≤◌, Bool, List, [], ◌∷◌, ◌++◌, true, false, ap, ◌∙◌, subst, Some, arith}
 use Rattle.std.specs.Prelude.{if◌then◌else◌, pos, slice_get}
 use Rattle.std.specs.Str.{bytes_eq}
 use Rattle.rvc_base.specs.declared.scalar.Scalar.{Scalar}
@@ -16,15 +16,15 @@ use Rattle.expr_lower.specs.declared.callees.Formal.{Formal}
 use Rattle.expr_lower.specs.declared.names.ItemList.{ItemList}
 use Rattle.expr_lower.specs.declared.names.Seat.{Seat}
 use Rattle.expr_lower.specs.declared.names.Seat.TheVariants.{Cell, Tokens}
-use Rattle.expr_lower.specs.Allowing.{Allowed, Allows, AreAllowed, AreRead, AreWritten, IsAllowed, MayRead, MayWrite, SeatIsRead}
-use Rattle.expr_lower.specs.Callees.{Function, function_for}
+use Rattle.expr_lower.specs.Allowing.{Allowed, Allows, AreAllowed, AreRead, AreWritten, IsAllowed, MayWrite, SeatIsRead}
+use Rattle.expr_lower.specs.Callees.{Function}
 use Rattle.expr_lower.specs.Coding.{AreArgs, IsCode, IsOffset, IsTest, in_another_way, arg_more, call, call_code, formal_stores, no_arg, number, too_great, negative, truth, variable, paren, prefix, binary, both, either, if_code, tested, both_tested, seat_instr, prefix_instr, binary_instr, item, item_instr, deep_item, whole, row, row_instr}
 use Rattle.expr_lower.specs.Listed.{list_named}
 use Rattle.expr_lower.specs.Names.{Name, IsSingle, local_of, named}
 use Rattle.expr_lower.specs.Parted.{deep_named, number_of}
 use Rattle.expr_lower.specs.Starting.{IsStart, at_value, at_zero}
 use Rattle.expr_lower.proofs.Finding.{is_found}
-use Rattle.expr_lower.proofs.Grown.{grows, grows_args, grows_offset, grows_test}
+use Rattle.expr_lower.proofs.Grown.{grows, grows_offset, grows_test}
 use Rattle.expr_lower.proofs.Listing.{IsListName, found}
 use Rattle.expr_lower.proofs.PartValues.{IsDeep, IsPartOf, deep_found, part_found, sized_is}
 

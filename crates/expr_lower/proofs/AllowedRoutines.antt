@@ -1,9 +1,9 @@
 -- The code of a function writes only cells that may be written, and reads only tokens that may be read.
-use Rattle.std.proofs.Common.{◌≡◌, ℕ, ◌+◌, ◌≤◌, List, [], ◌∷◌, ◌++◌, length, true, refl, subst, Some, arith}
+use Rattle.std.proofs.Common.{◌≡◌, ℕ, ◌+◌, ◌≤◌, List, [], ◌∷◌, length, true, arith}
 use Rattle.rvc_base.specs.declared.scalar.Scalar.{Scalar}
 use Rattle.cal_ast.specs.Tree.{Tree}
 use Rattle.cal_model.specs.Actor.{Local, Fun}
-use Rattle.cal_model.specs.Value.{Shape, Single}
+use Rattle.cal_model.specs.Value.{Single}
 use Rattle.code_ir.specs.declared.instr.Instr.{Instr}
 use Rattle.expr_lower.specs.declared.callees.Formal.{Formal}
 use Rattle.expr_lower.specs.Allowing.{Allowed, Allows, AreAllowed, AreRead, AreWritten}

@@ -1,5 +1,5 @@
 -- Nothing is left out of a number that is written by literals and `-` alone.
-use Rattle.std.proofs.Common.{◌≡◌, ℕ, ℤ, List, refl, sym, ap, ◌∙◌, subst, Option, None, Some}
+use Rattle.std.proofs.Common.{◌≡◌, ℤ, List, refl, sym, ap, ◌∙◌, subst, Option, None, Some}
 use Rattle.cal_ast.specs.declared.expr.PrefixOp.{PrefixOp}
 use Rattle.cal_ast.specs.declared.expr.PrefixOp.TheVariants.{Neg}
 use Rattle.cal_ast.specs.declared.expr.BinOp.{BinOp}

@@ -1,7 +1,6 @@
 -- Generators that are written out count as they are seen to.
 use Rattle.std.proofs.Common.{◌≡◌, ℕ, zero, suc, ◌*◌, ℤ, pos, ◌+ℤ◌, Bool, true, false, refl, sym, ap, ◌∙◌, subst, Option, None, Some, arith}
-use Rattle.std.specs.Prelude.{◌^◌, if◌then◌else◌, int_lt, nat_lt, ◌||◌, ◌-ℤ◌, neg_ℤ, unsigned_abs}
-use Rattle.std.proofs.lemmas.Bool.Decides.{nat_tests}
+use Rattle.std.specs.Prelude.{◌^◌, if◌then◌else◌, int_lt, nat_lt, ◌||◌, ◌-ℤ◌, unsigned_abs}
 use Rattle.std.proofs.lemmas.Int.{ints}
 use Rattle.rvc_base.specs.declared.scalar.Scalar.{Scalar}
 use Rattle.rvc_base.specs.Turns.{max_turns}

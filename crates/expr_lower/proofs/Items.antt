@@ -6,7 +6,7 @@ use Rattle.std.proofs.lemmas.Bool.Decides.{nat_tests}
 use Rattle.rvc_base.specs.declared.trap.Trap.TheVariants.{IndexRange}
 use Rattle.cal_ast.specs.Tree as tree
 use Rattle.cal_ast.specs.Tree.{Tree}
-use Rattle.cal_model.specs.Value.{Value, Num, Truth, Items, Values, count, value_at, HaveKind, kind_of_scalar}
+use Rattle.cal_model.specs.Value.{Value, Num, Truth, Items, Values, count, value_at}
 use Rattle.cal_model.specs.Outcome.{Out, Gives, Traps, and_then}
 use Rattle.cal_model.specs.Env.{Env}
 use Rattle.cal_model.specs.Expression.{eval, indexed}

@@ -62,7 +62,8 @@ outside globals = record { globals = globals; locals = [] }
 
 -- The run goes on to a place, with one frame less and with the one number of a value of a type on the stack. It uses
 -- only the cells of routines.
-pub record Returns (w : World) (t : Scalar) (s : State) (back : ℕ) (frames : List ℕ) (v : Value) (left : ℕ) : Type 0 where
+pub record Returns (w : World) (t : Scalar) (s : State) (back : ℕ) (frames : List ℕ) (v : Value)
+    (left : ℕ) : Type 0 where
   pub kind : HasKind (kind_of_scalar t) v
   pub number : ℤ
   pub is : flat v ≡ number ∷ []
@@ -97,7 +98,8 @@ HasRoom fs high cells = 0 < length fs → high ≤ length cells
 
 -- The names and the globals have cells below n and outside those of routines, and the cells hold what the names mean in
 -- an environment, and what the globals do.
-pub record Prepared (w : World) (globals names : List Name) (fs : List Function) (n : ℕ) (cells : List ℤ) (env : Env) : Type 0 where
+pub record Prepared (w : World) (globals names : List Name) (fs : List Function) (n : ℕ)
+    (cells : List ℤ) (env : Env) : Type 0 where
   pub apart : AllApart w.low w.high names
   pub globals_apart : AllApart w.low w.high globals
   pub globals_below : AreBelow n globals
@@ -108,7 +110,8 @@ pub record Prepared (w : World) (globals names : List Name) (fs : List Function)
 -- Wherever these instructions stand, in code that has the routines, they do what evaluating the expression does: they
 -- push the value or trap, after as many turns; and a run of them has no other end. Of the cells, they use those from n
 -- to m and those of routines.
-pub record EvaluatesWith (fs : List Function) (names : List Name) (e : Tree) (base n m : ℕ) (code : List Instr) : Type 0 where
+pub record EvaluatesWith (fs : List Function) (names : List Name) (e : Tree) (base n m : ℕ)
+    (code : List Instr) : Type 0 where
   pub goes : (w : World) (globals : List Name) (env : Env) (stack : List ℤ) (frames : List ℕ)
       (cells : List ℤ) (left : ℕ)
       → StandsAt w.code.instrs base code → Serves w globals fs
@@ -134,7 +137,8 @@ HasRoutines whole callable limit fs = (text : List ℕ) (f : Function)
 
 -- The instructions evaluate the expression and push its value. In any code that has the routines they fit if one
 -- operand more fits. They write no cells but their own and those of formals, and read no tokens but those of names.
-pub record IsLoweredWith (fs : List Function) (names : List Name) (e : Tree) (base n : ℕ) (code : List Instr) (m : ℕ) : Type 0 where
+pub record IsLoweredWith (fs : List Function) (names : List Name) (e : Tree) (base n : ℕ)
+    (code : List Instr) (m : ℕ) : Type 0 where
   pub cells : n ≤ m
   pub evaluates : EvaluatesWith fs names e base n m code
   pub fits : (whole : Code) (callable h : ℕ) → HasRoutines whole callable m fs

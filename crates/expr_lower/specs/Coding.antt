@@ -97,7 +97,8 @@ aimed out i = i
 
 -- Code that evaluates an expression in any other way: what is known of it is that it pushes the value, which is a
 -- single one, that it fits where it stands, that it has no jump whose target isn't known, and what it writes and reads.
-pub record IsOtherCode (fs : List Function) (names : List Name) (e : Tree) (base n : ℕ) (code : List Instr) (m : ℕ) : Type 0 where
+pub record IsOtherCode (fs : List Function) (names : List Name) (e : Tree) (base n : ℕ)
+    (code : List Instr) (m : ℕ) : Type 0 where
   pub cells : n ≤ m
   pub evaluates : AreBelow n names → EvaluatesWith fs names e base n m code
   pub singles : AreBelow n names

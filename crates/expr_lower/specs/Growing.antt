@@ -124,13 +124,18 @@ abbrev mutual
       | Some l ↦ left_out_fill fs names one place
       | None ↦ elim (deep_named names (tree.index base place at)) [
         | Some l ↦ left_out_places fs names base or_else left_out_fill fs names one place
-        | None ↦ left_out_apart (items_seen names base 0) one at (λ list. left_out_fill fs names list base) (left_out_fill fs names one place)
+        | None ↦ left_out_apart (items_seen names base 0) one at
+            (λ list. left_out_fill fs names list base) (left_out_fill fs names one place)
       ]
     ]
     | Many n items ↦ elim (part_named names (tree.index base place at)) [
-      | Some p ↦ if alike (Many n items) p.shape then elim (first_cell p.seat)
-          [ None ↦ Some at | Some c ↦ left_out_places fs names base or_else left_out_fill fs names one place ] else Some at
-      | None ↦ left_out_apart (items_seen names base 0) (Many n items) at (λ list. left_out_fill fs names list base) (left_out_fill fs names one place)
+      | Some p ↦ if alike (Many n items) p.shape then elim (first_cell p.seat) [
+        | None ↦ Some at
+        | Some c ↦ left_out_places fs names base
+            or_else left_out_fill fs names one place
+      ] else Some at
+      | None ↦ left_out_apart (items_seen names base 0) (Many n items) at
+          (λ list. left_out_fill fs names list base) (left_out_fill fs names one place)
     ]
   ]
   left_out_fill fs names t other = Some 0

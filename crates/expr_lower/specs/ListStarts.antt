@@ -31,7 +31,8 @@ pub record Starts (w : World) (t : Shape) (c m : ℕ) (s : State) (end : ℕ) (v
 -- Wherever these instructions stand, in code that has the routines, they do what starting the local does: they put its
 -- first value, stored in its type, into the cells from c on, or trap, after as many turns; and they fit there. Of the
 -- cells, they use those from c to m and those of routines; of the tokens, they read those of names.
-pub record StartsList (fs : List Function) (names : List Name) (x : Local) (c base : ℕ) (code : List Instr) (m : ℕ) : Type 0 where
+pub record StartsList (fs : List Function) (names : List Name) (x : Local) (c base : ℕ)
+    (code : List Instr) (m : ℕ) : Type 0 where
   pub cells : c + scalars_of_type x.shape ≤ m
   pub starts : AreBelow c names
       → (w : World) (globals : List Name) (env : Env) (stack : List ℤ) (frames : List ℕ)

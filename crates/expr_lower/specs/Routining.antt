@@ -64,7 +64,8 @@ pub data IsBody (fs : List Function) (t : Scalar) (e : Tree) :
       → IsBody fs t e names (x ∷ xs) base n (a ++ b) m
 
 -- The code of a function as a routine that is called by this name: its formals stand side by side in cells from n on.
-pub record IsRoutine (globals : List Name) (fs : List Function) (f : Fun) (g : Function) (base n : ℕ) (code : List Instr) (m : ℕ) : Type 0 where
+pub record IsRoutine (globals : List Name) (fs : List Function) (f : Fun) (g : Function)
+    (base n : ℕ) (code : List Instr) (m : ℕ) : Type 0 where
   pub text : g.text ≡ f.name
   pub result : g.result ≡ f.result
   pub formals : StandForFormals f.formals g.formals

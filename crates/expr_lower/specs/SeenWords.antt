@@ -64,7 +64,8 @@ IsWhy scope e draft fault = IsFault (left_out_in (called scope) (seen scope) e) 
 -- the place of the first part of two expressions that is left out
 abbrev pub first_left_out : Scope → Expr → Expr → Option ℕ
 first_left_out scope first second =
-    left_out_in (called scope) (seen scope) (expr_tree first) or_else left_out_in (called scope) (seen scope) (expr_tree second)
+    left_out_in (called scope) (seen scope) (expr_tree first)
+    or_else left_out_in (called scope) (seen scope) (expr_tree second)
 
 -- ---- locals
 

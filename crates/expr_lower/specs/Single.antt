@@ -1,6 +1,5 @@
 -- Single values.
 -- Trusted: part of what a promise means.
-use Rattle.std.specs.Prelude.{ℕ}
 use Rattle.rvc_base.specs.Width.{IsNum}
 use Rattle.cal_model.specs.Value.{Value, Num, Truth, Items}
 use Rattle.cal_model.specs.Outcome.{Out}

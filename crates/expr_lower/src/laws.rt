@@ -33,14 +33,17 @@ pub fn fitting_guards_are_admitted()
 
 /// Routines that stand in code for functions, each behind those that it calls, do what calling the functions does.
 pub fn routines_do_what_functions_do()
-    ensures { (globals : List Name) (whole : Code) (tokens : ℕ → List ℤ) (all : List Fun) (fs : List Function) (low n : ℕ)
+    ensures { (globals : List Name) (whole : Code) (tokens : ℕ → List ℤ) (all : List Fun)
+        (fs : List Function) (low n : ℕ)
         → AreBelow low globals → AreRoutines globals whole all low fs n
         → Serves (world_of whole tokens (calls_of all) low n) globals fs }
 {}
 
 /// The code of a routine fits where it stands in code that has the routines which it calls, with cells for all of them.
 pub fn routines_fit()
-    ensures { (whole : Code) (callable limit : ℕ) (globals : List Name) (fs : List Function) (f : Fun) (g : Function) (base n m : ℕ) (code : List Instr)
+    ensures { (whole : Code) (callable limit : ℕ) (globals : List Name) (fs : List Function)
+        (f : Fun) (g : Function) (base n m : ℕ) (code : List Instr)
         → HasRoutines whole callable limit fs → AreBelow n globals → FunSized f → m ≤ limit
-        → StandsAt whole.instrs base code → IsRoutine globals fs f g base n code m → FitsAsRoutine whole callable limit base code }
+        → StandsAt whole.instrs base code → IsRoutine globals fs f g base n code m
+        → FitsAsRoutine whole callable limit base code }
 {}

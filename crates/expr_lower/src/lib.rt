@@ -1,8 +1,9 @@
-//! Code for expressions and for functions: instructions that do what evaluating an expression or calling a function
-//! does.
+//! What code for expressions and functions is made of, and what it does: what evaluating an expression or calling a
+//! function does.
 //!
-//! Code is appended to a [`Draft`]. Names stand for cells or tokens that hold their values, number by number. The
-//! crate `stmt_lower` makes code of statements over what is public here.
+//! Code is appended to a [`Draft`]. Names stand for cells or tokens that hold their values, number by number. Of
+//! expressions without parts code is made here; the crate `list_lower` makes that of all others and of functions, and
+//! `stmt_lower` that of statements, over what is public here.
 #![tactic(auto)]
 
 mod callees;

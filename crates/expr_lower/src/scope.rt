@@ -1,6 +1,6 @@
 //! What a part sees: the locals round it, and the names outside them.
 
-ghost use Rattle.std.specs.Prelude.{◌≡◌, ◌∷◌, IfNone, IfSome, List};
+ghost use Rattle.std.specs.Prelude.{◌≡◌, ◌∷◌, IfNone, IfSome};
 ghost use Rattle.expr_lower.specs.Callees.{functions_view};
 ghost use Rattle.expr_lower.specs.Names.{names_view};
 ghost use Rattle.expr_lower.specs.Seen.{IsHidden, IsNotLocal, called, local_in, local_name, locals_of, seen};

@@ -1,12 +1,12 @@
 -- What the tests of names and limits say.
-use Rattle.std.proofs.Common.{◌≡◌, ◌≢◌, ℕ, ◌≤◌, Bool, true, false, List, [], ◌∷◌, length, map, refl, sym, ap, subst, ◌∙◌}
+use Rattle.std.proofs.Common.{◌≡◌, ◌≢◌, ℕ, ◌≤◌, Bool, true, false, List, [], ◌∷◌, length, refl, sym, ◌∙◌}
 use Rattle.std.specs.Prelude.{All, AllPairs, nat_le, ◌&&◌, if◌then◌else◌}
 use Rattle.std.specs.Str.{bytes_eq}
 use Rattle.std.proofs.lemmas.Bool.{leb-true}
 use Rattle.std.proofs.lemmas.List.Elements.{All-nil, All-cons}
 use Rattle.std.proofs.lemmas.Slice.Eq.{bytes_eq-Decides}
 use Rattle.cal_model.specs.Sound.{max_ports}
-use Rattle.fnl_tree.specs.Tree.{Part, Wire, Net}
+use Rattle.fnl_tree.specs.Tree.{Wire, Net}
 use Rattle.fnl_tree.specs.Sound.{IsNetSound, max_buffer_size}
 use Rattle.fnl_flatten.specs.Head.{Head, IsHeadSound, head_names}
 use Rattle.fnl_flatten.specs.Joints.{own_names}

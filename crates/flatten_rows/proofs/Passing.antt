@@ -1,7 +1,7 @@
 -- A tree that passes the tests may be flattened.
-use Rattle.std.proofs.Common.{◌≡◌, ℕ, suc, ◌+◌, ◌≤◌, true, List, [], ◌∷◌, ◌++◌, ◌-◌, length, map, sym, ap, subst, ◌∙◌, refl, arith}
+use Rattle.std.proofs.Common.{◌≡◌, ℕ, suc, ◌+◌, ◌≤◌, true, List, [], ◌∷◌, ◌++◌, ◌-◌, length, sym, ap, subst, ◌∙◌, arith}
 use Rattle.net_model.specs.Limits.{max_instances}
-use Rattle.fnl_tree.specs.Tree.{Tree, Net, Leaf, Part}
+use Rattle.fnl_tree.specs.Tree.{Tree, Net, Leaf}
 use Rattle.fnl_tree.specs.Sound.{IsSound}
 use Rattle.fnl_bind.proofs.Counted as counted
 use Rattle.flatten_rows.specs.Tested.{are_heads_fine, are_nets_fine}

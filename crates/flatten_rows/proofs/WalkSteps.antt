@@ -1,5 +1,5 @@
 -- One step of the walk, over the parts, networks and leaves as they lie in memory.
-use Rattle.std.proofs.Common.{◌≡◌, ℕ, suc, ◌+◌, ◌-◌, ◌≤◌, List, [], ◌∷◌, length, map, sym, ap, subst, ◌∙◌, arith}
+use Rattle.std.proofs.Common.{◌≡◌, ℕ, suc, ◌-◌, ◌≤◌, List, [], ◌∷◌, length, map, sym, ap, subst, ◌∙◌, arith}
 use Rattle.std.specs.Prelude.{Option, None, Some, IfSome}
 use Rattle.rvc_base.specs.declared.ids.InstId.{InstId}
 use Rattle.fnl_tree.specs.Tree.{InnerNet, InnerLeaf}

@@ -1,8 +1,8 @@
 -- A tree whose parts are numbered depth first holds each network and each actor once, in order.
-use Rattle.std.proofs.Common.{◌≡◌, ℕ, suc, ◌+◌, ◌-◌, ◌<◌, ◌≤◌, List, [], ◌∷◌, ◌++◌, length, Some, refl, sym, ap, subst, ◌∙◌, arith}
+use Rattle.std.proofs.Common.{◌≡◌, ℕ, suc, ◌+◌, ◌-◌, List, [], ◌∷◌, ◌++◌, length, Some, refl, sym, ap, subst, ◌∙◌, arith}
 use Rattle.std.specs.Prelude.{slice_get}
 use Rattle.std.proofs.lemmas.List.{length-append}
-use Rattle.fnl_tree.specs.Tree.{Inner, InnerNet, InnerLeaf, Part, Net, Leaf, Tree}
+use Rattle.fnl_tree.specs.Tree.{InnerNet, InnerLeaf, Part, Net, Leaf, Tree}
 use Rattle.fnl_tree.specs.Sound.{LeavesOf, numbers_from}
 use Rattle.fnl_bind.specs.Sound.{StandsOnce}
 use Rattle.fnl_bind.specs.Trees.{Grown, Filled, with_part}

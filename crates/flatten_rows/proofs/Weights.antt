@@ -1,5 +1,5 @@
 -- How many parts there are in networks: the measure of the walk.
-use Rattle.std.proofs.Common.{◌≡◌, ℕ, suc, ◌+◌, ◌≤◌, List, [], ◌∷◌, ◌++◌, length, map, ap, ◌∙◌, arith}
+use Rattle.std.proofs.Common.{◌≡◌, ℕ, suc, ◌+◌, ◌≤◌, List, [], ◌∷◌, ◌++◌, length, map, ap, arith}
 use Rattle.std.proofs.lemmas.List.{length-append}
 use Rattle.fnl_tree.specs.Tree.{Net}
 

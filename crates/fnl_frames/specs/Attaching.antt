@@ -1,6 +1,6 @@
 -- What becomes of an element that is open where one inside it ends, or has nothing inside.
 -- Trusted: part of what a promise means.
-use Rattle.std.specs.Prelude.{List, [], ◌∷◌, ◌++◌, Some}
+use Rattle.std.specs.Prelude.{[], ◌∷◌, ◌++◌, Some}
 use Rattle.cal_ast.specs.Tree.{Tree}
 use Rattle.fnl_frames.specs.Net.{Net, Port, Decl, Parameter, Instance, Size, Connection}
 use Rattle.fnl_frames.specs.Frames.{Frame, outside, in_network, in_port, in_decl, in_instance, in_parameter, in_connection, in_size, in_type, in_value, in_shape, in_list, in_unary, in_sequence, Class}

@@ -122,7 +122,8 @@ declaration at s b = if b == 108 then Going (record s { place = Quoted; declares
 -- The end of the declaration: the encoding, if it is given, is UTF-8 in either case.
 
 abbrev pub encodes : Attribute → Bool
-encodes (attribute name value at) = not (bytes_eq name (codes "encoding")) || str_eq_ignore_ascii_case value (codes "utf-8")
+encodes (attribute name value at) =
+    not (bytes_eq name (codes "encoding")) || str_eq_ignore_ascii_case value (codes "utf-8")
 
 abbrev pub declared : State → Next
 declared s =

@@ -3,7 +3,7 @@ use Rattle.std.proofs.Common.{◌≡◌, ℕ, length, Bool, true, false, List, [
 use Rattle.std.specs.Prelude.{if◌then◌else◌, nat_le, codes}
 use Rattle.rvc_base.specs.declared.refusal.Rule.{Rule}
 use Rattle.rvc_base.specs.Rules.{spells_no_network, unknown_element, wrong_attribute, nests_too_deep, name_too_long}
-use Rattle.cal_ast.specs.Tree.{Tree, ident, variable, number, truth, prefix, binary, list, listed, type_of, shape_arg, value_arg}
+use Rattle.cal_ast.specs.Tree.{Tree, ident, prefix, list, listed}
 use Rattle.cal_ast.specs.declared.expr.PrefixOp.{PrefixOp}
 use Rattle.cal_ast.specs.declared.expr.BinOp.{BinOp}
 use Rattle.fnl_markup.specs.Tags.{Attribute, attribute}

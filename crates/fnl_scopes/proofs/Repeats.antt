@@ -5,7 +5,7 @@ use Rattle.std.specs.Str.{bytes_eq}
 use Rattle.std.proofs.lemmas.List.{reverse-append}
 use Rattle.std.proofs.lemmas.Slice.Eq.{bytes_eq-Decides}
 use Rattle.rvc_base.specs.Rules.{network_name_twice}
-use Rattle.cal_check.specs.Violations.{Violation, Keyed, is_met, twice}
+use Rattle.cal_check.specs.Violations.{Keyed, is_met, twice}
 use Rattle.fnl_bind.specs.Library.{is_among}
 use Rattle.fnl_scopes.specs.Behind.{keyed, twice_behind}
 

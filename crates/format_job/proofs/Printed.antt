@@ -21,7 +21,7 @@ use Rattle.rvc_words.specs.declared.job.PortWord.{PortWord}
 use Rattle.port_words.specs.Matching.{IsWrong}
 use Rattle.rvc_base.specs.Rules.{unknown_port}
 use Rattle.format_job.specs.Formatting.{HasFile, IsDoneOrMemory, IsPreparing, IsPrinting, IsUnprinted, IsUnread, breaks_rules, lacks, passes}
-use Rattle.format_job.specs.Reports.{IsReported, Reports, about_file}
+use Rattle.format_job.specs.Reports.{IsReported, Reports}
 use Rattle.run_report.specs.About.{About}
 use Rattle.run_report.specs.Report.{last_line}
 use Rattle.run_report.specs.declared.status.ReadAt.{ReadAt}

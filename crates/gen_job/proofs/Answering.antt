@@ -1,6 +1,5 @@
 -- To what a command of the verb comes, by what the command comes to that is run for it.
-use Rattle.std.proofs.Common.{◌≡◌, inl, inr, ℕ, List, [], refl, sym, ap, subst, ◌∙◌, arith}
-use Rattle.rvc_base.specs.declared.refusal.Refusal.{Refusal}
+use Rattle.std.proofs.Common.{◌≡◌, inl, inr, ℕ, List, subst, arith}
 use Rattle.rvc_io.specs.Channels.{Appends, Channels, WritesOnlyAt}
 use Rattle.rvc_io.specs.Count.{HasRisen}
 use Rattle.channel_writer.specs.Held.{AppendsFront}

@@ -1,12 +1,12 @@
 -- What is run if the generated files conform to a network together with the port words.
-use Rattle.std.proofs.Common.{◌≡◌, ℕ, List, Option, None, Some, refl, sym, ap, subst, ◌∙◌}
+use Rattle.std.proofs.Common.{◌≡◌, ℕ, List, Option, None, Some, sym, ap, subst, ◌∙◌}
 use Rattle.std.specs.Prelude.{string_bytes}
 use Rattle.rvc_base.specs.declared.refusal.Refusal.{Refusal}
 use Rattle.rvc_io.specs.Files.{under}
 use Rattle.rvc_io.specs.MemLibrary.{told}
-use Rattle.rvc_io.specs.Told.{Told, Untold}
+use Rattle.rvc_io.specs.Told.{Untold}
 use Rattle.rvc_words.specs.Words.{JobText}
-use Rattle.actor_files.specs.Loading.{Library, TellsAll}
+use Rattle.actor_files.specs.Loading.{TellsAll}
 use Rattle.cal_model.specs.Selection.{State}
 use Rattle.net_model.specs.Network.{Network}
 use Rattle.conforming_jobs.specs.Conforming.{Conforms, OneConforms, output_names}
@@ -19,12 +19,11 @@ use Rattle.source_network.specs.Library.{LibraryNetworksAreOne}
 use Rattle.network_commands.specs.Answers.{IsAnswered, is_reported, is_unreported}
 use Rattle.network_commands.specs.Commands.{Command, ConformingAreNotRefused, HasFiles, IsToRun, top_of, words_of}
 use Rattle.network_commands.proofs.Words.{none_wrong}
-use Rattle.run_job.specs.Ends as run
 use Rattle.run_job.proofs.Deciding.{still_refused}
 use Rattle.generated_network.specs.Objects.{library_of}
 use Rattle.generated_network.specs.Texts.{files_of, top_name}
 use Rattle.gen_job.specs.Ends.{Comes, ComesFor, IsGenerated, IsRefused, IsStillRefused, Runs, by_run, by_words, of_run}
-use Rattle.gen_job.specs.Jobs.{GeneratedConform, instances_of, with_input}
+use Rattle.gen_job.specs.Jobs.{GeneratedConform, instances_of}
 
 -- a library in memory tells of each name
 all_told : (bytes : Option (List ℕ)) → told bytes ≡ Untold → ⊥

@@ -5,7 +5,7 @@ use Rattle.rvc_io.specs.Channels.{Channels, WritesOnlyAt}
 use Rattle.rvc_io.specs.Feeds.{Inputs}
 use Rattle.rvc_io.specs.Files.{File, under}
 use Rattle.rvc_io.specs.MemLibrary.{LibraryState, told}
-use Rattle.rvc_words.specs.Words.{PortText, port_text}
+use Rattle.rvc_words.specs.Words.{port_text}
 use Rattle.rvc_words.specs.declared.job.Job.{Job}
 use Rattle.actor_files.specs.Loading.{Counts, Library}
 use Rattle.actor_files.specs.Views.{file_names}
@@ -13,7 +13,7 @@ use Rattle.actor_files.specs.declared.names.Names.{Names}
 use Rattle.conforming_jobs.specs.Conforming.{output_names}
 use Rattle.port_words.specs.Matching.{AreMatched, IsWrongWord}
 use Rattle.rvc_engine.specs.Built.{IsBuilt}
-use Rattle.rvc_engine.specs.NoImage.{IsNoImage}
+use Rattle.rvc_engine.specs.Refused.{IsFault}
 use Rattle.rvc_engine.specs.Top.{top_asked}
 use Rattle.rvc_engine.specs.declared.fault.BuildFault.{BuildFault}
 use Rattle.rvc_engine.specs.declared.fault.BuildFault.TheVariants as build
@@ -71,14 +71,14 @@ module _ (job made : Job) (state : LibraryState) (instances : ℕ) (is_made : Is
 
   -- ---- without an image
 
-  comes_unbuilt : (why : BuildFault) (names : Names) → IsNoImage (file_told state) (top_asked (string_bytes made.top)) misses no_faults (file_names names) why
+  comes_unbuilt : (why : BuildFault) (names : Names) → IsFault (file_told state) (top_asked (string_bytes made.top)) misses no_faults (file_names names) why
       → OpenedNothing cmd → Comes cmd (status_of_build why) [] (about_words names made)
   comes_unbuilt (build.Refused r) names none nothing =
       (by_run (gen (unopened instances) (unopened instances)) (about_words names made) here (run.by_files (file_names names) (record { why = none })), nothing)
   comes_unbuilt (build.ReadFault file) names none nothing = no_rise cmd (gen (unopened instances) (unopened instances)) here refl 0 0 refl none.0
   comes_unbuilt build.Memory names none nothing = nothing
 
-  pub unbuilt_answered : (why : BuildFault) (names : Names) (answer : Status) → IsNoImage (file_told state) (top_asked (string_bytes made.top)) misses no_faults (file_names names) why
+  pub unbuilt_answered : (why : BuildFault) (names : Names) (answer : Status) → IsFault (file_told state) (top_asked (string_bytes made.top)) misses no_faults (file_names names) why
       → IsLine (status_of_build why) names made old new answer → IsAnswered Comes cmd answer
   unbuilt_answered why names answer none put =
       line_answered Comes cmd (status_of_build why) answer [] (about_words names made) (last_alone [] (about_words names made) why)

@@ -8,9 +8,8 @@ use Rattle.rvc_words.specs.Forms.{given_or, is_port, is_top, lacks_trace, number
 use Rattle.rvc_words.specs.Limits.{default_budget, default_burst, default_workers, max_budget, max_burst, max_grow, max_workers}
 use Rattle.rvc_words.specs.Words.{JobText, and_then, asked, job, kept, port}
 use Rattle.rvc_words.specs.declared.fault.UsageCause.{UsageCause}
-use Rattle.rvc_words.specs.declared.fault.UsageCause.TheVariants.{Words, Verb as VerbCause, Top, Number, Round, Port, Trace}
+use Rattle.rvc_words.specs.declared.fault.UsageCause.TheVariants.{Verb as VerbCause, Top, Number, Round, Port, Trace}
 use Rattle.rvc_words.specs.declared.job.Verb.{Verb}
-use Rattle.rvc_words.specs.declared.job.Verb.TheVariants.{Gen}
 use Rattle.gen_job.specs.Jobs.{TopsAreNumbers, instances_of}
 
 through : {A B C : Type 0} (r : Result A UsageCause) (next : A → Result B UsageCause) (b : B) → and_then r next ≡ Ok b → ((a : A) → r ≡ Ok a → next a ≡ Ok b → C) → C

@@ -1,5 +1,5 @@
 -- The number that a top names.
-use Rattle.std.proofs.Common.{◌⊎◌, inl, inr, leb, ◌≡◌, ℕ, ◌<◌, ◌≤◌, ◌^◌, Bool, true, false, not, ◌&&◌, cond, List, length, Option, None, Some, Result, Ok, Err, refl, ap, sym, ◌∙◌, arith, rules}
+use Rattle.std.proofs.Common.{◌⊎◌, inl, inr, leb, ◌≡◌, ℕ, ◌<◌, ◌≤◌, Bool, true, false, not, ◌&&◌, cond, List, length, Option, None, Some, Result, Ok, Err, refl, ap, sym, ◌∙◌, arith, rules}
 use Rattle.std.specs.Prelude.{IsSome}
 use Rattle.std.specs.List.{list_all}
 use Rattle.std.specs.Str.Parse.{digits_value, ParsesUnsigned}

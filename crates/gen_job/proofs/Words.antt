@@ -1,5 +1,5 @@
 -- The words of the job that is run.
-use Rattle.std.proofs.Common.{◌≡◌, ℕ, zero, suc, ◌+◌, ◌<◌, List, Option, None, Some, length, replicate, refl, arith}
+use Rattle.std.proofs.Common.{◌≡◌, ℕ, zero, suc, ◌<◌, Option, None, replicate, refl, arith}
 use Rattle.std.specs.Prelude.{slice_index_or}
 use Rattle.rvc_words.specs.Words.{IsWithin, JobText}
 use Rattle.gen_job.specs.Jobs.{generated_job}

@@ -1,6 +1,6 @@
 -- To what a command of the verb `gen` comes, and what it leaves: a case for each status.
 -- Trusted: part of what a promise means.
-use Rattle.std.specs.Prelude.{◌≡◌, ℕ, List, ◌∷◌, Some, string_bytes}
+use Rattle.std.specs.Prelude.{◌≡◌, ℕ, List, Some, string_bytes}
 use Rattle.rvc_base.specs.declared.refusal.Refusal.{Refusal}
 use Rattle.rvc_words.specs.Words.{job_text}
 use Rattle.cal_model.specs.Selection.{State}

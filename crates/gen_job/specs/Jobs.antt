@@ -5,11 +5,10 @@ use Rattle.rvc_words.specs.Forms.{number}
 use Rattle.rvc_words.specs.Limits.{max_generated}
 use Rattle.rvc_words.specs.Words.{JobText, PortText, job}
 use Rattle.rvc_words.specs.declared.job.Verb.TheVariants as verb
-use Rattle.actor_files.specs.Loading.{Library}
 use Rattle.cal_model.specs.Selection.{State}
 use Rattle.net_model.specs.Network.{Network}
 use Rattle.conforming_jobs.specs.Conforming.{Conforms, output_names}
-use Rattle.port_words.specs.Matching.{AreMatched, IsWrongWord}
+use Rattle.port_words.specs.Matching.{AreMatched}
 use Rattle.rvc_engine.specs.Top.{top_asked}
 use Rattle.source_network.specs.Library.{IsLibraryNetwork}
 use Rattle.generated_network.specs.Objects.{library_of}

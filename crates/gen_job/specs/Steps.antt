@@ -43,7 +43,8 @@ IsLine said names job old new answer =
     IsPut said (last_line (about_words names job) said) old new answer
 
 -- An image was run over feeds of the generated input, of which no call failed.
-pub record ImageRan (image : Image) (names : Names) (job : Job) (instances : ℕ) (old new : Channels) (answer : Status) : Type 0 where
+pub record ImageRan (image : Image) (names : Names) (job : Job) (instances : ℕ) (old new : Channels)
+    (answer : Status) : Type 0 where
   pub feeds : Inputs
   pub feeds_after : Inputs
   pub given : (name : List ℕ) → feeds.under name ≡ Some (bytes_of instances)
@@ -53,7 +54,8 @@ pub record ImageRan (image : Image) (names : Names) (job : Job) (instances : ℕ
       → IsAnswered run.Comes (command_over job library misses faults feeds feeds_after old new) answer
 
 -- What came of an image: memory ran out, one of these words is wrong, or it was run.
-pub data CameOf (image : Image) (names : Names) (words : List PortText) (job : Job) (instances : ℕ) (old new : Channels) (answer : Status) : Type 0 where
+pub data CameOf (image : Image) (names : Names) (words : List PortText) (job : Job) (instances : ℕ)
+    (old new : Channels) (answer : Status) : Type 0 where
   of_memory : IsLine status.OutOfMemory names job old new answer
       → CameOf image names words job instances old new answer
   of_word : (r : Refusal) → IsWrongWord (out_names image.flat) words r

@@ -5,7 +5,6 @@ use Rattle.rvc_io.specs.Feeds.{Inputs}
 use Rattle.rvc_io.specs.Files.{under}
 use Rattle.rvc_io.specs.MemLibrary.{LibraryState, told}
 use Rattle.rvc_io.specs.Told.{Told}
-use Rattle.generated_network.specs.Feed.{bytes_of}
 use Rattle.generated_network.specs.Texts.{files_of}
 
 -- ---- the library

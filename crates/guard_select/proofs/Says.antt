@@ -1,6 +1,6 @@
 -- What guards say, one after another.
-use Rattle.std.proofs.Common.{◌≡◌, ℕ, zero, suc, ◌+◌, ◌<◌, ◌≤◌, ℤ, Bool, true, false, ◌&&◌, List, [], ◌∷◌, length, take, drop, refl, sym, ap, subst, ◌∙◌, arith, Option, None, Some}
-use Rattle.std.specs.Prelude.{Contains, if◌then◌else◌, nat_le, ◌==◌, slice_get, slice_index_or}
+use Rattle.std.proofs.Common.{◌≡◌, ℕ, suc, ◌+◌, ◌<◌, ◌≤◌, ℤ, Bool, true, false, ◌&&◌, List, ◌∷◌, length, take, drop, refl, sym, ap, subst, ◌∙◌, arith, Option, None, Some}
+use Rattle.std.specs.Prelude.{Contains, if◌then◌else◌, ◌==◌, slice_get, slice_index_or}
 use Rattle.std.proofs.lemmas.Bool.{le-leb, eq-eqb}
 use Rattle.std.proofs.lemmas.List.{drop_more, drop_all, length-take-le, get_or_default}
 use Rattle.std.proofs.lemmas.Option.{get_or_from_slice_get, slice_get_within}
@@ -9,12 +9,11 @@ use Rattle.code_ir.specs.declared.outcome.Outcome.{Outcome}
 use Rattle.code_ir.specs.declared.outcome.Outcome.TheVariants as outcome
 use Rattle.code_ir.specs.Code.{Code, is_among}
 use Rattle.code_ir.specs.Running.{runs, HasItsTokens}
-use Rattle.action_machine.specs.Kept.{Kept, IsMadeFor}
 use Rattle.lowered_actor.specs.Actor.{Action, Actor}
 use Rattle.lowered_actor.specs.Facts.{IsAsked, Fits, IsLowered, IsGuard, IsAnswer}
-use Rattle.lowered_actor.specs.Meaning.{ActorState, Guards, AreTrue, AreFalse, AreTrapping, End, end_of, outcome_then, guard_then, guards_say, cells_of, is_eligible, is_state, has_its_tokens, taken, readiness}
+use Rattle.lowered_actor.specs.Meaning.{ActorState, Guards, AreTrue, AreFalse, AreTrapping, outcome_then, guard_then, guards_say, cells_of, is_eligible, is_state, has_its_tokens, taken, readiness}
 use Rattle.lowered_actor.specs.Laws.{AreCellsOf, IsReady, GuardEnds, GuardsEnd, TokensAreAsked}
-use Rattle.guard_select.specs.Selecting.{state_of, first_of, KeepsState}
+use Rattle.guard_select.specs.Selecting.{state_of, first_of}
 use Rattle.guard_select.proofs.Takes.{taken-is}
 
 -- the state that cells make is one

@@ -1,6 +1,6 @@
 -- What selection answers, and of which state.
 -- Trusted: part of what a promise means.
-use Rattle.std.specs.Prelude.{◌≡◌, ℕ, ℤ, List, length, take}
+use Rattle.std.specs.Prelude.{◌≡◌, ℕ, ℤ, List, take}
 use Rattle.rvc_base.specs.Behaviour.{Choice as Chosen, Waits, Picks, Faults}
 use Rattle.action_machine.specs.Kept.{Kept, IsMadeFor}
 use Rattle.lowered_actor.specs.Actor.{Actor, number_on}

@@ -1,21 +1,20 @@
 -- Bodies that clear their cells first and whose instructions stand keep the facts.
-use Rattle.std.proofs.Common.{◌≡◌, ℕ, suc, ◌+◌, ◌<◌, ◌≤◌, ◌⊎◌, inl, inr, ⊎_elim, Bool, true, false, ◌&&◌, ◌||◌, List, [], All, refl, sym, ap, subst, ◌∙◌, arith, Option, None, Some}
+use Rattle.std.proofs.Common.{◌≡◌, ℕ, suc, ◌+◌, ◌<◌, ◌≤◌, ◌⊎◌, inl, inr, ⊎_elim, Bool, true, false, ◌&&◌, ◌||◌, List, [], refl, sym, ap, subst, ◌∙◌, arith, Option, None, Some}
 use Rattle.std.specs.Prelude.{if◌then◌else◌, nat_le, nat_lt, slice_get}
 use Rattle.std.proofs.lemmas.Bool.{leb-true, le-leb, cases_lt}
 use Rattle.code_ir.specs.declared.instr.Instr.{Instr}
 use Rattle.code_ir.specs.declared.instr.Instr.TheVariants as op
 use Rattle.code_ir.specs.declared.instr.Routine.{Routine}
-use Rattle.code_ir.specs.Typing.{goes_on, target}
+use Rattle.code_ir.specs.Typing.{target}
 use Rattle.lowered_actor.specs.Actor.{Action, Actor, number_on}
 use Rattle.lowered_actor.specs.Facts.{RunRight}
-use Rattle.kept_facts.specs.declared.body.Last.{Last}
 use Rattle.kept_facts.specs.declared.body.Last.TheVariants as last
-use Rattle.kept_facts.specs.Clearing.{ActionStands, AllStand, BodyStands, Clears, EntryStands, FiringStands, GuardStands, RoutineStands, RoutinesStand, Stands, stop_of}
+use Rattle.kept_facts.specs.Clearing.{AllStand, BodyStands, Clears, FiringStands, GuardStands, RoutinesStand, Stands, stop_of}
 use Rattle.kept_facts.specs.Fitting.{last_of}
-use Rattle.kept_facts.specs.Rows.{called, reads, writes}
+use Rattle.kept_facts.specs.Rows.{called, reads}
 use Rattle.kept_facts.proofs.Alike.{among-is, either-true}
 use Rattle.kept_facts.proofs.Facts.{OneEnd}
-use Rattle.kept_facts.proofs.Spans.{AreSpanRoutines, HasSpan, HasSpans, Span, SpanCall, SpanFits, SpanFitsHere, SpanFlows, SpanRoutine, set_at}
+use Rattle.kept_facts.proofs.Spans.{AreSpanRoutines, HasSpan, Span, SpanCall, SpanFits, SpanFitsHere, SpanFlows, SpanRoutine, set_at}
 use Rattle.kept_facts.proofs.Whole.{run-right}
 
 some-is : {A : Type 0} {x y : A} → ◌≡◌ {A = Option A} (Some x) (Some y) → x ≡ y

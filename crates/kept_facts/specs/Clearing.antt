@@ -35,7 +35,8 @@ stop_of instrs begin = begin + body_size (drop begin instrs)
 -- An instruction stands at a place of a body: it writes only where that is allowed, reads no token behind those that are
 -- taken and no cell but those below a limit, ends the body as it must or stays in it, and calls a routine that may be
 -- called.
-pub record Stands (actor : Actor) (limit : ℕ) (firing : Bool) (needs : List ℕ) (end : Last) (callable begin stop p : ℕ) (instr : Instr) : Type 0 where
+pub record Stands (actor : Actor) (limit : ℕ) (firing : Bool) (needs : List ℕ) (end : Last)
+    (callable begin stop p : ℕ) (instr : Instr) : Type 0 where
   pub may : MayStand actor firing needs end instr
   pub reads : (c : ℕ) → reads instr c ≡ true → c < limit
   pub next : goes_on instr ≡ true → p + 1 < stop
@@ -57,7 +58,8 @@ StandUpTo actor limit firing needs end callable begin stop to = (p : ℕ) → be
 
 -- the instructions of a body stand: one that is part of a firing or of a guard, takes so many tokens from each port, ends
 -- so, and calls routines whose numbers are below one
-pub record BodyStands (actor : Actor) (limit : ℕ) (firing : Bool) (needs : List ℕ) (end : Last) (callable begin : ℕ) : Type 0 where
+pub record BodyStands (actor : Actor) (limit : ℕ) (firing : Bool) (needs : List ℕ) (end : Last)
+    (callable begin : ℕ) : Type 0 where
   pub some : begin < stop_of actor.code.instrs begin
   pub each : StandUpTo actor limit firing needs end callable begin (stop_of actor.code.instrs begin)
       (stop_of actor.code.instrs begin)

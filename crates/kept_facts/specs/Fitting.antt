@@ -79,7 +79,8 @@ pub record MayCall (actor : Actor) (routines : List (Option Body)) (body : Body)
   pub enters : Enters actor.kept callee body p
 
 -- an instruction at a place of a body: what it reads is set there, and what comes next stays in the body
-pub record FitsHere (actor : Actor) (routines : List (Option Body)) (firing : Bool) (needs : List ℕ) (end : Last) (body : Body) (p : ℕ) (instr : Instr) : Type 0 where
+pub record FitsHere (actor : Actor) (routines : List (Option Body)) (firing : Bool) (needs : List ℕ)
+    (end : Last) (body : Body) (p : ℕ) (instr : Instr) : Type 0 where
   pub may : MayStand actor firing needs end instr
   pub reads : (c : ℕ) → reads instr c ≡ true → is_set actor.kept body p c ≡ true
   pub next : goes_on instr ≡ true → (p + 1 < body.end)
@@ -103,12 +104,14 @@ FitsAll actor routines firing needs end body to = (p : ℕ) → body.begin ≤ p
 
 -- Each instruction of a body fits: one that is part of a firing or of a guard, takes so many tokens from each port and
 -- ends so.
-pub record FitsBody (actor : Actor) (routines : List (Option Body)) (firing : Bool) (needs : List ℕ) (end : Last) (body : Body) : Type 0 where
+pub record FitsBody (actor : Actor) (routines : List (Option Body)) (firing : Bool) (needs : List ℕ)
+    (end : Last) (body : Body) : Type 0 where
   pub some : body.begin < body.end
   pub each : FitsAll actor routines firing needs end body body.end
 
 -- the body of a routine, which takes no tokens
-pub record IsRoutine (actor : Actor) (routines : List (Option Body)) (firing : Bool) (r : ℕ) (body : Body) : Type 0 where
+pub record IsRoutine (actor : Actor) (routines : List (Option Body)) (firing : Bool) (r : ℕ)
+    (body : Body) : Type 0 where
   pub starts : (routine : Routine) → slice_get actor.code.routines r ≡ Some routine
       → routine.start ≡ body.begin
   pub fits : FitsBody actor routines firing [] last.Return body

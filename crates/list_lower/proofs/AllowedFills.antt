@@ -1,5 +1,5 @@
 -- Code of a list writes only cells that may be written, and reads only tokens that may be read.
-use Rattle.std.proofs.Common.{◌≡◌, ℕ, zero, suc, ◌+◌, ◌*◌, ◌<◌, ◌≤◌, List, [], ◌∷◌, ◌++◌, length, true, refl, sym, ap, ◌∙◌, subst, Option, None, Some, arith}
+use Rattle.std.proofs.Common.{◌≡◌, ℕ, suc, ◌+◌, ◌*◌, ◌≤◌, List, [], ◌∷◌, ◌++◌, true, sym, subst, Option, None, Some, arith}
 use Rattle.std.specs.Prelude.{pos}
 use Rattle.cal_ast.specs.Tree as tree
 use Rattle.cal_ast.specs.Tree.{Tree}
@@ -14,7 +14,7 @@ use Rattle.expr_lower.specs.Generators.{Counted, counted_by}
 use Rattle.expr_lower.specs.Names.{Name}
 use Rattle.expr_lower.specs.Parted.{number_of}
 use Rattle.expr_lower.proofs.AllowedCode.{allowed_then, allows_local, allows_more, code_allowed, offset_allowed, own_all, own_one, test_allowed}
-use Rattle.expr_lower.proofs.Coded.{grows, grows_test}
+use Rattle.expr_lower.proofs.Coded.{grows_test}
 use Rattle.list_lower.specs.Filling.{apart_list, apart_tail, AreElements, AreFills, IsFill, at_first, either_list, elements as comprehension, each_number, filled_more, in_parens, item_more, items, list_element, next_number, no_elements, no_item, one_cell, one_element, part_list, set_number, take_instr, whole_list}
 use Rattle.list_lower.specs.ListStarting.{IsListStart, all_filled, all_zero, leaf_of}
 use Rattle.list_lower.proofs.Filled.{grows_fill}

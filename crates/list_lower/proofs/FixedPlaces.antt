@@ -1,13 +1,13 @@
 -- The code of an item at places that are written out is code of an expression.
-use Rattle.std.proofs.Common.{◌≡◌, ℕ, zero, suc, ◌+◌, ◌*◌, ◌<◌, ◌≤◌, ℤ, pos, negsuc, List, [], ◌∷◌, ◌++◌, length, map, Bool, true, false, refl, sym, ap, ◌∙◌, subst, Option, None, Some, arith}
+use Rattle.std.proofs.Common.{◌≡◌, ℕ, ◌+◌, ◌*◌, ◌<◌, ◌≤◌, ℤ, pos, negsuc, List, [], ◌∷◌, Bool, true, false, refl, sym, ap, ◌∙◌, subst, Option, None, Some, arith}
 use Rattle.std.specs.Prelude.{if◌then◌else◌, nat_lt, slice_get}
 use Rattle.std.proofs.lemmas.Bool.Decides.{nat_tests}
 use Rattle.std.proofs.lemmas.Nat.{mul-le}
 use Rattle.cal_ast.specs.Tree as tree
 use Rattle.cal_ast.specs.Tree.{Tree}
-use Rattle.cal_model.specs.Value.{Shape, Single, Many, Value, Num, Truth, Items, Values, count, value_at, HasKind, kind_of_type, scalars_of_type}
+use Rattle.cal_model.specs.Value.{Shape, Single, Many, Value, Num, Truth, Items, count, value_at, HasKind, kind_of_type, scalars_of_type}
 use Rattle.cal_model.specs.Outcome.{Out, Gives, Traps, and_then, known}
-use Rattle.cal_model.specs.Env.{Env, look_up}
+use Rattle.cal_model.specs.Env.{Env}
 use Rattle.cal_model.specs.Expression.{Calls, eval, indexed}
 use Rattle.rvc_base.specs.declared.trap.Trap.TheVariants.{IndexRange}
 use Rattle.code_ir.specs.declared.instr.Instr.{Instr}
@@ -22,18 +22,17 @@ use Rattle.expr_lower.specs.declared.names.Seat.TheVariants.{Cell, Tokens}
 use Rattle.expr_lower.specs.declared.parts.Rows.{Rows}
 use Rattle.expr_lower.specs.Bounds.{bound_of}
 use Rattle.expr_lower.specs.Callees.{Function}
-use Rattle.expr_lower.specs.Calling.{Prepared, Serves}
 use Rattle.expr_lower.specs.Coding.{IsCode, IsOtherCode, aimed, in_another_way}
 use Rattle.expr_lower.specs.Flat.{flat}
-use Rattle.expr_lower.specs.Following.{CutsOff, Follows, MayUse, Pushes}
+use Rattle.expr_lower.specs.Following.{CutsOff, Follows, Pushes}
 use Rattle.expr_lower.specs.Growing.{left_out_apart, left_out_fill, left_out_in, left_out_places, one, ◌or_else◌}
 use Rattle.expr_lower.specs.ItemsSeen.{items_seen}
-use Rattle.expr_lower.specs.Held.{AreBelow, HoldsName, Holds, SeatIsBelow, StandAt}
+use Rattle.expr_lower.specs.Held.{HoldsName, Holds, SeatIsBelow, StandAt}
 use Rattle.expr_lower.specs.Listed.{list_named}
-use Rattle.expr_lower.specs.Names.{Name, named}
+use Rattle.expr_lower.specs.Names.{Name}
 use Rattle.expr_lower.specs.Parted.{Part, deep_named, part_at, part_named, rows_named, sized}
 use Rattle.expr_lower.specs.Placed.{StandsAt, World, state}
-use Rattle.expr_lower.specs.Single.{IsSingleValue, OnlySingles}
+use Rattle.expr_lower.specs.Single.{OnlySingles}
 use Rattle.expr_lower.proofs.AllowedCode.{deep_read}
 use Rattle.expr_lower.proofs.Bounded.{bound_gives}
 use Rattle.expr_lower.proofs.BoundWhole.{bound_whole}

@@ -18,7 +18,8 @@ left_out_single fs names t e at = where_one t at (left_out_in fs names e)
 -- an item of a list that is filled apart
 abbrev pub left_out_item_apart : List Function → List Name → Shape → Tree → Tree → ℕ → Option ℕ
 left_out_item_apart fs names t base place at =
-    left_out_apart (items_seen names base 0) t at (λ list. left_out_fill fs names list base) (left_out_in fs names place)
+    left_out_apart (items_seen names base 0) t at (λ list. left_out_fill fs names list base)
+    (left_out_in fs names place)
 
 -- an index, where a list is meant: a part that a chain of indexes gives of a list in cells, with as many items at each
 -- depth, or an item of a list that is filled apart

@@ -1,7 +1,8 @@
-//! Code for expressions of lists: instructions that fill cells with what evaluating them gives.
+//! Code for expressions and functions: instructions that push the single value, or fill cells with the list, that
+//! evaluating an expression gives, and routines that do what calling a function does.
 //!
-//! It stands on [`expr_lower`], which makes the code of single values. Code is appended to a
-//! [`Draft`](expr_lower::Draft).
+//! It stands on [`expr_lower`], which says what such code does, and makes that of expressions without parts. Code is
+//! appended to a [`Draft`](expr_lower::Draft).
 #![tactic(auto)]
 
 mod apart;

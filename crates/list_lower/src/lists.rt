@@ -222,9 +222,11 @@ fn part(
     ensures ok { OnOk result
         (Lays scope.now (index_of base.now place.now at) (shape_view shape.now) cell draft.old draft.new) }
     ensures whole { OnOk result
-        (left_out_part (called scope.now) (seen scope.now) (shape_view shape.now) (expr_tree base.now) (expr_tree place.now) at ≡ None) }
+        (left_out_part (called scope.now) (seen scope.now) (shape_view shape.now)
+        (expr_tree base.now) (expr_tree place.now) at ≡ None) }
     ensures fault { IfErr result (IsFault
-        (left_out_part (called scope.now) (seen scope.now) (shape_view shape.now) (expr_tree base.now) (expr_tree place.now) at) draft.new) }
+        (left_out_part (called scope.now) (seen scope.now) (shape_view shape.now)
+        (expr_tree base.now) (expr_tree place.now) at) draft.new) }
 {
     let Some(part) = part_named(scope, e) else {
         return apart_list(scope, base, place, shape, cell, at, draft);
@@ -258,9 +260,11 @@ fn apart_list(
     ensures ok { OnOk result
         (Lays scope.now (index_of base.now place.now at) (shape_view shape.now) cell draft.old draft.new) }
     ensures whole { OnOk result
-        (left_out_item_apart (called scope.now) (seen scope.now) (shape_view shape.now) (expr_tree base.now) (expr_tree place.now) at ≡ None) }
+        (left_out_item_apart (called scope.now) (seen scope.now) (shape_view shape.now)
+        (expr_tree base.now) (expr_tree place.now) at ≡ None) }
     ensures fault { IfErr result (IsFault
-        (left_out_item_apart (called scope.now) (seen scope.now) (shape_view shape.now) (expr_tree base.now) (expr_tree place.now) at) draft.new) }
+        (left_out_item_apart (called scope.now) (seen scope.now) (shape_view shape.now)
+        (expr_tree base.now) (expr_tree place.now) at) draft.new) }
 {
     let Some(count) = items_seen(scope, base, &Indexes::None) else {
         return Err(LowerFault::NotLowered { at });
@@ -530,7 +534,8 @@ fn elements(
     requires counts { AllCount (gens_of gens.now) }
     requires size { IsSized (shape_view items.now) }
     ensures ok { OnOk result
-        (AddsElements scope.now (gens_of gens.now) (expr_tree item.now) (shape_view items.now) to k draft.old draft.new) }
+        (AddsElements scope.now (gens_of gens.now) (expr_tree item.now) (shape_view items.now) to k
+        draft.old draft.new) }
     ensures whole { OnOk result (left_out_elements scope.now gens.now (shape_view items.now) item.now ≡ None) }
     ensures fault { IfErr result
         (IsFault (left_out_elements scope.now gens.now (shape_view items.now) item.now) draft.new) }
@@ -557,7 +562,8 @@ fn each_number(
     requires counts { AllCount (gens_of (first.now ∷ rest.now)) }
     requires size { IsSized (shape_view items.now) }
     ensures ok { OnOk result
-        (AddsElements scope.now (gens_of (first.now ∷ rest.now)) (expr_tree item.now) (shape_view items.now) to k draft.old draft.new) }
+        (AddsElements scope.now (gens_of (first.now ∷ rest.now)) (expr_tree item.now)
+        (shape_view items.now) to k draft.old draft.new) }
     ensures whole { OnOk result
         (left_out_elements scope.now (first.now ∷ rest.now) (shape_view items.now) item.now ≡ None) }
     ensures fault { IfErr result
@@ -587,7 +593,8 @@ fn inside(
     requires counts { AllCount (gens_of rest.now) }
     requires size { IsSized (shape_view items.now) }
     ensures ok { OnOk result
-        (AddsInside scope.now (counter_view x.entry) (gens_of rest.now) (expr_tree item.now) (shape_view items.now) to k draft.old draft.new) }
+        (AddsInside scope.now (counter_view x.entry) (gens_of rest.now) (expr_tree item.now)
+        (shape_view items.now) to k draft.old draft.new) }
     ensures whole { OnOk result
         (left_out_inside scope.now (counter_view x.entry) (k + 1) rest.now (shape_view items.now) item.now ≡ None) }
     ensures fault { IfErr result (IsFault
@@ -617,7 +624,8 @@ fn element(
     requires turn { to.turn ≡ length draft.old.instrs.items }
     requires size { IsSized (shape_view items.now) }
     ensures ok { OnOk result
-        (AddsElements scope.now tree.nil (expr_tree item.now) (shape_view items.now) to draft.old.cells draft.old draft.new) }
+        (AddsElements scope.now tree.nil (expr_tree item.now) (shape_view items.now) to
+        draft.old.cells draft.old draft.new) }
     ensures whole { OnOk result (left_out_item scope.now (seen scope.now) (shape_view items.now) item.now ≡ None) }
     ensures fault { IfErr result
         (IsFault (left_out_item scope.now (seen scope.now) (shape_view items.now) item.now) draft.new) }
@@ -656,7 +664,8 @@ fn list_element(
     requires size { IsSized (shape_view items.now) }
     requires list { single_of (shape_view items.now) ≡ None }
     ensures ok { OnOk result
-        (AddsElements scope.now tree.nil (expr_tree item.now) (shape_view items.now) to draft.old.cells draft.old draft.new) }
+        (AddsElements scope.now tree.nil (expr_tree item.now) (shape_view items.now) to
+        draft.old.cells draft.old draft.new) }
     ensures whole { OnOk result (IsAllLaid scope.now (shape_view items.now) (expr_tree item.now)) }
     ensures fault { IfErr result
         (IsWhyNotLaid scope.now (shape_view items.now) (expr_tree item.now) draft.new) }
@@ -694,8 +703,9 @@ fn list_element(
 ///
 /// `NotLowered` if the expression has a part for which no code is made, with the offset of the first one (`fault`):
 /// beside those of single values an index that is to give a list of a named list of tokens, a call that is to give one, a
-/// name, an item or a list with another number of items, or a comprehension whose generators aren't written out. `TooLong` if the draft has 2 to the power of 32 instructions, `TooManyCells` if it has as
-/// many cells. `Memory` if memory runs out.
+/// name, an item or a list with another number of items, or a comprehension whose generators aren't written out.
+/// `TooLong` if the draft has 2 to the power of 32 instructions, `TooManyCells` if it has as many cells. `Memory` if
+/// memory runs out.
 pub fn lower_list(
     names: &[Named],
     callees: &[Callee],

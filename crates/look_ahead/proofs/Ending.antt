@@ -1,5 +1,5 @@
 -- Reading a rule is running its program, if each call needs less than the rule that makes it.
-use Rattle.std.proofs.Common.{◌≡◌, ℕ, zero, suc, ◌-◌, ◌<◌, ◌≤◌, Bool, true, false, List, [], ◌∷◌, nat_le, refl, sym, ap, ◌∙◌, arith}
+use Rattle.std.proofs.Common.{◌≡◌, ℕ, zero, suc, ◌-◌, ◌<◌, ◌≤◌, Bool, true, false, List, [], ◌∷◌, nat_le, refl, ap, arith}
 use Rattle.std.proofs.lemmas.Bool.{leb-true}
 use Rattle.look_ahead.specs.Program.{Program, Outcome, give, fail, ask, take, check, jump, invoke, enter, Gave, Refused, TooHigh, Spent, ahead, after, exec, go, read}
 use Rattle.look_ahead.proofs.Gets.{Gets, gets_outcome}

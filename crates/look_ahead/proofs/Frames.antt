@@ -1,8 +1,8 @@
 -- An outcome depends on the tokens that were taken, and on one token more.
 use Rattle.std.proofs.Common.{◌≡◌, ℕ, zero, suc, ◌-◌, ◌<◌, ◌≤◌, Bool, true, false, List, [], ◌∷◌, ◌++◌, nat_le, append_assoc, refl, sym, ap, ◌∙◌, arith}
 use Rattle.std.proofs.lemmas.Bool.{leb-true}
-use Rattle.look_ahead.specs.Program.{Program, Outcome, give, fail, ask, take, check, jump, invoke, enter, Gave, Refused, TooHigh, Spent, ahead, after, exec, go, read}
-use Rattle.look_ahead.proofs.Gets.{Gets, gets_outcome}
+use Rattle.look_ahead.specs.Program.{Program, Outcome, give, fail, ask, take, check, jump, invoke, enter, Gave, Refused, TooHigh, Spent, ahead, after, exec, read}
+use Rattle.look_ahead.proofs.Gets.{Gets}
 use Rattle.look_ahead.proofs.Ending
 
 -- Over all lists that go on after `front` with the same token, F does the same as over ts, of which `left` is left.

@@ -1,8 +1,8 @@
 -- What a program does, computed backwards: a fact on its outcome follows from facts on its steps.
-use Rattle.std.proofs.Common.{◌≡◌, ℕ, zero, suc, ◌+◌, ◌-◌, ◌<◌, ◌≤◌, Bool, true, false, List, [], ◌∷◌, nat_le, refl, arith}
+use Rattle.std.proofs.Common.{◌≡◌, ℕ, ◌-◌, ◌<◌, ◌≤◌, Bool, true, false, List, [], ◌∷◌, nat_le, refl, arith}
 use Rattle.std.proofs.lemmas.Bool.{leb-true}
 use Rattle.std.proofs.lemmas.Bool.Decides.{leb_tells}
-use Rattle.look_ahead.specs.Program.{Program, Outcome, give, fail, ask, take, check, jump, invoke, enter, Gave, Refused, TooHigh, Spent, ahead, after, exec, go}
+use Rattle.look_ahead.specs.Program.{Program, Outcome, give, fail, ask, take, check, jump, invoke, enter, Gave, Refused, TooHigh, Spent, ahead, after, exec}
 
 -- Where each rule r that is called at ts may be called there (D), and does what P says, the program's outcome is in Q.
 abbrev pub Gets : {Token Tree Rule : Type 0} → (ℕ → Rule → List Token → Outcome Token Tree → Type 0) → (Rule → List Token → Type 0) → ℕ → Program Token Tree Rule → List Token → (Outcome Token Tree → Type 0) → Type 0

@@ -1,6 +1,6 @@
 -- A reader that reads whatever is spelled refuses rightly.
-use Rattle.std.proofs.Common.{◌≡◌, ℕ, ◌+◌, ◌<◌, ◌≤◌, max, List, [], ◌∷◌, ◌++◌, length, length-append, refl, sym, ap, ◌∙◌, arith}
-use Rattle.look_ahead.specs.Program.{Program, Outcome, Gave, Refused, TooHigh, Spent, ahead, read}
+use Rattle.std.proofs.Common.{◌≡◌, ℕ, ◌+◌, ◌<◌, ◌≤◌, max, List, [], ◌++◌, length, length-append, ap, ◌∙◌, arith}
+use Rattle.look_ahead.specs.Program.{Program, Outcome, Gave, Refused, TooHigh, Spent, read}
 use Rattle.look_ahead.specs.Reading.{IsRefused, IsTooHigh}
 use Rattle.look_ahead.proofs.Gets.{Gets}
 use Rattle.look_ahead.proofs.Looser.{IsKept, read_kept}

@@ -12,7 +12,8 @@ pub record IsRefused {Token Tree : Type 0} (Spelled : List Token → Tree → Ty
       → ⊥
 
 -- The same for trees that fit the room; and as many tokens stand before it as the room has.
-pub record IsTooHigh {Token Tree : Type 0} (Spelled : List Token → Tree → Type 0) (height : Tree → ℕ) (room : ℕ) (ts left : List Token) : Type 0 where
+pub record IsTooHigh {Token Tree : Type 0} (Spelled : List Token → Tree → Type 0)
+    (height : Tree → ℕ) (room : ℕ) (ts left : List Token) : Type 0 where
   pub front : List Token
   pub is_front : ts ≡ front ++ left
   pub none : (other : List Token) (x : Tree) → ahead other ≡ ahead left → height x ≤ room

@@ -5,7 +5,6 @@ use Rattle.std.proofs.lemmas.Bool.{cases_lt}
 use Rattle.std.proofs.lemmas.Option.{slice_get_past}
 use Rattle.rvc_base.specs.declared.trap.Trap.{Trap}
 use Rattle.rvc_base.specs.Behaviour.{Choice, Waits, Picks, Faults}
-use Rattle.rvc_base.specs.Line.{IsLine}
 use Rattle.priority_order.specs.Ranking.{is_above}
 use Rattle.lowered_actor.specs.Actor.{Action, Actor}
 use Rattle.lowered_actor.specs.Facts.{IsLowered}

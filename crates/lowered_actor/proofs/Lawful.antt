@@ -1,11 +1,11 @@
 -- What a lowered actor does is lawful.
-use Rattle.std.proofs.Common.{◌≡◌, ◌≢◌, ℕ, zero, suc, ◌+◌, ◌<◌, ◌≤◌, ◌⊎◌, inl, inr, ℤ, Bool, true, false, not, ◌&&◌, List, [], ◌∷◌, length, take, refl, sym, ap, subst, ◌∙◌, arith, Option, None, Some}
+use Rattle.std.proofs.Common.{◌≡◌, ◌≢◌, ℕ, zero, suc, ◌+◌, ◌<◌, ◌≤◌, ◌⊎◌, inl, inr, ℤ, Bool, true, false, not, ◌&&◌, List, [], length, take, refl, sym, ap, subst, ◌∙◌, arith, Option, None, Some}
 use Rattle.std.specs.Prelude.{if◌then◌else◌, nat_le, min, slice_get, slice_index_or}
 use Rattle.std.proofs.lemmas.Bool.{leb-true, le-leb, cases_lt}
 use Rattle.std.proofs.lemmas.List.{length-take, take-take}
 use Rattle.std.proofs.lemmas.Option.{slice_get_past}
 use Rattle.rvc_base.specs.declared.trap.Trap.{Trap}
-use Rattle.rvc_base.specs.Behaviour.{Effect, Choice, Waits, Picks, Faults, Fires, TrapsInGuard, TrapsInBody}
+use Rattle.rvc_base.specs.Behaviour.{Effect, Waits, Picks, Faults, Fires, TrapsInGuard, TrapsInBody}
 use Rattle.rvc_base.specs.Lawful.{IsLawful, AgreeOn, tokens_on}
 use Rattle.code_ir.specs.declared.outcome.Outcome.{Outcome}
 use Rattle.code_ir.specs.declared.outcome.Outcome.TheVariants as outcome
@@ -14,7 +14,7 @@ use Rattle.lowered_actor.specs.Facts.{Fits, IsEffect, IsLowered, cells_from}
 use Rattle.lowered_actor.specs.Meaning.{ActorState, End, Guards, AreTrue, AreFalse, AreTrapping, end_of, is_state, is_eligible, has_on_first, has_its_tokens, need, give, taken, cells_of, guards_say, readiness, choice_among, choice, is_outranked, is_exposed, sent_from, effect_of_outcome, effect_of_end, effect_of_body, effect_of_exposed, effect, behaviour}
 use Rattle.lowered_actor.specs.Laws.{IsReady}
 use Rattle.lowered_actor.proofs.Running.{StepsAreFine, StartStands, all-at, has-on, past-zero, firing-end, asked-at-first}
-use Rattle.lowered_actor.proofs.Choosing.{both-true, ready-past, ready-parts, picked, faulted, idle}
+use Rattle.lowered_actor.proofs.Choosing.{ready-past, ready-parts, picked, faulted, idle}
 
 -- ---- tokens
 

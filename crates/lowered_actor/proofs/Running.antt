@@ -1,9 +1,9 @@
 -- The end of a run: there is one, and it doesn't depend on the cells behind the state cells.
-use Rattle.std.proofs.Common.{◌≡◌, ◌≢◌, ℕ, zero, suc, ◌+◌, ◌-◌, ◌<◌, ◌≤◌, ◌⊎◌, inl, inr, min, ℤ, Bool, true, false, ◌&&◌, List, [], ◌∷◌, ◌++◌, length, take, drop, refl, sym, ap, subst, ◌∙◌, arith, Option, None, Some}
-use Rattle.std.specs.Prelude.{All, Contains, nat_le, ◌==◌, slice_get, slice_index_or}
-use Rattle.std.proofs.lemmas.Bool.{leb-true, le-leb, eqb-true, cases_lt}
+use Rattle.std.proofs.Common.{◌≡◌, ◌≢◌, ℕ, zero, suc, ◌+◌, ◌-◌, ◌<◌, ◌≤◌, ◌⊎◌, inl, inr, ℤ, Bool, true, false, ◌&&◌, List, [], ◌∷◌, ◌++◌, length, take, drop, refl, sym, ap, subst, ◌∙◌, arith, None, Some}
+use Rattle.std.specs.Prelude.{All, Contains, nat_le, ◌==◌, slice_get}
+use Rattle.std.proofs.lemmas.Bool.{leb-true, eqb-true, cases_lt}
 use Rattle.std.proofs.lemmas.List.{length-append, length-drop, length-take-le, take-append-le, take_all}
-use Rattle.std.proofs.lemmas.Option.{slice_get_past, slice_get_within, get_or_from_slice_get}
+use Rattle.std.proofs.lemmas.Option.{slice_get_within, get_or_from_slice_get}
 use Rattle.code_ir.specs.declared.outcome.Outcome.{Outcome}
 use Rattle.code_ir.specs.declared.outcome.Outcome.TheVariants as outcome
 use Rattle.code_ir.specs.Code.{Code, is_among}
@@ -11,8 +11,8 @@ use Rattle.code_ir.specs.Running.{State, Next, Goes, Over, Lacks, Stuck, step, E
 use Rattle.code_ir.specs.Typing.{IsAdmitted}
 use Rattle.code_ir.specs.Standing.{IsFine, Stands, most_steps}
 use Rattle.lowered_actor.specs.Actor.{Action, Actor, number_on}
-use Rattle.lowered_actor.specs.Facts.{IsAsked, Fits, IsLowered, IsGuard, IsFiring, SameState, SameSent}
-use Rattle.lowered_actor.specs.Meaning.{ActorState, End, end_after, end_within, end_of, is_state, cells_of, need, has_on_first, has_its_tokens, taken}
+use Rattle.lowered_actor.specs.Facts.{IsAsked, Fits, IsLowered, IsGuard, IsFiring, SameState}
+use Rattle.lowered_actor.specs.Meaning.{ActorState, End, end_after, end_within, end_of, is_state, cells_of, need, has_on_first, taken}
 use Rattle.lowered_actor.specs.Laws.{AreCellsOf, IsReady, GuardEnds, FiringEnds}
 
 -- what is known of steps of admitted code, and of two ends of a run

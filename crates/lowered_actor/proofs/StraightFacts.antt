@@ -1,12 +1,11 @@
 -- A body that is a straight line keeps the facts of guards and firings.
-use Rattle.std.proofs.Common.{◌≡◌, ◌≢◌, ℕ, zero, suc, ◌+◌, ◌<◌, ◌≤◌, ◌⊎◌, inl, inr, min, ℤ, pos, Bool, true, false, ◌&&◌, ◌||◌, List, [], ◌∷◌, length, take, drop, map, refl, sym, ap, subst, ◌∙◌, arith, Option, None, Some}
-use Rattle.std.specs.Prelude.{nat_le, ◌==◌, slice_get, slice_index_or, Contains}
+use Rattle.std.proofs.Common.{◌≡◌, ◌≢◌, ℕ, zero, suc, ◌+◌, ◌<◌, ◌≤◌, ◌⊎◌, inl, inr, min, ℤ, pos, Bool, true, false, ◌&&◌, ◌||◌, List, [], ◌∷◌, length, take, refl, sym, ap, subst, ◌∙◌, arith, Some}
+use Rattle.std.specs.Prelude.{nat_le, ◌==◌, slice_get, Contains}
 use Rattle.std.specs.List.{list_all}
 use Rattle.std.proofs.lemmas.Bool.{leb-true, eqb-true, cases_lt}
 use Rattle.std.proofs.lemmas.List.{length-take, get_or-take, ext_get_or}
 use Rattle.std.proofs.lemmas.Option.{slice_get-get_or, slice_get_past}
 use Rattle.code_ir.specs.declared.outcome.Outcome.{Outcome}
-use Rattle.code_ir.specs.declared.outcome.Outcome.TheVariants as outcome
 use Rattle.code_ir.specs.declared.instr.Instr.{Instr}
 use Rattle.code_ir.specs.Code.{Code, is_among}
 use Rattle.code_ir.specs.Effect.{cell}
@@ -14,10 +13,10 @@ use Rattle.code_ir.specs.Running.{State, step, Stuck, Reaches, start, runs}
 use Rattle.code_ir.specs.Typing.{IsAdmitted}
 use Rattle.lowered_actor.specs.declared.parts.StateCell.{StateCell}
 use Rattle.lowered_actor.specs.Actor.{Action, Actor, number_on}
-use Rattle.lowered_actor.specs.Facts.{IsAsked, IsSaved, Fits, FitTogether, RunRight, IsAnswer, IsEffect, IsGuard, IsFiring, SameState, SameSent, cells_from}
+use Rattle.lowered_actor.specs.Facts.{IsAsked, IsSaved, Fits, FitTogether, RunRight, IsAnswer, IsEffect, IsGuard, IsFiring, SameState, cells_from}
 use Rattle.lowered_actor.specs.Straight.{is_saved, may_store, is_line, stores, stores_each, stores_sent, body_at, is_straight_guard, are_straight_guards, is_straight_firing, is_straight, are_straight}
 use Rattle.lowered_actor.proofs.Running.{all-at as all-fits, all-among as among-all}
-use Rattle.lowered_actor.proofs.StraightRuns.{Ended, ended, IsSafe, at}
+use Rattle.lowered_actor.proofs.StraightRuns.{Ended, ended, at}
 
 -- what is known of runs of admitted code
 abbrev pub NeverStuck : Type 0

@@ -1,9 +1,9 @@
 -- Straight lines keep the facts of guards and firings.
-use Rattle.std.proofs.Common.{◌≡◌, ◌≢◌, ℕ, zero, suc, ◌+◌, ◌<◌, ◌≤◌, ◌⊎◌, inl, inr, ℤ, pos, Bool, true, false, not, ◌&&◌, ◌||◌, List, [], ◌∷◌, length, take, drop, refl, sym, ap, subst, ◌∙◌, arith, Option, None, Some}
-use Rattle.std.specs.Prelude.{if◌then◌else◌, nat_le, ◌==◌, slice_get, slice_set, slice_index_or, Contains}
-use Rattle.std.proofs.lemmas.Bool.{leb-true, le-leb, eqb-true, cases_lt}
-use Rattle.std.proofs.lemmas.List.{length-set, get_or-take, get_or-set_same, get_or-set_other, ext_get_or, length-take, get_or_past}
-use Rattle.std.proofs.lemmas.Option.{slice_get-get_or, slice_get_past}
+use Rattle.std.proofs.Common.{◌≡◌, ◌≢◌, ℕ, zero, suc, ◌+◌, ◌<◌, ◌⊎◌, inl, inr, ℤ, pos, Bool, true, false, not, ◌&&◌, ◌||◌, List, [], ◌∷◌, length, take, drop, refl, sym, ap, subst, ◌∙◌, arith, None, Some}
+use Rattle.std.specs.Prelude.{if◌then◌else◌, nat_le, ◌==◌, slice_get, slice_set}
+use Rattle.std.proofs.lemmas.Bool.{leb-true, eqb-true}
+use Rattle.std.proofs.lemmas.List.{length-set, get_or-take, get_or-set_same, get_or-set_other}
+use Rattle.std.proofs.lemmas.Option.{slice_get-get_or}
 use Rattle.rvc_base.specs.declared.trap.Trap.{Trap}
 use Rattle.rvc_base.specs.Arithmetic.{Computed, Gives, Traps, add, sub, mul, div, rem, truth, is_equal, is_below, is_true}
 use Rattle.rvc_base.specs.Turns.{max_turns}
@@ -12,8 +12,8 @@ use Rattle.code_ir.specs.declared.instr.Instr.TheVariants as op
 use Rattle.code_ir.specs.declared.outcome.Outcome.{Outcome}
 use Rattle.code_ir.specs.declared.outcome.Outcome.TheVariants as outcome
 use Rattle.code_ir.specs.Code.{Code}
-use Rattle.code_ir.specs.Effect.{Effect, Leaves, Fails, LacksToken, Breaks, effect, cell, stored, push_computed, with_cells, on_top, on_two, push_token}
-use Rattle.code_ir.specs.Running.{State, Next, Goes, Over, Lacks, Stuck, go_on, obey, answer, step, Ends, stop, go, Reaches, here, after, start, runs, HasItsTokens}
+use Rattle.code_ir.specs.Effect.{Effect, Leaves, Fails, Breaks, effect, cell, stored, push_computed, with_cells, on_top, on_two, push_token}
+use Rattle.code_ir.specs.Running.{State, Goes, Over, Lacks, Stuck, go_on, obey, answer, step, Ends, stop, go, Reaches, here, after}
 use Rattle.lowered_actor.specs.Actor.{Action, Actor, number_on}
 use Rattle.lowered_actor.specs.Facts.{IsEffect, IsAnswer}
 use Rattle.lowered_actor.specs.Straight.{may_store, is_end, ends_line, may_stand, is_line, is_store, stores}

@@ -1,6 +1,6 @@
 -- The table of the actions that are eligible in each state.
 -- Trusted: part of what a promise means.
-use Rattle.std.specs.Prelude.{◌≡◌, ℕ, ◌<◌, Bool, List, length, Option, Some, is_some, slice_get}
+use Rattle.std.specs.Prelude.{◌≡◌, ℕ, ◌<◌, List, length, Some, is_some, slice_get}
 use Rattle.std.specs.List.{filter}
 use Rattle.schedule_fsm.specs.Automaton.{Automaton, target}
 use Rattle.lowered_actor.specs.declared.candidates.Candidates.{Candidates}

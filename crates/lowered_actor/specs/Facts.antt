@@ -1,6 +1,6 @@
 -- The facts that each lowered actor keeps.
 -- Trusted: part of what a promise means.
-use Rattle.std.specs.Prelude.{◌≡◌, ◌≢◌, ℕ, ◌+◌, ◌≤◌, ◌<◌, Bool, true, IsTrue, ℤ, pos, zero, suc, List, [], ◌∷◌, length, take, Some, slice_get, slice_index_or, All, Contains}
+use Rattle.std.specs.Prelude.{◌≡◌, ℕ, ◌+◌, ◌≤◌, ◌<◌, true, IsTrue, ℤ, pos, zero, suc, List, [], ◌∷◌, length, take, Some, slice_get, slice_index_or, All, Contains}
 use Rattle.rvc_base.specs.Line.{IsLine}
 use Rattle.code_ir.specs.declared.outcome.Outcome.{Outcome}
 use Rattle.code_ir.specs.declared.outcome.Outcome.TheVariants as outcome

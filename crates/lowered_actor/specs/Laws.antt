@@ -1,6 +1,6 @@
 -- What holds of all lowered actors.
 -- Trusted: part of what a promise means.
-use Rattle.std.specs.Prelude.{◌≡◌, ℕ, ◌<◌, true, ℤ, List, length, take, Some, slice_get, Contains}
+use Rattle.std.specs.Prelude.{◌≡◌, ℕ, true, ℤ, List, length, take, Some, slice_get, Contains}
 use Rattle.rvc_base.specs.Lawful.{IsLawful}
 use Rattle.code_ir.specs.declared.outcome.Outcome.{Outcome}
 use Rattle.code_ir.specs.declared.outcome.Outcome.TheVariants as outcome
@@ -45,7 +45,8 @@ GuardsEnd =
     → GuardEnds actor x (taken actor tokens a) entry o
 
 -- the same of a firing's run, with the state and the tokens that it leaves if it is done
-pub record FiringEnds (actor : Actor) (x : ActorState) (tokens : ℕ → List ℤ) (action : Action) (o : Outcome) (left : List ℤ) : Type 0 where
+pub record FiringEnds (actor : Actor) (x : ActorState) (tokens : ℕ → List ℤ) (action : Action)
+    (o : Outcome) (left : List ℤ) : Type 0 where
   pub end : End
   pub is : end_of actor.code action.fire (cells_of actor x) tokens ≡ Some end
   pub same : end.outcome ≡ o

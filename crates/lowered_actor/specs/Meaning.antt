@@ -1,7 +1,7 @@
 -- What a lowered actor does: which of its actions is to fire, and what a firing makes of the state and the tokens
 -- (CAL Language Report, guards, priorities and the execution of an actor).
 -- Trusted: part of what a promise means.
-use Rattle.std.specs.Prelude.{◌≡◌, ℕ, zero, suc, ◌+◌, ◌==◌, Bool, true, false, not, ◌&&◌, ◌||◌, List, [], ◌∷◌, ◌++◌, ℤ, length, take, drop, nat_le, if◌then◌else◌, Option, None, Some, is_some, slice_get}
+use Rattle.std.specs.Prelude.{ℕ, zero, suc, ◌+◌, ◌==◌, Bool, true, false, not, ◌&&◌, ◌||◌, List, [], ◌∷◌, ◌++◌, ℤ, length, take, drop, nat_le, if◌then◌else◌, Option, None, Some, is_some, slice_get}
 use Rattle.rvc_base.specs.declared.trap.Trap.{Trap as TrapName}
 use Rattle.rvc_base.specs.Behaviour.{Behaviour, Effect, Choice, Fires, TrapsInGuard, TrapsInBody, Waits, Picks, Faults}
 use Rattle.rvc_base.specs.Lawful.{tokens_on}

@@ -1,9 +1,9 @@
 -- Parts that stand twice, by what was met before, in any order.
-use Rattle.std.proofs.Common.{◌≡◌, ℕ, Bool, true, false, ◌||◌, List, [], ◌∷◌, ◌++◌, refl, sym, ap, ◌∙◌}
+use Rattle.std.proofs.Common.{◌≡◌, Bool, true, false, ◌||◌, List, [], ◌∷◌, ◌++◌, refl, sym, ap, ◌∙◌}
 use Rattle.std.specs.Prelude.{if◌then◌else◌}
 use Rattle.std.specs.List.{list_any}
 use Rattle.rvc_base.specs.declared.refusal.Rule.{Rule}
-use Rattle.cal_check.specs.Violations.{Keyed, Violation, violation, is_met, twice}
+use Rattle.cal_check.specs.Violations.{Keyed, violation, is_met, twice}
 
 either : (b c d e : Bool) → e ≡ (if c then true else d) → (if b then true else e) ≡ (if c then true else if b then true else d)
 either true true d e h = refl

@@ -1,20 +1,18 @@
 -- Transitions one after another: what they break, and where they lead.
-use Rattle.std.proofs.Common.{◌≡◌, ℕ, ◌+◌, ◌*◌, ◌<◌, ◌≤◌, Bool, true, false, not, List, [], ◌∷◌, ◌++◌, map, length, get_or, refl, sym, ap, subst, ◌∙◌, arith, append_assoc, Option, Some, None}
+use Rattle.std.proofs.Common.{◌≡◌, ℕ, ◌+◌, ◌<◌, ◌≤◌, true, false, not, List, [], ◌∷◌, ◌++◌, length, sym, ap, ◌∙◌, arith, append_assoc, Option, Some}
 use Rattle.rvc_base.specs.Rules.{ambiguous_transition, too_many_actions}
 use Rattle.std.specs.Prelude.{nat_le}
 use Rattle.cal_ast.specs.Tree.{Tree}
 use Rattle.cal_ast.specs.View.{move_tree, schedule_tree}
 use Rattle.cal_ast.specs.declared.action.Schedule.{Schedule}
 use Rattle.cal_ast.specs.declared.action.Move.{Move as DeclaredMove}
-use Rattle.cal_model.specs.Actor.{Action, Actor, Move}
+use Rattle.cal_model.specs.Actor.{Actor, Move}
 use Rattle.cal_model.specs.Sound.{max_states}
 use Rattle.cal_model.specs.Tags.{moves_of}
 use Rattle.cal_check.specs.Schedules.{moves_broken, moves_listed, schedule_broken, some_departs, states_of, tags_broken, transition_of, transitions_of}
 use Rattle.cal_check.specs.Violations.{unless}
-use Rattle.schedule_fsm.specs.Automaton.{entry}
 use Rattle.member_check.specs.Judging.{Refuses}
 use Rattle.member_check.specs.Parts.{schedule_and_states_broken, tags_tree, transitions_tree}
-use Rattle.member_check.specs.Targets.{Tells}
 use Rattle.member_check.specs.declared.fault.MemberFault.{MemberFault}
 use Rattle.member_check.specs.declared.fault.MemberFault.TheVariants as fault
 use Rattle.member_check.proofs.Broken.{refuses-left, refuses-right, refuses-same, refuses-unless}

@@ -1,14 +1,14 @@
 -- Numbers of ports, each of which is asked for once.
-use Rattle.std.proofs.Common.{◌≡◌, ℕ, suc, ◌+◌, ◌<◌, ◌≤◌, Bool, true, false, List, [], ◌∷◌, ◌++◌, map, length, take, drop, get_or, refl, sym, ap, ◌∙◌, arith, add-one, drop-cons}
+use Rattle.std.proofs.Common.{◌≡◌, ℕ, suc, ◌+◌, ◌<◌, ◌≤◌, Bool, true, false, List, [], ◌∷◌, ◌++◌, length, take, drop, get_or, refl, sym, ap, ◌∙◌, arith, add-one, drop-cons}
 use Rattle.std.specs.Prelude.{◌==◌, ◌||◌, if◌then◌else◌}
 use Rattle.std.specs.List.{list_any}
 use Rattle.std.proofs.lemmas.List.{drop_all, take_more}
 use Rattle.rvc_base.specs.Rules.{port_named_twice}
-use Rattle.cal_check.specs.Ports.{Asked, keyed_numbers, numbers_twice}
+use Rattle.cal_check.specs.Ports.{keyed_numbers}
 use Rattle.cal_check.specs.Violations.{Violation, is_met, twice, violation}
-use Rattle.member_check.specs.Asking.{asked_view, asked_views}
+use Rattle.member_check.specs.Asking.{asked_views}
 use Rattle.member_check.specs.declared.asked.AskedPort.{AskedPort}
-use Rattle.member_check.proofs.MetBefore.{met-any, twice-new, twice-old}
+use Rattle.member_check.proofs.MetBefore.{twice-new, twice-old}
 
 turned : (n m : ℕ) → (n == m) ≡ (m == n)
 turned n m = grind arith

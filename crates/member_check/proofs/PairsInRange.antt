@@ -1,20 +1,16 @@
 -- Pairs of priorities: they are of actions, and if there are some, a word `priority` stands among the members.
-use Rattle.std.proofs.Common.{◌≡◌, ℕ, suc, ◌+◌, ◌<◌, ◌≤◌, ⊎_elim, List, [], ◌∷◌, ◌++◌, length, map, get_or, refl, sym, ap, subst, ◌∙◌, arith, Contains, All, Option, Some, None}
+use Rattle.std.proofs.Common.{◌≡◌, ℕ, suc, ◌<◌, ⊎_elim, List, [], ◌∷◌, length, map, get_or, refl, subst, ◌∙◌, arith, Contains, None}
 use Rattle.std.proofs.lemmas.List.Elements.{Contains-append_cases, Contains-get_or}
 use Rattle.rvc_base.specs.Chain.{ChainLeads, IsAbove}
 use Rattle.cal_ast.specs.Tree as tree
 use Rattle.cal_ast.specs.Tree.{Tree}
-use Rattle.cal_ast.specs.View.{member_tree}
-use Rattle.cal_ast.specs.declared.member.Member.{Member}
-use Rattle.cal_ast.specs.declared.member.Member.TheVariants as members
-use Rattle.cal_model.specs.Actor.{Action, Actor}
-use Rattle.cal_model.specs.Tags.{each_above, pairs_of, stands_for, stands_from}
+use Rattle.cal_model.specs.Actor.{Actor}
+use Rattle.cal_model.specs.Tags.{each_above, pairs_of, stands_for}
 use Rattle.cal_check.specs.Schedules.{chains_pairs, first_priority, pairs_in, tags_listed}
-use Rattle.cal_check.specs.Actions.{tag_parts}
 use Rattle.cal_model.specs.declared.bound.BoundAction.{BoundAction}
 use Rattle.priority_order.specs.Cycle.{IsRing}
 use Rattle.priority_order.specs.Closed.{IsInRange}
-use Rattle.member_check.specs.Parts.{action_views, actor_with, members_tree}
+use Rattle.member_check.specs.Parts.{action_views, actor_with}
 use Rattle.cal_check.proofs.Lists.{head-or-rest, in-none}
 use Rattle.member_check.proofs.Meant.{actions-count, stands-below}
 

@@ -1,5 +1,5 @@
 -- Steps of a schedule, of which an automaton can be built.
-use Rattle.std.proofs.Common.{◌≡◌, ℕ, zero, suc, ◌<◌, List, [], ◌∷◌, map, length, get_or, refl, sym, ap, subst, ◌∙◌, arith, Option, Some, All}
+use Rattle.std.proofs.Common.{◌≡◌, ℕ, zero, suc, ◌<◌, List, [], ◌∷◌, map, length, get_or, refl, sym, ap, subst, ◌∙◌, arith, Some, All}
 use Rattle.std.specs.Prelude.{slice_get, string_bytes}
 use Rattle.cal_ast.specs.View.{schedule_tree}
 use Rattle.cal_ast.specs.declared.action.Schedule.{Schedule}

@@ -1,11 +1,11 @@
 -- Schedules and priorities ask for an actor's actions and states alone.
-use Rattle.std.proofs.Common.{◌≡◌, ℕ, List, [], ◌∷◌, ◌++◌, refl, sym, ap, ◌∙◌, Option, Some, None, not}
+use Rattle.std.proofs.Common.{◌≡◌, ℕ, List, [], ◌∷◌, ◌++◌, refl, sym, ap, ◌∙◌, Option, Some, not}
 use Rattle.rvc_base.specs.Rules.{ambiguous_transition}
 use Rattle.cal_ast.specs.Tree as tree
 use Rattle.cal_ast.specs.Tree.{Tree}
 use Rattle.cal_model.specs.Actor.{Action, Actor, Move}
 use Rattle.cal_model.specs.Tags.{Transition, each_above, moves_by, moves_by_tags, moves_of, number_of_name, pairs_of, stands_for}
-use Rattle.cal_check.specs.Violations.{Violation, unless}
+use Rattle.cal_check.specs.Violations.{unless}
 use Rattle.cal_check.specs.Schedules.{chains_pairs, moves_broken, moves_in, moves_listed, pairs_in, schedule_broken, some_departs, tags_broken, tags_listed, transition_of, transitions_of}
 use Rattle.member_check.specs.Parts.{actor_with}
 

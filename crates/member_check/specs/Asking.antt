@@ -1,6 +1,6 @@
 -- Parts that ask for a port: patterns and outputs.
 -- Trusted but for `asked_view` and `asked_views`: part of what a promise means.
-use Rattle.std.specs.Prelude.{ℕ, List, map, option_map, string_bytes}
+use Rattle.std.specs.Prelude.{List, map, option_map}
 use Rattle.cal_ast.specs.Tree.{Tree, listed}
 use Rattle.cal_ast.specs.View.{output_tree, pattern_tree}
 use Rattle.cal_ast.specs.declared.action.Output.{Output}

@@ -1,6 +1,6 @@
 -- Parts of an actor as the calls are asked about them: lists of parts as trees, and what of them needs no expression.
 -- Trusted: part of what a promise means.
-use Rattle.std.specs.Prelude.{ℕ, Bool, List, [], ◌∷◌, ◌++◌, length, map, nat_le, Option, Some, None, Vec, option_map}
+use Rattle.std.specs.Prelude.{ℕ, List, [], ◌++◌, length, map, nat_le, Option, Vec, option_map}
 use Rattle.std.specs.declared.alloc.Global.{Global}
 use Rattle.std.specs.Borrow.{Bor}
 use Rattle.std.specs.Str.{bytes_eq}

@@ -1,6 +1,6 @@
 -- Where moves lead, as a table: a row for each state and a column for each action.
 -- Not trusted: no promise is read with it.
-use Rattle.std.specs.Prelude.{◌≡◌, ◌≢◌, ℕ, ◌+◌, ◌*◌, ◌<◌, List, [], ◌∷◌, ◌++◌, Option, None, Some, length, true, Contains}
+use Rattle.std.specs.Prelude.{◌≡◌, ℕ, ◌+◌, ◌*◌, ◌<◌, List, [], ◌∷◌, ◌++◌, Option, Some, length, true, Contains}
 use Rattle.schedule_fsm.specs.Automaton.{entry}
 use Rattle.cal_model.specs.Actor.{Action, Move}
 use Rattle.cal_model.specs.Sound.{Each}

@@ -80,13 +80,15 @@ fn add_member(
     actions: &[BoundAction],
 ) -> Result<(), MemberFault>
     requires { length actions.now ≤ max_actions }
-    ensures fine { OnOk result ((more : Tree) → priorities_broken (tree.cons (member_tree member.now) more) (action_views actions.now)
+    ensures fine { OnOk result ((more : Tree) → priorities_broken
+        (tree.cons (member_tree member.now) more) (action_views actions.now)
         ≡ priorities_broken more (action_views actions.now)) }
     ensures broken { IfErr result (λ fault. (more : Tree) → Refuses fault
         (priorities_broken (tree.cons (member_tree member.now) more) (action_views actions.now))) }
     ensures added { OnOk result ((more : Tree)
         → pairs.new.items ++ pairs_in more (actor_with (action_views actions.now) [])
-        ≡ pairs.old.items ++ pairs_in (tree.cons (member_tree member.now) more) (actor_with (action_views actions.now) [])) }
+        ≡ pairs.old.items ++ pairs_in (tree.cons (member_tree member.now) more)
+        (actor_with (action_views actions.now) [])) }
 {
     match member {
         Member::Priority(priority) => add_chains(pairs, &priority.chains, actions),

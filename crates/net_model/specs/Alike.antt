@@ -34,7 +34,8 @@ EffectsAlike related effect other = ⊥
 
 -- Two actors behave alike if their rates are the same and, in related states and over tokens that may come,
 -- so are their choices and what their actions make.
-pub record BehaveAlike {X Y : Type 0} (related : X → Y → Type 0) (allowed : ℕ → ℤ → Type 0) (one : Behaviour X) (other : Behaviour Y) : Type 0 where
+pub record BehaveAlike {X Y : Type 0} (related : X → Y → Type 0) (allowed : ℕ → ℤ → Type 0)
+    (one : Behaviour X) (other : Behaviour Y) : Type 0 where
   pub starts : related one.start other.start
   pub same_ins : one.ins ≡ other.ins
   pub same_need : (a p : ℕ) → one.need a p ≡ other.need a p
@@ -61,7 +62,8 @@ abbrev pub StoresAllowed : Allowed → Link → End → Type 0
 StoresAllowed allowed link (AtLeaf inst port) = (v : ℤ) → allowed inst.0 port (conv link.kind v)
 StoresAllowed allowed link (AtNet port) = Unit {0}
 
-pub record AreAlike {X Y : Type 0} (related : ℕ → X → Y → Type 0) (allowed : Allowed) (net : Network X) (other : Network Y) : Type 0 where
+pub record AreAlike {X Y : Type 0} (related : ℕ → X → Y → Type 0) (allowed : Allowed)
+    (net : Network X) (other : Network Y) : Type 0 where
   pub leaves : LeavesAlike related allowed 0 net.leaves other.leaves
   pub links : net.links ≡ other.links
   pub ins : net.ins ≡ other.ins
@@ -82,7 +84,8 @@ HoldsAllowed allowed flow (AtLeaf inst port) = EachIs (allowed inst.0 port) flow
 HoldsAllowed allowed flow (AtNet port) = Unit {0}
 
 -- two network states are alike: related actors, equal flows and marks
-pub record StatesAlike {X Y : Type 0} (related : ℕ → X → Y → Type 0) (allowed : Allowed) (net : Network X) (s : State X) (t : State Y) : Type 0 where
+pub record StatesAlike {X Y : Type 0} (related : ℕ → X → Y → Type 0) (allowed : Allowed)
+    (net : Network X) (s : State X) (t : State Y) : Type 0 where
   pub actors : ActorsAlike related 0 s.actors t.actors
   pub flows : s.flows ≡ t.flows
   pub trapped : s.trapped ≡ t.trapped

@@ -151,7 +151,8 @@ EndsBurst rooms limit fired last (burst.Trap action cause) new =
     (fired < limit) × TrapsNow rooms last action.0 cause × IsLeftByTrap last new
 
 -- at most `limit` selected firings
-pub record Bursts {X : Type 0} (rooms : List ℕ) (limit : ℕ) (old : Cell X) (end : BurstEnd) (new : Cell X) : Type 0 where
+pub record Bursts {X : Type 0} (rooms : List ℕ) (limit : ℕ) (old : Cell X) (end : BurstEnd)
+    (new : Cell X) : Type 0 where
   pub actions : List ℕ
   pub last : Cell X
   pub few : length actions ≤ limit

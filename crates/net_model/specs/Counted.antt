@@ -63,7 +63,8 @@ abbrev pub sent_count : {X : Type 0} → Network X → State X → ℕ → ℕ
 sent_count net s p = length (sent_to p net.links s.flows)
 
 -- The numbers count lines that lead from s to last, over these inputs.
-pub record IsCounted {X : Type 0} (net : Network X) (inputs : List (List ℕ)) (s : State X) (lines : List Line) (last : State X) (counts : Counts) : Type 0 where
+pub record IsCounted {X : Type 0} (net : Network X) (inputs : List (List ℕ)) (s : State X)
+    (lines : List Line) (last : State X) (counts : Counts) : Type 0 where
   pub firings : counts.firings ≡ length (firings_shown lines)
   pub rounds : counts.rounds ≡ deliveries_in lines
   pub links : length counts.arrived.items ≡ length net.links

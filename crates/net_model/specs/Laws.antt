@@ -137,7 +137,8 @@ StalledIsNotQuiet X = (net : Network X) (s : State X) (i a l : ℕ) → AreLawfu
     → IsStalled net s i a l → IsQuiet net s → ⊥
 
 -- an event from t and another from u lead to one state
-pub record Meets {X : Type 0} (net : Network X) (t : State X) (from_t : Event) (u : State X) (from_u : Event) : Type 0 where
+pub record Meets {X : Type 0} (net : Network X) (t : State X) (from_t : Event) (u : State X)
+    (from_u : Event) : Type 0 where
   pub last : State X
   pub one_way : happens net t from_t ≡ Some last
   pub other_way : happens net u from_u ≡ Some last

@@ -227,7 +227,8 @@ share_of net pace at =
     record { burst = pace.burst; left = at.left; picks = count_picked (picked net pace at) }
 
 -- one round: a delivery, the bursts of the picked leaves, and what closes it
-pub record IsRound {X : Type 0} (net : Network X) (pace : Pace) (at : Moment X) (block : Block) (last : State X) : Type 0 where
+pub record IsRound {X : Type 0} (net : Network X) (pace : Pace) (at : Moment X) (block : Block)
+    (last : State X) : Type 0 where
   pub untrapped : at.state.trapped ≡ false
   pub halts : List Halt
   pub fired : State X
@@ -259,13 +260,15 @@ AreRounds {X} net pace at (block ∷ blocks) reached =
     × AreRounds net pace (next_moment at block last) blocks reached
 
 -- Lines are begun from a state: they are whole rounds, perhaps none, and no end has come yet.
-pub record IsBegun {X : Type 0} (net : Network X) (pace : Pace) (s : State X) (lines : List Line) (reached : Moment X) : Type 0 where
+pub record IsBegun {X : Type 0} (net : Network X) (pace : Pace) (s : State X) (lines : List Line)
+    (reached : Moment X) : Type 0 where
   pub blocks : List Block
   pub rounds : AreRounds net pace (first_moment pace s) blocks reached
   pub lines_are : lines ≡ flat_map lines_of blocks
 
 -- Lines are paced from a state: they are begun, and one round more ends the run.
-pub record IsPaced {X : Type 0} (net : Network X) (pace : Pace) (s : State X) (lines : List Line) (last : State X) : Type 0 where
+pub record IsPaced {X : Type 0} (net : Network X) (pace : Pace) (s : State X) (lines : List Line)
+    (last : State X) : Type 0 where
   pub blocks : List Block
   pub reached : Moment X
   pub rounds : AreRounds net pace (first_moment pace s) blocks reached

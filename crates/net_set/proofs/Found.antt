@@ -9,7 +9,7 @@ use Rattle.std.specs.Str.{bytes_eq}
 use Rattle.std.specs.declared.alloc.Global.{Global as Heap}
 use Rattle.indexmap.specs.IndexMap.{IndexMap, insert_entry}
 use Rattle.indexmap.proofs.CallerLemmas.{insert_entry-new}
-use Rattle.fnl_bind.specs.Library.{Entry, network_of}
+use Rattle.fnl_bind.specs.Library.{network_of}
 use Rattle.net_set.specs.View.{entry_of, entry_under}
 use Rattle.net_set.specs.declared.entry.NetEntry.{NetEntry}
 

@@ -1,5 +1,5 @@
 -- Workers that arrive at a gate.
-use Rattle.std.proofs.Common.{◌≡◌, ℕ, ◌+◌, ◌-◌, ◌<◌, ◌≤◌, sym, subst, ◌∙◌, ⊎_elim, arith}
+use Rattle.std.proofs.Common.{◌≡◌, ℕ, ◌+◌, ◌-◌, ◌<◌, subst, ⊎_elim, arith}
 use Rattle.std.proofs.lemmas.Bool.{cases_lt}
 use Rattle.net_state.specs.declared.sharing.Crew.{Crew}
 use Rattle.net_state.specs.Sharing.{HaveArrived}

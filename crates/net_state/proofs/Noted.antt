@@ -1,5 +1,5 @@
 -- A network that is opened again as by an earlier delivery.
-use Rattle.std.proofs.Common.{◌≡◌, ℕ, ◌+◌, ◌<◌, ◌≤◌, min, max, false, List, length, refl, sym, ap, subst, ◌∙◌, ⊎_elim, arith}
+use Rattle.std.proofs.Common.{◌≡◌, ℕ, ◌+◌, ◌<◌, ◌≤◌, List, length, refl, sym, ap, ◌∙◌, ⊎_elim, arith}
 use Rattle.std.specs.Prelude.{Some, slice_get, slice_set, slice_index_or}
 use Rattle.std.proofs.lemmas.Bool.{cases_eq}
 use Rattle.std.proofs.lemmas.List.{length-set, get_or-set_same, get_or-set_other}
@@ -7,12 +7,10 @@ use Rattle.std.proofs.lemmas.Option.{slice_get_within}
 use Rattle.net_model.specs.declared.wiring.End.{End}
 use Rattle.net_model.specs.declared.wiring.End.TheVariants.{Leaf as AtLeaf, Net as AtNet}
 use Rattle.net_model.specs.declared.wiring.Link.{Link}
-use Rattle.net_model.specs.Network.{Network, is_input}
-use Rattle.net_model.specs.State.{State}
 use Rattle.net_model.specs.Cell.{Cell}
 use Rattle.net_state.specs.Held.{HasRooms, HasShapeOf, IsRoomTable, IsWorking, held_of}
 use Rattle.net_state.specs.Moving.{IsWriter, sent_from, sent_of}
-use Rattle.net_state.specs.Reopening.{FitNoted, FitWaited, IsReopening, OpensAgain, noted_or}
+use Rattle.net_state.specs.Reopening.{FitWaited, IsReopening, OpensAgain, noted_or}
 use Rattle.net_state.specs.Standing.{AreAllOut}
 use Rattle.net_state.specs.Working.{IsAtRest}
 use Rattle.net_state.proofs.Coming.{on_cell}

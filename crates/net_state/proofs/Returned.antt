@@ -12,18 +12,18 @@ use Rattle.net_model.specs.declared.wiring.Link.{Link}
 use Rattle.net_model.specs.Network.{Network, is_input, is_output, is_outside, is_leaf_port}
 use Rattle.net_model.specs.State.{Flow, State, waiting}
 use Rattle.net_model.specs.Event.{after_arrival}
-use Rattle.net_model.specs.Cell.{Cell, IsSameActor}
+use Rattle.net_model.specs.Cell.{Cell}
 use Rattle.net_model.specs.Ready.{tokens_of, waiting_at}
 use Rattle.net_state.specs.Moving.{AreApart, EachGains, IsWriter, SameActors, SameMarks, only_to, sent_from}
-use Rattle.net_state.specs.Held.{FitsIn, HasRooms, IsReader, IsWorking, held_of}
-use Rattle.net_state.specs.Filling.{AtPort, AtReader}
-use Rattle.net_state.specs.Standing.{AreHeld, IsHeld, IsNetOf, LiesIn, Stands, StandsIn}
+use Rattle.net_state.specs.Held.{HasRooms, IsReader, IsWorking, held_of}
+use Rattle.net_state.specs.Filling.{AtPort}
+use Rattle.net_state.specs.Standing.{IsHeld, LiesIn, StandsIn}
 use Rattle.net_state.specs.Working.{IsAtRest}
 use Rattle.net_state.specs.TakingBack.{TakesBack, waits_at, with_arrival}
 use Rattle.net_state.proofs.Gaining.{some_is, there_too, get_set_same, get_set_other, only_there, other_cell, other_port}
 use Rattle.net_state.proofs.Coming.{by_bool, if_true, if_false, is_own_port, on_cell, sent_from_stays, sent_stays}
 use Rattle.net_state.proofs.Flows.{inbox_at, inbox_beside}
-use Rattle.net_state.proofs.Kept.{moved_rooms, same_few, same_inbox, same_of_gains, same_outbox, same_read, same_reader, same_writer, waits_as_before}
+use Rattle.net_state.proofs.Kept.{moved_rooms, same_few, same_inbox, same_of_gains, same_outbox, same_read, same_reader, same_writer}
 use Rattle.net_state.proofs.Moved.{same_part}
 use Rattle.net_state.proofs.Narrowing.{same_shape}
 

@@ -17,14 +17,13 @@ use Rattle.net_model.specs.Wired.{CoversNeeds, HoldsNeeds, IsWired}
 use Rattle.net_model.specs.Limits.{max_rate}
 use Rattle.net_model.specs.Cell.{Cell, HasRoom, LacksRoomOn, held_after, number_on, unread_room}
 use Rattle.net_model.specs.Cell.{effect_of as cell_effect, choice_of as cell_choice}
-use Rattle.net_model.specs.Ready.{tokens_of, waiting_at}
 use Rattle.net_state.specs.Moving.{AreApart, IsWriter, sent_of}
-use Rattle.net_state.specs.Held.{IsReader, IsWorking, held_of}
+use Rattle.net_state.specs.Held.{IsWorking, held_of}
 use Rattle.net_state.specs.Standing.{IsNetOf, LiesIn, Stands}
 use Rattle.net_state.specs.Working.{AreFed, IsAtRest, LacksFrom}
 use Rattle.net_state.proofs.Gaining.{some_is, there_too}
 use Rattle.net_state.proofs.Coming.{by_bool, if_true, if_false, is_own_port, is_that_port, on_cell}
-use Rattle.net_state.proofs.Flows.{changed_at, changed_count, changed_so, inbox_alike, inbox_at, length_waiting}
+use Rattle.net_state.proofs.Flows.{changed_at, changed_count, changed_so, inbox_alike, length_waiting}
 use Rattle.net_state.proofs.Moved.{waiting_all}
 use Rattle.net_state.proofs.Untaken.{untaken_waits}
 use Rattle.net_state.proofs.Firings.{LeafOf, leaf_of, give_is}

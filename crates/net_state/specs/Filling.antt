@@ -41,7 +41,8 @@ SameRest kind (Some before) None = ⊥
 SameRest kind (Some before) (Some after) = rest_of kind after ≡ rest_of kind before
 
 -- `count` of the tokens to come went behind those before port q of cell j, each stored in the reader's type
-pub record Takes {X : Type 0} (kind stored_in : Scalar) (j q count : ℕ) (old new : List (Cell X)) (coming_old coming_new : Option (List ℕ)) : Type 0 where
+pub record Takes {X : Type 0} (kind stored_in : Scalar) (j q count : ℕ) (old new : List (Cell X))
+    (coming_old coming_new : Option (List ℕ)) : Type 0 where
   pub taken : List ℤ
   pub count_is : length taken ≡ count
   pub gains : EachGains (only_to j q (map (conv stored_in) taken)) old new
@@ -83,7 +84,8 @@ IsFed s l (Some link) feed = (ts : List ℤ) × AreToCome feed.kind feed.bytes t
     × (unarrived (slice_get s.flows l) ≡ map (conv link.kind) ts)
 
 -- The state goes on by the arrival of `count` tokens of link l, to one that stands.
-pub record Arrives {X : Type 0} (net : Network X) (s : State X) (l count : ℕ) (feed : Inflow) (new : Held (Cell X)) : Type 0 where
+pub record Arrives {X : Type 0} (net : Network X) (s : State X) (l count : ℕ) (feed : Inflow)
+    (new : Held (Cell X)) : Type 0 where
   pub next : State X
   pub happens_so : happens net s (Deliver l count) ≡ Some next
   pub stands : StandsIn net new next
@@ -93,7 +95,8 @@ pub record Arrives {X : Type 0} (net : Network X) (s : State X) (l count : ℕ) 
       → IsOpened net.links new.waited next.flows next.flows
 
 -- Tokens of a feed came over link l: how many is `told`. Each state goes on whose unread tokens are the feed's.
-pub record Fills {X : Type 0} (l : ℕ) (before after : Inflow) (told : ℕ → Type 0) (old new : Held (Cell X)) : Type 0 where
+pub record Fills {X : Type 0} (l : ℕ) (before after : Inflow) (told : ℕ → Type 0)
+    (old new : Held (Cell X)) : Type 0 where
   pub count : ℕ
   pub told_is : told count
   pub took : AtReader (slice_get old.links l)

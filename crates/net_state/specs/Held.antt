@@ -126,7 +126,8 @@ abbrev pub HoldFew : List ℕ → Type 0
 HoldFew capacities = (l : ℕ) → slice_index_or capacities l 0 ≤ unread_room
 
 -- what holds of all that is held
-pub record IsWorking {X : Type 0} (cells : List (Cell X)) (links : List Link) (capacities waited : List ℕ) : Type 0 where
+pub record IsWorking {X : Type 0} (cells : List (Cell X)) (links : List Link)
+    (capacities waited : List ℕ) : Type 0 where
   pub each_holds : length capacities ≡ length links
   pub each_waited : length waited ≡ length links
   pub apart : AreApart links
@@ -147,7 +148,8 @@ pub record HasWidths {X : Type 0} (cells : List (Cell X)) (table : List (List �
       → slice_get table i ≡ Some row → length row ≡ cell.actor.outs
 
 -- the table of rooms fits the cells
-pub record HasRooms {X : Type 0} (cells : List (Cell X)) (links : List Link) (capacities waited : List ℕ) (table : List (List ℕ)) : Type 0 where
+pub record HasRooms {X : Type 0} (cells : List (Cell X)) (links : List Link)
+    (capacities waited : List ℕ) (table : List (List ℕ)) : Type 0 where
   pub rows : length table ≡ length cells
   pub widths : (i : ℕ) (cell : Cell X) (row : List ℕ) → slice_get cells i ≡ Some cell
       → slice_get table i ≡ Some row → length row ≡ cell.actor.outs

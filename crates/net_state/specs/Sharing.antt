@@ -50,7 +50,8 @@ pub record IsReady {X : Type 0} (burst : ℕ) (row : List ℕ) (cell : Cell X) :
   pub fits : AreRooms cell row
 
 -- cells that stand in a row, with their marks and the rooms of their ports
-pub record IsPart {X : Type 0} (shares : Shares) (part : Part) (marks : List Bool) (rows : List (List ℕ)) (cells : List (Cell X)) : Type 0 where
+pub record IsPart {X : Type 0} (shares : Shares) (part : Part) (marks : List Bool)
+    (rows : List (List ℕ)) (cells : List (Cell X)) : Type 0 where
   pub marked : length marks ≡ length cells
   pub roomy : length rows ≡ length cells
   pub few : part.cell + length cells ≤ max_instances
@@ -60,7 +61,8 @@ pub record IsPart {X : Type 0} (shares : Shares) (part : Part) (marks : List Boo
       → slice_get cells i ≡ Some cell → IsReady shares.burst row cell
 
 -- one cell's burst, from where it stood when the round began
-pub record BurstsBy {X : Type 0} (limit : ℕ) (row : List ℕ) (before : Cell X) (end : BurstEnd) (after : Cell X) : Type 0 where
+pub record BurstsBy {X : Type 0} (limit : ℕ) (row : List ℕ) (before : Cell X) (end : BurstEnd)
+    (after : Cell X) : Type 0 where
   pub some : 1 ≤ limit
   pub untrapped : before.trapped ≡ false
   pub empty : before.journal ≡ []
@@ -70,18 +72,23 @@ pub record BurstsBy {X : Type 0} (limit : ℕ) (row : List ℕ) (before : Cell X
 
 -- The marked cells made their bursts, each once and by its own rooms, and the others stayed. The first of these cells
 -- has number i, and k lower ones are marked.
-pub data EachBursts {X : Type 0} (limit : ℕ → ℕ) : ℕ → ℕ → List Bool → List (List ℕ) → List (Cell X) → Made → List (Cell X) → Type 0 where
+pub data EachBursts {X : Type 0} (limit : ℕ → ℕ) : ℕ → ℕ → List Bool → List (List ℕ) → List (Cell X)
+    → Made → List (Cell X) → Type 0 where
   none_left : (i k : ℕ) → EachBursts limit i k [] [] [] none_made []
-  stays : (i k : ℕ) (marks : List Bool) (row : List ℕ) (rows : List (List ℕ)) (cell : Cell X) (old new : List (Cell X)) (made : Made)
+  stays : (i k : ℕ) (marks : List Bool) (row : List ℕ) (rows : List (List ℕ)) (cell : Cell X)
+      (old new : List (Cell X)) (made : Made)
       → EachBursts limit (suc i) k marks rows old made new
       → EachBursts limit i k (false ∷ marks) (row ∷ rows) (cell ∷ old) made (cell ∷ new)
-  bursts : (i k : ℕ) (marks : List Bool) (row : List ℕ) (rows : List (List ℕ)) (before after : Cell X) (old new : List (Cell X)) (end : BurstEnd) (made : Made)
+  bursts : (i k : ℕ) (marks : List Bool) (row : List ℕ) (rows : List (List ℕ))
+      (before after : Cell X) (old new : List (Cell X)) (end : BurstEnd) (made : Made)
       → BurstsBy (limit k) row before end after
       → EachBursts limit (suc i) (suc k) marks rows old made new
-      → EachBursts limit i k (true ∷ marks) (row ∷ rows) (before ∷ old) (joined (made_by (record { 0 = i }) (length after.journal) end) made) (after ∷ new)
+      → EachBursts limit i k (true ∷ marks) (row ∷ rows) (before ∷ old)
+      (joined (made_by (record { 0 = i }) (length after.journal) end) made) (after ∷ new)
 
 -- the burst of the cell at a place, which has this number, and what came of it
-pub record MakesAt {X : Type 0} (i : ℕ) (inst : InstId) (limit : ℕ) (row : List ℕ) (old : List (Cell X)) (made : Made) (new : List (Cell X)) : Type 0 where
+pub record MakesAt {X : Type 0} (i : ℕ) (inst : InstId) (limit : ℕ) (row : List ℕ)
+    (old : List (Cell X)) (made : Made) (new : List (Cell X)) : Type 0 where
   pub end : BurstEnd
   pub bursts : BurstsAt i limit row old end new
   pub made_is : made ≡ made_by inst (length (journal_of (slice_get new i))) end

@@ -38,7 +38,8 @@ pub record IsHeld {X : Type 0} (cells : List (Cell X)) (link : Link) (flow : Flo
   pub gone : is_output link ≡ true → flow.taken ≡ flow.arrived
 
 -- the same of each link
-pub record AreHeld {X : Type 0} (cells : List (Cell X)) (links : List Link) (flows : List Flow) (capacities : List ℕ) : Type 0 where
+pub record AreHeld {X : Type 0} (cells : List (Cell X)) (links : List Link) (flows : List Flow)
+    (capacities : List ℕ) : Type 0 where
   pub count : length flows ≡ length links
   pub each : (l : ℕ) (link : Link) (flow : Flow) → slice_get links l ≡ Some link
       → slice_get flows l ≡ Some flow
@@ -56,7 +57,8 @@ pub record ActorsHold {X : Type 0} (cells : List (Cell X)) (actors : List X) : T
       → slice_get actors i ≡ Some cell.state
 
 -- the cells hold this state of the network
-pub record Stands {X : Type 0} (net : Network X) (cells : List (Cell X)) (capacities : List ℕ) (s : State X) : Type 0 where
+pub record Stands {X : Type 0} (net : Network X) (cells : List (Cell X)) (capacities : List ℕ)
+    (s : State X) : Type 0 where
   pub actors : ActorsHold cells s.actors
   pub inboxes : InboxesHold cells net.links s.flows
   pub flows : AreHeld cells net.links s.flows capacities

@@ -38,7 +38,8 @@ abbrev pub HasRoomRow : {X : Type 0} → List (Cell X) → ℕ → List ℕ → 
 HasRoomRow cells i rooms = OnCell (slice_get cells i) (λ cell. AreRooms cell rooms)
 
 -- cell i made a burst, and the others stayed
-pub record BurstsAt {X : Type 0} (i limit : ℕ) (rooms : List ℕ) (old : List (Cell X)) (end : BurstEnd) (new : List (Cell X)) : Type 0 where
+pub record BurstsAt {X : Type 0} (i limit : ℕ) (rooms : List ℕ) (old : List (Cell X))
+    (end : BurstEnd) (new : List (Cell X)) : Type 0 where
   pub before : Cell X
   pub after : Cell X
   pub at : slice_get old i ≡ Some before
@@ -66,7 +67,8 @@ traps (burst.NoRoom action port) = false
 traps (burst.Trap action cause) = true
 
 -- A state goes on by the firings of leaf i, to one that stands; `opened` is the state after the last delivery.
-pub record GoesOn {X : Type 0} (net : Network X) (opened : State X) (i limit : ℕ) (s : State X) (actions : List ℕ) (halt : Halt) (new : Held (Cell X)) : Type 0 where
+pub record GoesOn {X : Type 0} (net : Network X) (opened : State X) (i limit : ℕ) (s : State X)
+    (actions : List ℕ) (halt : Halt) (new : Held (Cell X)) : Type 0 where
   pub last : State X
   pub bursts : IsBurst net opened i limit s actions halt last
   pub stands : StandsSince net new opened last
@@ -200,7 +202,8 @@ pub record WorksAt {X : Type 0} (i limit : ℕ) (end : BurstEnd) (old new : Held
 -- Looking, and actions that are tried.
 
 -- cell i was looked at, and nothing that is seen of the cells changed
-pub record LookedAt {X : Type 0} (i : ℕ) (rooms : List ℕ) (old : List (Cell X)) (look : Look) (new : List (Cell X)) : Type 0 where
+pub record LookedAt {X : Type 0} (i : ℕ) (rooms : List ℕ) (old : List (Cell X)) (look : Look)
+    (new : List (Cell X)) : Type 0 where
   pub before : Cell X
   pub after : Cell X
   pub at : slice_get old i ≡ Some before
@@ -211,7 +214,8 @@ pub record LookedAt {X : Type 0} (i : ℕ) (rooms : List ℕ) (old : List (Cell 
   pub same : IsSame before after
 
 -- an action of cell i was tried, and the other cells stayed
-pub record TriedAt {X : Type 0} (i : ℕ) (rooms : List ℕ) (a : ℕ) (old : List (Cell X)) (tried : Tried) (new : List (Cell X)) : Type 0 where
+pub record TriedAt {X : Type 0} (i : ℕ) (rooms : List ℕ) (a : ℕ) (old : List (Cell X))
+    (tried : Tried) (new : List (Cell X)) : Type 0 where
   pub before : Cell X
   pub after : Cell X
   pub at : slice_get old i ≡ Some before

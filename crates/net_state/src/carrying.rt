@@ -1,6 +1,6 @@
 //! Tokens on their way from an output to an input.
 
-ghost use Rattle.std.specs.Prelude.{◌≡◌, ◌≤◌, ◌<◌, [], ◌∷◌, length, map, slice_get, Some};
+ghost use Rattle.std.specs.Prelude.{◌≡◌, ◌<◌, [], ◌∷◌, length, map, slice_get, Some};
 ghost use Rattle.rvc_base.specs.Storing.{IsSize};
 ghost use Rattle.net_state.specs.Moving.{AreApart, CanCarry, CanCarryAll, Carries, CarriesAlong, HasRoomBefore, IsOutput, IsWriter, carried, sent_by};
 

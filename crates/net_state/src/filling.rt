@@ -1,9 +1,8 @@
 //! An input link is filled from its feed.
 
-ghost use Rattle.std.specs.Prelude.{◌≡◌, ◌≤◌, ◌<◌, ◌+◌, ℕ, true, length, map, slice_get, OnErr};
+ghost use Rattle.std.specs.Prelude.{◌≡◌, ◌<◌, ◌+◌, true, length, map, OnErr};
 ghost use Rattle.rvc_base.specs.Storing.{IsSize};
 ghost use Rattle.rvc_io.specs.Feeds.{PullsOnly, ReadFails};
-ghost use Rattle.net_model.specs.Ready.{tokens_of};
 ghost use Rattle.port_files.specs.Coming.{EndIsTrue};
 ghost use Rattle.net_state.specs.Fed.{DueAt, DueOn, Fed, FedOn, FilledOn, FilledUp, IsReadBy, KeepsRest};
 ghost use Rattle.net_state.specs.Filling.{AtPort};

@@ -1,7 +1,6 @@
 //! A link grows at a stall.
 
-ghost use Rattle.std.specs.Prelude.{◌≡◌, ◌<◌, ◌≤◌, ◌*◌, length, map, min, slice_get, slice_index_or, slice_set, vec_items};
-ghost use Rattle.net_model.specs.Ready.{OnCell};
+ghost use Rattle.std.specs.Prelude.{◌≡◌, ◌<◌, ◌*◌, map, min, slice_get, slice_index_or, slice_set, vec_items};
 ghost use Rattle.net_state.specs.Held.{HasRooms, IsWorking};
 ghost use Rattle.net_state.specs.Working.{CanHold, GrewFrom};
 

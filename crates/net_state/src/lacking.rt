@@ -1,8 +1,8 @@
 //! The link on which an action lacks room.
 
-ghost use Rattle.std.specs.Prelude.{◌≡◌, ◌<◌, ℕ, true, false, IfNone, IfSome, length, map, nat_lt, slice_get};
+ghost use Rattle.std.specs.Prelude.{◌≡◌, ◌<◌, true, false, IfNone, IfSome, length, map};
 ghost use Rattle.net_state.specs.Held.{IsWorking};
-ghost use Rattle.net_state.specs.Moving.{IsOutput, IsWriter};
+ghost use Rattle.net_state.specs.Moving.{IsWriter};
 ghost use Rattle.net_state.specs.Working.{HasAction, LacksOnEnd, LowestOf, NoneLacks};
 
 use crate::places::give_at;

@@ -1,6 +1,6 @@
 //! The table of rooms: how many tokens each output port may hold in its outbox.
 
-ghost use Rattle.std.specs.Prelude.{◌≡◌, ◌≤◌, ◌<◌, ◌-◌, ℕ, List, min, length, map, replicate, slice_get, slice_index_or, slice_set, vec_items, vec_len, Some};
+ghost use Rattle.std.specs.Prelude.{◌≡◌, ◌≤◌, ◌<◌, ◌-◌, ℕ, min, length, map, replicate, slice_index_or, slice_set, vec_items, vec_len};
 ghost use Rattle.net_model.specs.declared.wiring.Link.{Link};
 ghost use Rattle.net_model.specs.Cell.{unread_room};
 ghost use Rattle.net_state.specs.Held.{HasPlace, HasShapeOf, HavePlaces, IsRoomTable, IsWide, Narrows};

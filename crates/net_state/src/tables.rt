@@ -1,6 +1,6 @@
 //! The tables of a network, made once.
 
-ghost use Rattle.std.specs.Prelude.{◌≡◌, ◌<◌, ◌≤◌, IfOk, length, map, replicate, slice_get, vec_items, vec_len};
+ghost use Rattle.std.specs.Prelude.{◌≡◌, ◌<◌, IfOk, length, map, slice_get, vec_items};
 ghost use Rattle.net_model.specs.declared.wiring.Link.{Link};
 ghost use Rattle.rvc_base.specs.Lawful.{IsLawful};
 ghost use Rattle.net_model.specs.Ready.{OnCell};

@@ -1,6 +1,6 @@
 //! A token that came over an input link is taken back, and put back later.
 
-ghost use Rattle.std.specs.Prelude.{◌≡◌, ◌≤◌, ◌<◌, ◌∷◌, [], length, map};
+ghost use Rattle.std.specs.Prelude.{◌≤◌, ◌<◌, ◌∷◌, [], length, map};
 ghost use Rattle.net_model.specs.Ready.{waiting_at};
 ghost use Rattle.net_state.specs.Filling.{AtPort};
 ghost use Rattle.net_state.specs.Moving.{EachGains, HasRoomBefore, IsInput, only_to};

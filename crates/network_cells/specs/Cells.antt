@@ -10,7 +10,8 @@ use Rattle.network_cells.specs.Rooms.{in_rooms, out_rooms}
 
 -- There is a cell of each lowered actor, in its first state and with nothing in it. Its queues are made for the links at
 -- its ports, and its journal for so many firings.
-pub record AreCellsOf (codes : List Actor) (links : List Link) (burst grow : ℕ) (cells : List (Cell ActorState)) : Type 0 where
+pub record AreCellsOf (codes : List Actor) (links : List Link) (burst grow : ℕ)
+    (cells : List (Cell ActorState)) : Type 0 where
   pub one_each : length cells ≡ length codes
   pub starts : (i : ℕ) (code : Actor) (cell : Cell ActorState) → slice_get codes i ≡ Some code
       → slice_get cells i ≡ Some cell

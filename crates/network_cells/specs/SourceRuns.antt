@@ -132,7 +132,8 @@ abbrev pub CellsBeginAlike : Type 0
 CellsBeginAlike = (c : Compiled) → IsCompiled c → BeginAlike c
 
 -- so these lines are paced from a state, with these tokens on the links at the end
-pub record PacesTo {X : Type 0} (net : Network X) (pace : Pace) (s : model.State X) (lines : List Line) (flows : List Flow) : Type 0 where
+pub record PacesTo {X : Type 0} (net : Network X) (pace : Pace) (s : model.State X)
+    (lines : List Line) (flows : List Flow) : Type 0 where
   pub last : model.State X
   pub paced : IsPaced net pace s lines last
   pub flows_are : last.flows ≡ flows

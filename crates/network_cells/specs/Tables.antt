@@ -47,7 +47,8 @@ pub record HasRowsOf (inward : Bool) (codes : List Actor) (table : List (List �
       → length (row_at table i) ≡ ports_of inward code
 
 -- The room of each port is the most that is asked for there, and `least` at least.
-pub record AreRoomsOf (inward : Bool) (grow least : ℕ) (codes : List Actor) (links : List Link) (table : List (List ℕ)) : Type 0 where
+pub record AreRoomsOf (inward : Bool) (grow least : ℕ) (codes : List Actor) (links : List Link)
+    (table : List (List ℕ)) : Type 0 where
   pub shape : HasRowsOf inward codes table
   pub rooms : (i p : ℕ) (code : Actor) → slice_get codes i ≡ Some code → p < ports_of inward code
       → room_at table i p ≡ max least (asked_at inward grow i p links)
@@ -58,7 +59,8 @@ IsCellBy codes ins outs burst i cell = (code : Actor) → slice_get codes i ≡ 
     → IsAtStart code (row_at ins i) (row_at outs i) burst cell
 
 -- one for each of the first n
-pub record AreCellsBy (n : ℕ) (codes : List Actor) (ins outs : List (List ℕ)) (burst : ℕ) (cells : List (Cell ActorState)) : Type 0 where
+pub record AreCellsBy (n : ℕ) (codes : List Actor) (ins outs : List (List ℕ)) (burst : ℕ)
+    (cells : List (Cell ActorState)) : Type 0 where
   pub count : length cells ≡ n
   pub each : (i : ℕ) (cell : Cell ActorState) → slice_get cells i ≡ Some cell
       → IsCellBy codes ins outs burst i cell

@@ -1,7 +1,6 @@
 -- How a command is answered, by whether its report was put.
-use Rattle.std.proofs.Common.{◌≡◌, ⊎_elim, ℕ, List, refl, sym, ap, subst, ◌∙◌, ◌++◌}
+use Rattle.std.proofs.Common.{◌≡◌, ⊎_elim, ℕ, List, refl, sym, subst}
 use Rattle.rvc_io.specs.Channels.{WritesOnlyAt}
-use Rattle.channel_writer.specs.Held.{HoldsFront}
 use Rattle.rvc_engine.specs.declared.fault.BuildFault.{BuildFault}
 use Rattle.rvc_engine.specs.declared.fault.BuildFault.TheVariants as build
 use Rattle.run_report.specs.About.{About}

@@ -24,7 +24,8 @@ pub record BreaksFiles (cmd : Command) (names : List (List ℕ)) (r : Refusal) :
   pub why : RefusesTop cmd.library (top_of cmd) cmd.misses names r
 
 -- the first port word that names no port of the network that is opened, or one that a word before it names
-pub record HasWrongWord (opened : Opened) (cmd : Command) (names : List (List ℕ)) (net : Network State) (r : Refusal) : Type 0 where
+pub record HasWrongWord (opened : Opened) (cmd : Command) (names : List (List ℕ))
+    (net : Network State) (r : Refusal) : Type 0 where
   pub files : HasFiles cmd net
   pub names_are : names ≡ files.names
   pub wrong : IsWrongWord (opened net) (words_of cmd) r

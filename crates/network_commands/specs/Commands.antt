@@ -115,7 +115,8 @@ IsToRun cmd net = IsOfCommand names_of_ports cmd net
 -- What refuses a job of this top and these words, if the library tells of each name: the top is refused, after the files of
 -- these names were read; or the files mean a network, and a port word names no port of it that is opened, or one that a
 -- word before it names.
-pub data RefusesJob (opened : Opened) (library : Library) (top : Asked) (words : List PortText) (misses : Counts) (names : List (List ℕ)) (r : Refusal) : Type 0 where
+pub data RefusesJob (opened : Opened) (library : Library) (top : Asked) (words : List PortText)
+    (misses : Counts) (names : List (List ℕ)) (r : Refusal) : Type 0 where
   in_files : RefusesTop library top misses names r
       → RefusesJob opened library top words misses names r
   in_words : (net : Network State) → IsLibraryNetwork library top net
@@ -123,7 +124,8 @@ pub data RefusesJob (opened : Opened) (library : Library) (top : Asked) (words :
 
 -- if a library tells of each name, a job that conforms isn't refused
 abbrev pub ConformingAreNotRefused : Type 0
-ConformingAreNotRefused = (opened : Opened) (library : Library) (top : Asked) (words : List PortText) (net : Network State)
+ConformingAreNotRefused = (opened : Opened) (library : Library) (top : Asked)
+    (words : List PortText) (net : Network State)
     (misses : Counts) (names : List (List ℕ)) (r : Refusal) → TellsAll library
     → ConformsWith opened library top words net
     → RefusesJob opened library top words misses names r → ⊥

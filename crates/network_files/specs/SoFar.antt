@@ -163,7 +163,8 @@ pub data IsDenied (t : Trial) (missing : Refusal) (bytes : ℕ) (misses : Counts
       → RefusesFile t.told t.want.network (number_of t) bytes refusal
       → IsDenied t missing bytes misses (with_name t) refusal
 
-abbrev pub IsHeld : Trial → (missing : Refusal) → (s : State) → (misses faults : Counts) → (names : List (List ℕ)) → LoadFault → Type 0
+abbrev pub IsHeld : Trial → (missing : Refusal) → (s : State) → (misses faults : Counts)
+    → (names : List (List ℕ)) → LoadFault → Type 0
 IsHeld t missing s misses faults names (Refused refusal) =
     (has t.want s.networks s.sources ≡ false) × IsDenied t missing s.bytes misses names refusal
 IsHeld t missing s misses faults names (ReadFault file) =
@@ -235,7 +236,8 @@ pub record Fails (library : Library) (q : plain.Request) (misses faults : Counts
   pub unread : has want s.networks s.sources ≡ false
   pub failed : IsFailed (trial_of library want names) faults found file
 
-abbrev pub Halts : Library → plain.Request → (misses faults : Counts) → (names found : List (List ℕ)) → State → LoadFault → Type 0
+abbrev pub Halts : Library → plain.Request → (misses faults : Counts)
+    → (names found : List (List ℕ)) → State → LoadFault → Type 0
 Halts library q misses faults names found s (Refused refusal) =
     Denies library q misses names found s refusal
 Halts library q misses faults names found s (ReadFault file) =

@@ -96,7 +96,8 @@ pub record HeadFails (openings : List Opening) (channel : ℕ) (old new : Channe
   pub counted : HasRisen between.faults new.faults
 
 -- All feeds of inputs that have a file are open, the trace's channel, and all channels of outputs that have one.
-pub record AreAllOpen (links : List Link) (ins outs : List (List ℕ)) (words : List PortText) (trace : List ℕ) (feeds : Inputs) (channels : Channels) : Type 0 where
+pub record AreAllOpen (links : List Link) (ins outs : List (List ℕ)) (words : List PortText)
+    (trace : List ℕ) (feeds : Inputs) (channels : Channels) : Type 0 where
   pub feeds_are : (o : Opening) → Contains (feeds_of links ins words) o
       → feeds.is_open o.number ≡ true
   pub channels_are : (o : Opening) → Contains (channels_of trace outs words) o
@@ -109,7 +110,8 @@ IsUnread links ins words old new feed = FeedFails (feeds_of links ins words) fee
 
 module _ (links : List Link) (ins outs : List (List ℕ)) (words : List PortText) where
   -- all feeds were opened, and then a channel couldn't be, or couldn't be written
-  pub record IsUnwritten (trace : List ℕ) (feeds_old feeds_new : Inputs) (old new : Channels) (channel : ℕ) : Type 0 where
+  pub record IsUnwritten (trace : List ℕ) (feeds_old feeds_new : Inputs) (old new : Channels)
+      (channel : ℕ) : Type 0 where
     pub feeds : FeedsAreOpened (feeds_of links ins words) feeds_old feeds_new
     pub fails : ChannelFails (channels_of trace outs words) channel old new
         ⊎ HeadFails (channels_of trace outs words) channel old new

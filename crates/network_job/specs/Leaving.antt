@@ -60,14 +60,16 @@ HoldsPrefix channels channel bytes = channels.is_open channel ≡ true → chann
     → IsPrefix (channels.held channel) bytes
 
 -- The trace is the text of these lines, and each output that has a file has the bytes of what was sent to it.
-pub record Wrote {X : Type 0} (run : Setting X) (lines : List Line) (last : State X) (channels : Channels) : Type 0 where
+pub record Wrote {X : Type 0} (run : Setting X) (lines : List Line) (last : State X)
+    (channels : Channels) : Type 0 where
   pub trace : Holds channels 1 (text run.net run.pace.grow lines)
   pub outputs : (p : ℕ) (file : List ℕ) → file_out run p ≡ Some file
       → Holds channels (2 + p) (bytes_out run.net last p)
   pub unnamed : (p : ℕ) → file_out run p ≡ None → channels.is_open (2 + p) ≡ false
 
 -- Each of these channels that was opened has a prefix of that.
-pub record WrotePrefixes {X : Type 0} (run : Setting X) (lines : List Line) (last : State X) (channels : Channels) : Type 0 where
+pub record WrotePrefixes {X : Type 0} (run : Setting X) (lines : List Line) (last : State X)
+    (channels : Channels) : Type 0 where
   pub trace : HoldsPrefix channels 1 (text run.net run.pace.grow lines)
   pub outputs : (p : ℕ) (file : List ℕ) → file_out run p ≡ Some file
       → HoldsPrefix channels (2 + p) (bytes_out run.net last p)
@@ -92,7 +94,8 @@ pub record HasEnded {X : Type 0} (run : Setting X) (end : Line) (counts : Counts
 
 -- A feed couldn't be read: the lines are begun. The delivery behind them has to pull from this feed, so they are those of
 -- all rounds that were made. They were written whole, and the numbers count them.
-pub record WasCut {X : Type 0} (run : Setting X) (counts : Counts) (feed : ℕ) (feeds : Inputs) (channels : Channels) : Type 0 where
+pub record WasCut {X : Type 0} (run : Setting X) (counts : Counts) (feed : ℕ) (feeds : Inputs)
+    (channels : Channels) : Type 0 where
   pub lines : List Line
   pub reached : Moment X
   pub begun : IsBegun run.net run.pace run.start lines reached

@@ -52,7 +52,9 @@ pub record TakesOver (from into new : Counts) : Type 0 where
 
 -- All of it.
 
-pub record IsPrepared {X : Type 0} (cells : List (Cell X)) (flat : Flat) (words : List PortText) (plan : Plan) (kind : RoundKind) (run : Running (Cell X)) (head : List ℕ) (counts : Counts) : Type 0 where
+pub record IsPrepared {X : Type 0} (cells : List (Cell X)) (flat : Flat) (words : List PortText)
+    (plan : Plan) (kind : RoundKind) (run : Running (Cell X)) (head : List ℕ)
+    (counts : Counts) : Type 0 where
   pub wiring : Wiring
   pub is_wiring : IsWiringBy flat words wiring
   pub begins : Begins cells wiring plan kind run
@@ -64,13 +66,15 @@ pub record IsPrepared {X : Type 0} (cells : List (Cell X)) (flat : Flat) (words 
 -- The openings.
 
 -- what stands before the first event was written behind what the opened channels held; or a prefix of it was
-pub record WritesHead (trace : List ℕ) (outs : List (List ℕ)) (words : List PortText) (head : List ℕ) (old new : Channels) : Type 0 where
+pub record WritesHead (trace : List ℕ) (outs : List (List ℕ)) (words : List PortText)
+    (head : List ℕ) (old new : Channels) : Type 0 where
   pub between : Channels
   pub are_opened : ChannelsAreOpened (channels_of trace outs words) old between
   pub appends : Appends 1 between new head
   pub only : WritesOnlyAt 1 between new
 
-pub record BreaksHead (trace : List ℕ) (outs : List (List ℕ)) (words : List PortText) (head : List ℕ) (old new : Channels) (channel : ℕ) : Type 0 where
+pub record BreaksHead (trace : List ℕ) (outs : List (List ℕ)) (words : List PortText)
+    (head : List ℕ) (old new : Channels) (channel : ℕ) : Type 0 where
   pub channel_is : channel ≡ 1
   pub between : Channels
   pub are_opened : ChannelsAreOpened (channels_of trace outs words) old between
@@ -78,7 +82,8 @@ pub record BreaksHead (trace : List ℕ) (outs : List (List ℕ)) (words : List 
   pub only : WritesOnlyAt 1 between new
   pub counted : HasRisen between.faults new.faults
 
-module _ {S T : Type 0} (feeds : S → Inputs) (channels : T → Channels) (flat : Flat) (words : List PortText) (trace : List ℕ) (feeds_old feeds_new : S) (old new : T) where
+module _ {S T : Type 0} (feeds : S → Inputs) (channels : T → Channels) (flat : Flat)
+    (words : List PortText) (trace : List ℕ) (feeds_old feeds_new : S) (old new : T) where
   abbrev pub AreFeedsOpened : Type 0
   AreFeedsOpened = FeedsAreOpened (feeds_of flat.links.items (names_of flat.ins.items) words)
       (feeds feeds_old) (feeds feeds_new)

@@ -1,7 +1,6 @@
 -- Workers that arrive at the gate, round by round.
-use Rattle.std.proofs.Common.{◌≡◌, ◌⊎◌, ⊎_elim, inl, inr, ℕ, suc, ◌+◌, ◌-◌, ◌<◌, ◌≤◌, Bool, length, refl, sym, ap, subst, ◌∙◌, arith}
+use Rattle.std.proofs.Common.{◌≡◌, ◌⊎◌, ⊎_elim, inl, inr, ℕ, suc, ◌+◌, ◌-◌, Bool, length, refl, sym, ap, subst, ◌∙◌, arith}
 use Rattle.std.specs.Prelude.{None, ◌==◌}
-use Rattle.rvc_base.specs.declared.round_kind.RoundKind.{RoundKind}
 use Rattle.rvc_io.specs.Channels.{Channels}
 use Rattle.net_model.specs.Cell.{Cell}
 use Rattle.round_runner.specs.declared.outcome.RoundEnd.{RoundEnd}
@@ -9,7 +8,7 @@ use Rattle.round_runner.specs.declared.outcome.RoundEnd.TheVariants as round
 use Rattle.round_runner.specs.declared.outcome.RunEnd.{RunEnd}
 use Rattle.round_runner.specs.declared.outcome.RunEnd.TheVariants as end
 use Rattle.round_runner.specs.Running.{Running}
-use Rattle.network_runner.specs.Arriving.{Arrivals, ArriveBy, MakesNone, MakesOne, RoundArrives, RunArrives, Stage, WorkersArrive, more, none, stage_after, stage_of}
+use Rattle.network_runner.specs.Arriving.{Arrivals, ArriveBy, MakesNone, MakesOne, RoundArrives, RunArrives, Stage, WorkersArrive, more, none, stage_of}
 use Rattle.network_runner.specs.Asking.{IsSameRun, end_of, seen_run}
 use Rattle.network_runner.specs.Rounding.{IsNoFault}
 use Rattle.network_runner.specs.Stepping.{PutsBy, SameButEnd}

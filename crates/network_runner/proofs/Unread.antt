@@ -21,14 +21,14 @@ use Rattle.net_model.specs.Ready.{tokens_of}
 use Rattle.net_model.specs.Wired.{IsWired}
 use Rattle.net_model.proofs.Arriving.{Arrived, arrived_unless}
 use Rattle.net_state.specs.declared.filling.Filled.{Filled}
-use Rattle.net_state.specs.Filling.{AreToCome, Arrives, AtPort, AtReader, Fills, Inflow, IsDue, IsDueFor, IsFed, IsInputLink, SameRest, inflow}
+use Rattle.net_state.specs.Filling.{AreToCome, Arrives, AtPort, AtReader, Fills, IsDue, IsDueFor, IsFed, SameRest, inflow}
 use Rattle.net_state.specs.Held.{Held}
-use Rattle.net_state.specs.Standing.{IsHeld, LeadInside, StandsIn, StandsSince, after_inside, unarrived}
+use Rattle.net_state.specs.Standing.{LeadInside, StandsIn, StandsSince, after_inside, unarrived}
 use Rattle.net_state.proofs.Coming.{if_false}
 use Rattle.net_state.proofs.Gaining.{get_set_same, some_is}
-use Rattle.round_runner.specs.Pulling.{NeedsPull, PullIsDue, token_size}
-use Rattle.round_runner.specs.Running.{AreFedBy, ComesBy, ComesNow, HasRest, IsRunOf, Running, StandsWith, feed_of}
-use Rattle.network_runner.specs.Filling.{FailsFor, IsDueFrom, IsDueOn, Stops, StopsDelivery, StopsOpened, kind_read, with_flow}
+use Rattle.round_runner.specs.Pulling.{PullIsDue, token_size}
+use Rattle.round_runner.specs.Running.{AreFedBy, ComesBy, ComesNow, HasRest, Running, feed_of}
+use Rattle.network_runner.specs.Filling.{FailsFor, IsDueFrom, IsDueOn, StopsDelivery, StopsOpened, kind_read, with_flow}
 use Rattle.network_runner.specs.Keeping.{ReadsKind}
 use Rattle.network_runner.specs.Stepping.{StopsRun}
 use Rattle.network_runner.proofs.Delivered.{comes_as, inside_same}

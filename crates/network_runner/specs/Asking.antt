@@ -92,13 +92,15 @@ HaveInputs inputs links reads feeds = (l : ℕ) (link : Link) → slice_get link
     → HasInputOn inputs reads link.from (feeds.left (feed_of links l))
 
 -- The runner stands at a state in which a run may begin, and its numbers count no line.
-pub record IsAtStart {X : Type 0} (net : Network X) (inputs : List (List ℕ)) (run : Running (Cell X)) (feeds : Inputs) (s : State X) : Type 0 where
+pub record IsAtStart {X : Type 0} (net : Network X) (inputs : List (List ℕ))
+    (run : Running (Cell X)) (feeds : Inputs) (s : State X) : Type 0 where
   pub stands : StandsWith net inputs run feeds s
   pub may_begin : CanBegin net s
   pub counted : IsCounted net inputs s [] s run.counts
 
 -- A runner that was just made stands at the start of a run from its cells, and nothing was read or written yet.
-pub record Begins {X : Type 0} (cells : List (Cell X)) (wiring : Wiring) (plan : Plan) (kind : RoundKind) (run : Running (Cell X)) : Type 0 where
+pub record Begins {X : Type 0} (cells : List (Cell X)) (wiring : Wiring) (plan : Plan)
+    (kind : RoundKind) (run : Running (Cell X)) : Type 0 where
   pub cells_are : run.held.cells ≡ cells
   pub links_are : run.held.links ≡ wiring.links.items
   pub ins : run.ins ≡ kinds_of wiring.ins.items
@@ -192,7 +194,8 @@ pub record WritesWithin {C : Type 0} (run : Running C) (old new : Channels) : Ty
       → new.held channel ≡ old.held channel
   pub faults_stay : old.faults ≤ new.faults
 
-module _ {C S T X : Type 0} (cell : C → Cell X) (feeds : S → Inputs) (channels : T → Channels) (old new : Running C) (feeds_old feeds_new : S) (drains_old drains_new : T) where
+module _ {C S T X : Type 0} (cell : C → Cell X) (feeds : S → Inputs) (channels : T → Channels)
+    (old new : Running C) (feeds_old feeds_new : S) (drains_old drains_new : T) where
   -- a fault of reading or writing comes only if the count of faults of its object rose, and only where it is read or
   -- written
   abbrev pub FaultIsTrue : Option RunEnd → Type 0

@@ -40,7 +40,8 @@ GrowsBy (round.End how) grow old new = new ≡ old
 
 -- a round that fired nothing is closed in this state: the line that closes it, what is answered, and the state to
 -- which it leads
-pub record IsClosedIdle {X : Type 0} (net : Network X) (grow : ℕ) (s : State X) (answer : RoundEnd) (new : Held (Cell X)) : Type 0 where
+pub record IsClosedIdle {X : Type 0} (net : Network X) (grow : ℕ) (s : State X) (answer : RoundEnd)
+    (new : Held (Cell X)) : Type 0 where
   pub close : Close
   pub closes : ClosesIdle net grow s close
   pub answers : AnswersTo answer close

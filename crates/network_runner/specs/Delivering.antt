@@ -17,7 +17,9 @@ use Rattle.network_runner.specs.Filling.{CameOn}
 
 -- A state to which a delivery led: it was opened by it and stands, what is to come is what its feeds have still, each
 -- input link is full or has all of its feed, and what came over input links is told.
-pub record IsDelivered {X : Type 0} (net : Network X) (inputs : List (List ℕ)) (s : State X) (held : Held (Cell X)) (readings : List (Option Reading)) (feeds : Inputs) (came : List Filled) : Type 0 where
+pub record IsDelivered {X : Type 0} (net : Network X) (inputs : List (List ℕ)) (s : State X)
+    (held : Held (Cell X)) (readings : List (Option Reading)) (feeds : Inputs)
+    (came : List Filled) : Type 0 where
   pub stands : StandsSince net held (after_delivery net s) (after_delivery net s)
   pub fed : AreFedBy net inputs (after_delivery net s) readings feeds
   pub all : AreFed net (after_delivery net s)
@@ -25,7 +27,8 @@ pub record IsDelivered {X : Type 0} (net : Network X) (inputs : List (List ℕ))
       (slice_get came l)
 
 -- Each state of a wired network goes on by a delivery, and the network is at rest.
-pub record Delivers {X : Type 0} (old new : Held (Cell X)) (before after : List (Option Reading)) (feeds_old feeds_new : Inputs) (came : List Filled) : Type 0 where
+pub record Delivers {X : Type 0} (old new : Held (Cell X)) (before after : List (Option Reading))
+    (feeds_old feeds_new : Inputs) (came : List Filled) : Type 0 where
   pub states : (net : Network X) (inputs : List (List ℕ)) (s : State X) → StandsIn net old s
       → IsWired net → AreFedBy net inputs s before feeds_old
       → IsDelivered net inputs s new after feeds_new came

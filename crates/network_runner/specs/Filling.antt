@@ -55,7 +55,9 @@ abbrev pub NoneCame : Filled → Type 0
 NoneCame filled = (filled.tokens ≡ 0) × (filled.rest ≡ None)
 
 -- A state in which one link was filled from its feed: so many tokens came as arrive there at a delivery.
-pub record IsFilledOn {X : Type 0} (net : Network X) (s : State X) (l feed rest : ℕ) (link : Link) (flow : Flow) (held : Held (Cell X)) (reading : Option Reading) (feeds : Inputs) (filled : Filled) : Type 0 where
+pub record IsFilledOn {X : Type 0} (net : Network X) (s : State X) (l feed rest : ℕ) (link : Link)
+    (flow : Flow) (held : Held (Cell X)) (reading : Option Reading) (feeds : Inputs)
+    (filled : Filled) : Type 0 where
   pub stands : StandsSince net held (with_flow s l (input_delivered link flow))
       (with_flow s l (input_delivered link flow))
   pub fed : is_input link ≡ true
@@ -65,7 +67,8 @@ pub record IsFilledOn {X : Type 0} (net : Network X) (s : State X) (l feed rest 
   pub none_told : is_input link ≡ false → NoneCame filled
 
 -- Each state of a wired network that was just opened goes on so.
-pub record FillsOne {X : Type 0} (l feed : ℕ) (old new : Held (Cell X)) (before after : Option Reading) (feeds_old feeds_new : Inputs) (filled : Filled) : Type 0 where
+pub record FillsOne {X : Type 0} (l feed : ℕ) (old new : Held (Cell X))
+    (before after : Option Reading) (feeds_old feeds_new : Inputs) (filled : Filled) : Type 0 where
   pub states : (net : Network X) (s : State X) (rest : ℕ) (link : Link) (flow : Flow)
       → StandsSince net old s s
       → IsWired net → slice_get net.links l ≡ Some link → slice_get s.flows l ≡ Some flow
@@ -96,14 +99,16 @@ FailsFor {X} l feed old (Some reading) feeds_old feeds_new = (net : Network X) (
     → IsDueFrom reading.kind rest flow (feeds_new.left feed)
 
 -- .. on link l of a network, over these bytes of its inputs
-pub record IsDueOn {X : Type 0} (net : Network X) (inputs : List (List ℕ)) (s : State X) (l : ℕ) (link : Link) (kind : Scalar) (left : Option (List ℕ)) : Type 0 where
+pub record IsDueOn {X : Type 0} (net : Network X) (inputs : List (List ℕ)) (s : State X) (l : ℕ)
+    (link : Link) (kind : Scalar) (left : Option (List ℕ)) : Type 0 where
   pub flow : Flow
   pub there : slice_get s.flows l ≡ Some flow
   pub due : IsDueFrom kind (rest_at net.ins inputs link.from) flow left
 
 -- One of the links couldn't be filled from its feed. It has a reader of tokens of this type, and in each of these states a
 -- pull is due from its feed.
-pub record Stops {X : Type 0} (links : List Link) (before : List (Option Reading)) (feed : ℕ) (Stand : Network X → State X → Type 0) (feeds_old feeds_new : Inputs) : Type 0 where
+pub record Stops {X : Type 0} (links : List Link) (before : List (Option Reading)) (feed : ℕ)
+    (Stand : Network X → State X → Type 0) (feeds_old feeds_new : Inputs) : Type 0 where
   pub l : ℕ
   pub link : Link
   pub kind : Scalar
@@ -143,7 +148,9 @@ CameOn ports inputs (Some link) flow (Some filled) =
 
 -- A state at which each input link was filled: it stands, what is to come is what its feeds have still, each input
 -- link is full or has all of its feed, and what came is told.
-pub record IsFilled {X : Type 0} (net : Network X) (inputs : List (List ℕ)) (s : State X) (held : Held (Cell X)) (readings : List (Option Reading)) (feeds : Inputs) (came : List Filled) : Type 0 where
+pub record IsFilled {X : Type 0} (net : Network X) (inputs : List (List ℕ)) (s : State X)
+    (held : Held (Cell X)) (readings : List (Option Reading)) (feeds : Inputs)
+    (came : List Filled) : Type 0 where
   pub stands : StandsSince net held (after_inputs net s) (after_inputs net s)
   pub fed : AreFedBy net inputs (after_inputs net s) readings feeds
   pub all : AreFed net (after_inputs net s)
@@ -151,7 +158,8 @@ pub record IsFilled {X : Type 0} (net : Network X) (inputs : List (List ℕ)) (s
       (slice_get came l)
 
 -- Each state of a wired network that was just opened goes on so.
-pub record Fills {X : Type 0} (old new : Held (Cell X)) (before after : List (Option Reading)) (feeds_old feeds_new : Inputs) (came : List Filled) : Type 0 where
+pub record Fills {X : Type 0} (old new : Held (Cell X)) (before after : List (Option Reading))
+    (feeds_old feeds_new : Inputs) (came : List Filled) : Type 0 where
   pub states : (net : Network X) (inputs : List (List ℕ)) (s : State X) → StandsSince net old s s
       → IsWired net → AreFedBy net inputs s before feeds_old
       → IsFilled net inputs s new after feeds_new came

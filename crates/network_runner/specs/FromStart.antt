@@ -25,7 +25,8 @@ pub record PlaysAndKeeps {X : Type 0} (net : Network X) (grow : ℕ) (s last : S
   pub keeps : KeepsFrom net s lines
 
 -- These lines and the bytes of what they sent were written whole, and the numbers count them.
-pub record WritesWhole {X : Type 0} (net : Network X) (inputs : List (List ℕ)) (s last : State X) (lines : List Line) (run new : Running (Cell X)) (old now : Channels) : Type 0 where
+pub record WritesWhole {X : Type 0} (net : Network X) (inputs : List (List ℕ)) (s last : State X)
+    (lines : List Line) (run new : Running (Cell X)) (old now : Channels) : Type 0 where
   pub trace : TraceGetsAll run old now (text_of lines)
   pub outputs : EachOut net run (OutGetsAll run old now) s (λ p. sent_to p net.links last.flows)
   pub counted : IsCounted net inputs s lines last new.counts
@@ -38,7 +39,8 @@ pub record EndsBy (how : RunEnd) (lines : List Line) : Type 0 where
   pub lines_are : lines ≡ before ++ line ∷ []
 
 -- It came to its end: the lines are paced.
-pub record RunsWhole {X : Type 0} (net : Network X) (inputs : List (List ℕ)) (budget : ℕ) (s : State X) (how : RunEnd) (run new : Running (Cell X)) (old now : Channels) : Type 0 where
+pub record RunsWhole {X : Type 0} (net : Network X) (inputs : List (List ℕ)) (budget : ℕ)
+    (s : State X) (how : RunEnd) (run new : Running (Cell X)) (old now : Channels) : Type 0 where
   pub lines : List Line
   pub last : State X
   pub paced : IsPaced net (pace_of run budget) s lines last
@@ -48,7 +50,9 @@ pub record RunsWhole {X : Type 0} (net : Network X) (inputs : List (List ℕ)) (
 
 -- A feed couldn't be read: the lines are begun. The delivery behind them has to pull from the feed, so they are those of all
 -- rounds that were made.
-pub record RunsShort {X : Type 0} (net : Network X) (inputs : List (List ℕ)) (budget : ℕ) (s : State X) (feed : ℕ) (run new : Running (Cell X)) (feeds : Inputs) (old now : Channels) : Type 0 where
+pub record RunsShort {X : Type 0} (net : Network X) (inputs : List (List ℕ)) (budget : ℕ)
+    (s : State X) (feed : ℕ) (run new : Running (Cell X)) (feeds : Inputs)
+    (old now : Channels) : Type 0 where
   pub lines : List Line
   pub reached : Moment X
   pub begun : IsBegun net (pace_of run budget) s lines reached
@@ -57,10 +61,12 @@ pub record RunsShort {X : Type 0} (net : Network X) (inputs : List (List ℕ)) (
   pub wrote : WritesWhole net inputs s reached.state lines run new old now
 
 -- A channel couldn't be written: each got a prefix of what begun or paced lines give.
-pub record RunsBroken {X : Type 0} (net : Network X) (budget : ℕ) (s : State X) (run : Running (Cell X)) (old now : Channels) : Type 0 where
+pub record RunsBroken {X : Type 0} (net : Network X) (budget : ℕ) (s : State X)
+    (run : Running (Cell X)) (old now : Channels) : Type 0 where
   pub lines : List Line
   pub last : State X
-  pub begun_or_paced : ((reached : Moment X) × IsBegun net (pace_of run budget) s lines reached × (reached.state ≡ last))
+  pub begun_or_paced : ((reached : Moment X) × IsBegun net (pace_of run budget) s lines reached
+      × (reached.state ≡ last))
       ⊎ IsPaced net (pace_of run budget) s lines last
   pub permitted : PlaysAndKeeps net run.grow s last lines
   pub breaks : Breaks net s last lines run old now
@@ -82,7 +88,8 @@ RunsFromStart net inputs budget s (end.WriteFault channel) run new feeds old now
     RunsBroken net budget s run old now
 
 -- a runner that has made no round, at a state in which a run may begin
-pub record HasMadeNone {X : Type 0} (net : Network X) (inputs : List (List ℕ)) (run : Running (Cell X)) (s : State X) : Type 0 where
+pub record HasMadeNone {X : Type 0} (net : Network X) (inputs : List (List ℕ))
+    (run : Running (Cell X)) (s : State X) : Type 0 where
   pub wired : IsWired net
   pub lawful : AreLawful net
   pub may_begin : CanBegin net s

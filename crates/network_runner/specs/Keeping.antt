@@ -60,7 +60,8 @@ ReadsKind ins (AtLeaf inst port) kind = ⊥
 ReadsKind ins (AtNet port) kind = slice_get ins port ≡ Some kind
 
 -- the parts of a runner that no call changes fit each other
-pub record HasParts {C : Type 0} (run : Running C) (links : List Link) (outlets : List Outlet) (came writers cells : ℕ) : Type 0 where
+pub record HasParts {C : Type 0} (run : Running C) (links : List Link) (outlets : List Outlet)
+    (came writers cells : ℕ) : Type 0 where
   pub links_are : run.held.links ≡ links
   pub few_links : length links ≤ max_links
   pub cells_are : cells ≡ length run.held.cells

@@ -33,7 +33,8 @@ IsReaderOf ports opens link (Some reading) =
     (has_feed opens link.from ≡ true) × ReadsAt ports link.from reading
     × (reading.pulled ≡ []) × (reading.ended ≡ false)
 
-pub record AreReadersOf (ports : List Port) (opens : List Bool) (links : List Link) (readers : List (Option Reading)) : Type 0 where
+pub record AreReadersOf (ports : List Port) (opens : List Bool) (links : List Link)
+    (readers : List (Option Reading)) : Type 0 where
   pub count : length readers ≡ length links
   pub each : (l : ℕ) (link : Link) (reader : Option Reading) → slice_get links l ≡ Some link
       → slice_get readers l ≡ Some reader → IsReaderOf ports opens link reader

@@ -22,7 +22,8 @@ closing_line (round.End how) = end_line how
 abbrev pub close_text : RoundEnd → List ℕ
 close_text answer = text_of (option_to_list (closing_line answer))
 
-module _ {C X S A E : Type 0} (cell : C → Cell X) (channels : S → Channels) (cells : List C) (answer : RoundEnd) (old new : S) where
+module _ {C X S A E : Type 0} (cell : C → Cell X) (channels : S → Channels) (cells : List C)
+    (answer : RoundEnd) (old new : S) where
   -- if all went well the lines of a round that is answered so, and whose firings the journals name, were written
   abbrev pub NotesRound : (pending pending_new : List ℕ) → Result A E → Type 0
   NotesRound pending pending_new result = (block : Block) → Answers answer block

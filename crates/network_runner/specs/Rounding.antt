@@ -27,7 +27,8 @@ use Rattle.network_runner.specs.Closing.{ClosesAllIdle, MayGrow}
 
 -- How a round is closed by what came of its bursts: by the lowest trap; else, if something fired or not all were
 -- picked, it goes on; else it is idle.
-pub record ClosedBy {X : Type 0} (trap : Option Trapped) (fired : ℕ) (lacks : Option Lacking) (all : Bool) (grow : ℕ) (answer : RoundEnd) (old new : Held (Cell X)) : Type 0 where
+pub record ClosedBy {X : Type 0} (trap : Option Trapped) (fired : ℕ) (lacks : Option Lacking)
+    (all : Bool) (grow : ℕ) (answer : RoundEnd) (old new : Held (Cell X)) : Type 0 where
   pub by_trap : (trapped : Trapped) → trap ≡ Some trapped
       → (answer ≡ round.End (end.Trapped trapped.inst trapped.action trapped.trap)) × (new ≡ old)
   pub by_firing : trap ≡ None → 0 < fired → (answer ≡ round.Fired fired) × (new ≡ old)
@@ -101,7 +102,8 @@ moment_by turn s = record { state = s; round = turn.round; idle = turn.idle; lef
 
 -- A round was made from a moment: its firings and what closes it, how many they are, and the answer. The journals name
 -- the firings. The state to which it led stands, but for the mark of a trap.
-pub record IsRoundMade {X : Type 0} (net : Network X) (pace : Pace) (at : Moment X) (answer : RoundEnd) (fired : ℕ) (held : Held (Cell X)) : Type 0 where
+pub record IsRoundMade {X : Type 0} (net : Network X) (pace : Pace) (at : Moment X)
+    (answer : RoundEnd) (fired : ℕ) (held : Held (Cell X)) : Type 0 where
   pub block : Block
   pub last : State X
   pub is_round : IsRound net pace at block last

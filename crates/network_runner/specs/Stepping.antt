@@ -155,7 +155,8 @@ pub record KeepsOthers {C : Type 0} (run new : Running C) : Type 0 where
 -- A round before what is buffered is put.
 
 -- a round was made, which ended the run
-pub record ClosedSoFar {X : Type 0} (net : Network X) (inputs : List (List ℕ)) (budget left : ℕ) (s : State X) (how : RunEnd) (run new : Running (Cell X)) (old now : Channels) : Type 0 where
+pub record ClosedSoFar {X : Type 0} (net : Network X) (inputs : List (List ℕ)) (budget left : ℕ)
+    (s : State X) (how : RunEnd) (run new : Running (Cell X)) (old now : Channels) : Type 0 where
   pub block : Block
   pub last : State X
   pub is_round : IsRound net (pace_of run budget) (moment_of run s left) block last
@@ -165,7 +166,8 @@ pub record ClosedSoFar {X : Type 0} (net : Network X) (inputs : List (List ℕ))
   pub counts : CountsOn net inputs s (lines_of block) last run.counts new.counts
 
 -- a feed couldn't be read, of which the delivery has to pull
-pub record CutSoFar {X : Type 0} (net : Network X) (inputs : List (List ℕ)) (s : State X) (feed : ℕ) (run new : Running (Cell X)) (feeds : Inputs) (old now : Channels) : Type 0 where
+pub record CutSoFar {X : Type 0} (net : Network X) (inputs : List (List ℕ)) (s : State X) (feed : ℕ)
+    (run new : Running (Cell X)) (feeds : Inputs) (old now : Channels) : Type 0 where
   pub needs : NeedsPull net inputs s feed feeds
   pub trace : TraceGetsSome run new old now []
   pub outputs : EachOut net run (OutGetsSome run new old now) s (λ p. sent_to p net.links s.flows)
@@ -194,7 +196,8 @@ LeavesSoFar net inputs budget left s (round.End (end.WriteFault channel)) run ne
     BrokenOff net budget left s run old now
 
 -- the same from each state at which it stands
-module _ {C S T X : Type 0} (cell : C → Cell X) (feeds : S → Inputs) (channels : T → Channels) (old new : Running C) (feeds_old feeds_new : S) (drains_old drains_new : T) where
+module _ {C S T X : Type 0} (cell : C → Cell X) (feeds : S → Inputs) (channels : T → Channels)
+    (old new : Running C) (feeds_old feeds_new : S) (drains_old drains_new : T) where
   abbrev pub RoundLeavesSoFar : ℕ → RoundEnd → Type 0
   RoundLeavesSoFar left answer = (net : Network X) (inputs : List (List ℕ)) (budget : ℕ)
       (s : State X) → StandsWith net inputs (seen_run cell old) (feeds feeds_old) s

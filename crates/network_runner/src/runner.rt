@@ -76,7 +76,8 @@ impl<A: Firing, P: Policy> Model for Runner<A, P> {
     ghost invariant = { λ r. HasParts (running_of r.net r.ins.items r.open_ins.items r.outlets.items r.readers.items
         (P.kind r.policy) r.plan r.idle r.trace r.writers.items r.counts r.ended)
         r.links.items r.outlets.items (length r.came.items) (length r.writers.items) r.cells
-        × (r.ended ≡ None → GoesOn (seen_run A.cell (running_of r.net r.ins.items r.open_ins.items r.outlets.items r.readers.items
+        × (r.ended ≡ None → GoesOn (seen_run A.cell
+        (running_of r.net r.ins.items r.open_ins.items r.outlets.items r.readers.items
         (P.kind r.policy) r.plan r.idle r.trace r.writers.items r.counts r.ended))
         (length r.marks.items) (P.rounds r.policy) (P.instances r.policy)) };
 }

@@ -34,7 +34,8 @@ fn widen_row(table: &mut [bool], n: u16, row: u16, through: u16)
     requires row_in_range { row < n }
     requires through_in_range { through < n }
     ensures { (a b : ℕ) → a < n → b < n
-        → IsTrue (cell n table.new a b) ↔ (IsTrue (cell n table.old a b) ⊎ ((a ≡ row) × IsTrue (cell n table.old through b))) }
+        → IsTrue (cell n table.new a b)
+        ↔ (IsTrue (cell n table.old a b) ⊎ ((a ≡ row) × IsTrue (cell n table.old through b))) }
 {
     for column in 0..n {
         if table[place(n, through, column)] {
@@ -49,7 +50,9 @@ fn widen(table: &mut [bool], n: u16, through: u16)
     requires size { length table.old ≡ n * n }
     requires through_in_range { through < n }
     ensures { (a b : ℕ) → a < n → b < n
-        → IsTrue (cell n table.new a b) ↔ (IsTrue (cell n table.old a b) ⊎ (IsTrue (cell n table.old a through) × IsTrue (cell n table.old through b))) }
+        → IsTrue (cell n table.new a b)
+        ↔ (IsTrue (cell n table.old a b)
+        ⊎ (IsTrue (cell n table.old a through) × IsTrue (cell n table.old through b))) }
 {
     for row in 0..n {
         if table[place(n, row, through)] {

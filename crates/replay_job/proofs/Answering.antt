@@ -27,7 +27,7 @@ use Rattle.trace_replay.specs.declared.replayed.Replayed.{Replayed}
 use Rattle.trace_replay.specs.declared.why.ReplayFault.{ReplayFault}
 use Rattle.trace_replay.specs.declared.why.ReplayFault.TheVariants as judged
 use Rattle.rvc_engine.specs.Built.{HasImage, IsBuilt}
-use Rattle.rvc_engine.specs.NoImage.{IsNoImage, IsUnbuilt}
+use Rattle.rvc_engine.specs.Refused.{IsFault, IsOutside}
 use Rattle.rvc_engine.specs.declared.fault.BuildFault.{BuildFault}
 use Rattle.rvc_engine.specs.declared.fault.BuildFault.TheVariants as build
 use Rattle.rvc_engine.specs.declared.image.Image.{Image}
@@ -218,24 +218,24 @@ module _ (cmd : Command) (image : Image) (names : Names) (law : SourcesAreActorN
 -- ---- without an image
 
 module _ (cmd : Command) (names : Names) (same : cmd.feeds_after ≡ cmd.feeds) where
-  comes_unbuilt : (why : BuildFault) → IsNoImage cmd.library (top_of cmd) cmd.misses cmd.faults (file_names names) why → WritesOnlyAt 0 cmd.channels cmd.channels_after
+  comes_unbuilt : (why : BuildFault) → IsFault cmd.library (top_of cmd) cmd.misses cmd.faults (file_names names) why → WritesOnlyAt 0 cmd.channels cmd.channels_after
       → Comes cmd (status_of_build why) [] (about_words names cmd.job)
   comes_unbuilt (build.Refused r) no_image only = (by_files (file_names names) (record { why = no_image }), record { same_feeds = same; only_report = only })
   comes_unbuilt (build.ReadFault file) no_image only =
       (record { counted = no_image.0; names = file_names names; told = no_image.1; about_is = refl }, record { same_feeds = same; only_report = only })
   comes_unbuilt build.Memory no_image only = only
 
-  pub unbuilt_answered : (why : BuildFault) (answer : Status) → IsNoImage cmd.library (top_of cmd) cmd.misses cmd.faults (file_names names) why
+  pub unbuilt_answered : (why : BuildFault) (answer : Status) → IsFault cmd.library (top_of cmd) cmd.misses cmd.faults (file_names names) why
       → IsPut (status_of_build why) (last_line (about_words names cmd.job) (status_of_build why)) cmd.channels cmd.channels_after answer → IsAnswered Comes cmd answer
   unbuilt_answered why answer no_image put =
       line_answered Comes cmd (status_of_build why) answer [] (about_words names cmd.job) (last_alone [] (about_words names cmd.job) why) (λ only. comes_unbuilt why no_image only) put
 
-  on_unbuilt : (this : Network ActorState) (why : BuildFault) → IsUnbuilt why → IsJudgedOrOutside cmd this (status_of_build why)
+  on_unbuilt : (this : Network ActorState) (why : BuildFault) → IsOutside why → IsJudgedOrOutside cmd this (status_of_build why)
   on_unbuilt this (build.Refused r) un = un
   on_unbuilt this (build.ReadFault file) un = tt
   on_unbuilt this build.Memory un = tt
 
-  pub unbuilt_complete : (net : Network ActorState) (why : BuildFault) (answer : Status) → IsUnbuilt why
+  pub unbuilt_complete : (net : Network ActorState) (why : BuildFault) (answer : Status) → IsOutside why
       → IsPut (status_of_build why) (last_line (about_words names cmd.job) (status_of_build why)) cmd.channels cmd.channels_after answer → IsJudgedOrOutside cmd net answer
   unbuilt_complete net why answer un put =
       ⊎_elim (λ put. subst (IsJudgedOrOutside cmd net) (sym put.0) (on_unbuilt net why un)) (λ put. subst (IsJudgedOrOutside cmd net) (sym put.0) tt) put

@@ -21,7 +21,7 @@ use Rattle.run_report.specs.declared.status.ReadAt.TheVariants.{File, Feed}
 use Rattle.run_report.specs.declared.status.Status.{Status}
 use Rattle.run_report.specs.declared.status.Status.TheVariants as status
 use Rattle.network_commands.specs.Answers.{BreaksFiles, FileUnread, HasWrongWord}
-use Rattle.network_commands.specs.Commands.{AreCertified, Command, IsOfCommand, OpenedNothing, about_files, about_net, port_names, top_of, words_of}
+use Rattle.network_commands.specs.Commands.{AreCertified, Command, IsOfCommand, OpenedNothing, about_files, about_net, port_names, words_of}
 use Rattle.replay_job.specs.Replays.{IsReplayFeed, IsToReplay, OpensFeeds, WhateverIsTold}
 
 -- ---- a trace that was judged
@@ -32,7 +32,8 @@ use Rattle.replay_job.specs.Replays.{IsReplayFeed, IsToReplay, OpensFeeds, Whate
 pub record WasReplayed (cmd : Command) (end : Line) (counts : Counts) (lines : List ℕ) (about : About) : Type 0 where
   pub net : Network State
   pub is_to_replay : IsToReplay cmd net
-  pub replayed : WhateverIsTold cmd net (λ t inputs text. IsReplayed t text inputs (record { end = end; counts = counts }))
+  pub replayed : WhateverIsTold cmd net
+      (λ t inputs text. IsReplayed t text inputs (record { end = end; counts = counts }))
   pub feeds : OpensFeeds cmd net
   pub only_report : WritesOnlyAt 0 cmd.channels cmd.channels_after
   pub sound : Each IsSound is_to_replay.is_of.files.means.actors

@@ -27,13 +27,15 @@ pub record IsToReplay (cmd : Command) (net : Network State) : Type 0 where
 
 -- All files that the top needs are there and break no rule, and mean this network; each port word names an input of its own;
 -- and its links may grow so far.
-pub record ConformsToReplay (library : Library) (top : Asked) (words : List PortText) (grow : ℕ) (net : Network State) : Type 0 where
+pub record ConformsToReplay (library : Library) (top : Asked) (words : List PortText) (grow : ℕ)
+    (net : Network State) : Type 0 where
   pub conforms : ConformsWith input_names library top words net
   pub little : GrowTooFar net.links grow → ⊥
 
 -- What refuses a job, if the library tells of each name: its files or a port word that names no input of its own; or the files
 -- mean a network whose links may not grow so far.
-pub data RefusesReplay (library : Library) (top : Asked) (words : List PortText) (grow : ℕ) (misses : Counts) (names : List (List ℕ)) (r : Refusal) : Type 0 where
+pub data RefusesReplay (library : Library) (top : Asked) (words : List PortText) (grow : ℕ)
+    (misses : Counts) (names : List (List ℕ)) (r : Refusal) : Type 0 where
   in_job : RefusesJob input_names library top words misses names r
       → RefusesReplay library top words grow misses names r
   in_growth : (net : Network State) → IsLibraryNetwork library top net
@@ -64,7 +66,8 @@ abbrev pub IsReplayFeed : List Link → (ins : List (List ℕ)) → List PortTex
 IsReplayFeed links ins words feed = (feed ≡ 0) ⊎ IsFeedOf links ins words feed
 
 -- no feed but the trace's and those of inputs that have files was opened or closed
-pub record OpensForReplay (links : List Link) (ins : List (List ℕ)) (words : List PortText) (old new : Inputs) : Type 0 where
+pub record OpensForReplay (links : List Link) (ins : List (List ℕ)) (words : List PortText)
+    (old new : Inputs) : Type 0 where
   pub same_names : (name : List ℕ) → new.under name ≡ old.under name
   pub same_open : (feed : ℕ) → (IsReplayFeed links ins words feed → ⊥)
       → new.is_open feed ≡ old.is_open feed

@@ -122,7 +122,8 @@ pub record IsSourceImage (image : Image) : Type 0 where
   pub is : IsActorNetwork actors net
 
 -- the trace was judged by the sources of an image
-pub record ImageJudged (image : Image) (job : Job) (old new : Inputs) (came : Result Replayed NotReplayed) : Type 0 where
+pub record ImageJudged (image : Image) (job : Job) (old new : Inputs)
+    (came : Result Replayed NotReplayed) : Type 0 where
   pub judges : (actors : List Actor) (net : Network ActorState) (inputs : List (List ℕ)) (text : List ℕ)
       → HasImage image actors net → IsActorNetwork actors net
       → AreInputs inputs net.links (port_names net.ins) (words_of job) old
@@ -162,7 +163,8 @@ lines_of image names job (Ok replayed) =
 lines_of image names job (Err fault) = []
 
 -- the trace was judged, and then the report was put, or wasn't
-pub record ImageReplayed (image : Image) (names : Names) (job : Job) (feeds feeds_new : Inputs) (old new : Channels) (answer : Status) : Type 0 where
+pub record ImageReplayed (image : Image) (names : Names) (job : Job) (feeds feeds_new : Inputs)
+    (old new : Channels) (answer : Status) : Type 0 where
   pub came : Result Replayed NotReplayed
   pub judged : ImageJudged image job feeds feeds_new came
   pub put : IsPut (status_of came)

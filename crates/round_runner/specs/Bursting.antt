@@ -25,13 +25,16 @@ trap_line None = None
 trap_line (Some trapped) = Some (TrapLine trapped.inst.0 trapped.action.0 trapped.trap)
 
 -- The state that a round's delivery opened goes on by these bursts, to one that stands.
-pub record Fires {X : Type 0} (net : Network X) (share : Share) (marks : List Bool) (opened : State X) (bursts : List (List ℕ)) (halts : List Halt) (new : Held (Cell X)) : Type 0 where
+pub record Fires {X : Type 0} (net : Network X) (share : Share) (marks : List Bool)
+    (opened : State X) (bursts : List (List ℕ)) (halts : List Halt)
+    (new : Held (Cell X)) : Type 0 where
   pub last : State X
   pub goes : AreBursts net opened share marks 0 0 0 opened bursts halts last
   pub stands : StandsSince net new opened last
 
 -- The picked leaves made their bursts: so many firings, and the lowest leaf that trapped.
-pub record Bursted {X : Type 0} (share : Share) (marks : List Bool) (fired : ℕ) (trap : Option Trapped) (old new : Held (Cell X)) : Type 0 where
+pub record Bursted {X : Type 0} (share : Share) (marks : List Bool) (fired : ℕ)
+    (trap : Option Trapped) (old new : Held (Cell X)) : Type 0 where
   pub bursts : List (List ℕ)
   pub halts : List Halt
   pub count : length bursts ≡ length marks

@@ -24,7 +24,8 @@ token_size ports (AtNet port) = token_bytes (kind_at ports port)
 
 -- A delivery from this state has to pull from this feed, which is that of an input link. So it is the next one: each
 -- delivery that was made filled the link, or read its feed to the end.
-pub record NeedsPull {X : Type 0} (net : Network X) (inputs : List (List ℕ)) (s : State X) (feed : ℕ) (feeds : Inputs) : Type 0 where
+pub record NeedsPull {X : Type 0} (net : Network X) (inputs : List (List ℕ)) (s : State X)
+    (feed : ℕ) (feeds : Inputs) : Type 0 where
   pub l : ℕ
   pub link : Link
   pub flow : Flow

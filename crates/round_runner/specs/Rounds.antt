@@ -92,7 +92,9 @@ CountsOn {X} net inputs s lines last counts new = (first : State X) (before : Li
     → IsCounted net inputs first (before ++ lines) last new
 
 -- A round was made from this state, and the run goes on. What was sent to outputs goes out at once.
-pub record Made {X : Type 0} (net : Network X) (inputs : List (List ℕ)) (budget left : ℕ) (s : State X) (answer : RoundEnd) (run new : Running (Cell X)) (feeds : Inputs) (old now : Channels) : Type 0 where
+pub record Made {X : Type 0} (net : Network X) (inputs : List (List ℕ)) (budget left : ℕ)
+    (s : State X) (answer : RoundEnd) (run new : Running (Cell X)) (feeds : Inputs)
+    (old now : Channels) : Type 0 where
   pub block : Block
   pub last : State X
   pub is_round : IsRound net (pace_of run budget) (moment_of run s left) block last
@@ -106,7 +108,8 @@ pub record Made {X : Type 0} (net : Network X) (inputs : List (List ℕ)) (budge
   pub counts : CountsOn net inputs s (lines_of block) last run.counts new.counts
 
 -- A round was made, which ended the run. Nothing stays buffered.
-pub record Closed {X : Type 0} (net : Network X) (inputs : List (List ℕ)) (budget left : ℕ) (s : State X) (how : RunEnd) (run new : Running (Cell X)) (old now : Channels) : Type 0 where
+pub record Closed {X : Type 0} (net : Network X) (inputs : List (List ℕ)) (budget left : ℕ)
+    (s : State X) (how : RunEnd) (run new : Running (Cell X)) (old now : Channels) : Type 0 where
   pub block : Block
   pub last : State X
   pub is_round : IsRound net (pace_of run budget) (moment_of run s left) block last
@@ -116,18 +119,21 @@ pub record Closed {X : Type 0} (net : Network X) (inputs : List (List ℕ)) (bud
   pub counts : CountsOn net inputs s (lines_of block) last run.counts new.counts
 
 -- A feed couldn't be read, of which the delivery has to pull: no line is written, and nothing stays buffered.
-pub record CutOff {X : Type 0} (net : Network X) (inputs : List (List ℕ)) (s : State X) (feed : ℕ) (run new : Running (Cell X)) (feeds : Inputs) (old now : Channels) : Type 0 where
+pub record CutOff {X : Type 0} (net : Network X) (inputs : List (List ℕ)) (s : State X) (feed : ℕ)
+    (run new : Running (Cell X)) (feeds : Inputs) (old now : Channels) : Type 0 where
   pub needs : NeedsPull net inputs s feed feeds
   pub trace : TraceGetsAll run old now []
   pub outputs : EachOut net run (OutGetsAll run old now) s (λ p. sent_to p net.links s.flows)
   pub counts : new.counts ≡ run.counts
 
 -- A channel couldn't be written. Each got a prefix of what was buffered and of its text for the round, if one was made.
-pub record Breaks {X : Type 0} (net : Network X) (s last : State X) (lines : List Line) (run : Running (Cell X)) (old now : Channels) : Type 0 where
+pub record Breaks {X : Type 0} (net : Network X) (s last : State X) (lines : List Line)
+    (run : Running (Cell X)) (old now : Channels) : Type 0 where
   pub trace : TraceGetsFront run old now (text_of lines)
   pub outputs : EachOut net run (OutGetsFront run old now) s (λ p. sent_to p net.links last.flows)
 
-pub record BreaksRound {X : Type 0} (net : Network X) (budget left : ℕ) (s : State X) (run : Running (Cell X)) (old now : Channels) : Type 0 where
+pub record BreaksRound {X : Type 0} (net : Network X) (budget left : ℕ) (s : State X)
+    (run : Running (Cell X)) (old now : Channels) : Type 0 where
   pub block : Block
   pub last : State X
   pub is_round : IsRound net (pace_of run budget) (moment_of run s left) block last
@@ -172,7 +178,8 @@ AreBegunBy {X} net pace at blocks (Some final) last =
     × IsRound net pace reached final last
 
 -- A run from this state wrote these lines whole, or without its end.
-pub record RunWrote {X : Type 0} (net : Network X) (inputs : List (List ℕ)) (s last : State X) (lines : List Line) (run new : Running (Cell X)) (old now : Channels) : Type 0 where
+pub record RunWrote {X : Type 0} (net : Network X) (inputs : List (List ℕ)) (s last : State X)
+    (lines : List Line) (run new : Running (Cell X)) (old now : Channels) : Type 0 where
   pub trace : TraceGetsAll run old now (text_of lines)
   pub outputs : EachOut net run (OutGetsAll run old now) s (λ p. sent_to p net.links last.flows)
   pub counts : CountsOn net inputs s lines last run.counts new.counts
@@ -181,7 +188,8 @@ abbrev pub all_lines : List Block → List Line
 all_lines blocks = flat_map lines_of blocks
 
 -- it ended by its last round
-pub record Ended {X : Type 0} (net : Network X) (inputs : List (List ℕ)) (budget : ℕ) (s : State X) (how : RunEnd) (run new : Running (Cell X)) (old now : Channels) : Type 0 where
+pub record Ended {X : Type 0} (net : Network X) (inputs : List (List ℕ)) (budget : ℕ) (s : State X)
+    (how : RunEnd) (run new : Running (Cell X)) (old now : Channels) : Type 0 where
   pub blocks : List Block
   pub final : Block
   pub last : State X
@@ -190,7 +198,9 @@ pub record Ended {X : Type 0} (net : Network X) (inputs : List (List ℕ)) (budg
   pub wrote : RunWrote net inputs s last (all_lines blocks ++ lines_of final) run new old now
 
 -- A feed couldn't be read after these rounds, of which the next delivery has to pull: so they are all that were made.
-pub record EndedEarly {X : Type 0} (net : Network X) (inputs : List (List ℕ)) (budget : ℕ) (s : State X) (feed : ℕ) (run new : Running (Cell X)) (feeds : Inputs) (old now : Channels) : Type 0 where
+pub record EndedEarly {X : Type 0} (net : Network X) (inputs : List (List ℕ)) (budget : ℕ)
+    (s : State X) (feed : ℕ) (run new : Running (Cell X)) (feeds : Inputs)
+    (old now : Channels) : Type 0 where
   pub blocks : List Block
   pub last : State X
   pub begun : AreBegunBy net (pace_of run budget) (moment_of run s budget) blocks None last
@@ -198,7 +208,8 @@ pub record EndedEarly {X : Type 0} (net : Network X) (inputs : List (List ℕ)) 
   pub wrote : RunWrote net inputs s last (all_lines blocks) run new old now
 
 -- a channel couldn't be written after these rounds, or in the last of them
-pub record EndedBroken {X : Type 0} (net : Network X) (budget : ℕ) (s : State X) (run : Running (Cell X)) (old now : Channels) : Type 0 where
+pub record EndedBroken {X : Type 0} (net : Network X) (budget : ℕ) (s : State X)
+    (run : Running (Cell X)) (old now : Channels) : Type 0 where
   pub blocks : List Block
   pub final : Option Block
   pub last : State X

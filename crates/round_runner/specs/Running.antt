@@ -114,7 +114,8 @@ AreFedBy net inputs s readings feeds = (l : ℕ) (link : Link) → slice_get net
 
 -- The state stands in the cells, and what is to come from outside is what its feeds have. `inputs` are the bytes of
 -- the files from which the run began.
-pub record StandsWith {X : Type 0} (net : Network X) (inputs : List (List ℕ)) (run : Running (Cell X)) (feeds : Inputs) (s : State X) : Type 0 where
+pub record StandsWith {X : Type 0} (net : Network X) (inputs : List (List ℕ))
+    (run : Running (Cell X)) (feeds : Inputs) (s : State X) : Type 0 where
   pub is_run_of : IsRunOf net run
   pub stands : StandsIn net run.held s
   pub fed : AreFedBy net inputs s run.readings feeds

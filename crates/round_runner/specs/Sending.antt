@@ -22,7 +22,8 @@ module _ {C X : Type 0} (cell : C → Cell X) where
   abbrev pub outgoing : Held C → ℕ → List ℤ
   outgoing held l = carried_on (map cell held.cells) (slice_get held.links l)
 
-  module _ {S A E : Type 0} (held : Held C) (l : ℕ) (kind : Scalar) (channels : S → Channels) (channel : ℕ) (old new : S) where
+  module _ {S A E : Type 0} (held : Held C) (l : ℕ) (kind : Scalar) (channels : S → Channels)
+      (channel : ℕ) (old new : S) where
     -- if all went well its bytes were written
     abbrev pub SentOn : List ℕ → List ℕ → Result A E → Type 0
     SentOn pending pending_new result = OnOk result (WritesOn channel (channels old) (channels new)

@@ -5,7 +5,7 @@ use Rattle.cal_ast.specs.Tree.{listed}
 use Rattle.cal_ast.specs.View.{port_tree}
 use Rattle.cal_ast.specs.declared.member.PortDecl.{PortDecl}
 use Rattle.cal_model.specs.Actor.{Local}
-use Rattle.cal_model.specs.Kinding.{Judged, Fine, Names, and_so, with_known}
+use Rattle.cal_model.specs.Kinding.{Fine, Names, and_so, with_known}
 use Rattle.cal_model.specs.Sound.{known_local, with_locals}
 use Rattle.cal_model.specs.View.{local_view}
 use Rattle.cal_model.specs.declared.bound.BoundLocal.{BoundLocal}

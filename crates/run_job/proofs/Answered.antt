@@ -10,7 +10,7 @@ use Rattle.actor_files.specs.Views.{file_names}
 use Rattle.actor_files.specs.declared.names.Names.{Names}
 use Rattle.network_cells.specs.SourceRuns.{SourcesAreActorNetworks}
 use Rattle.rvc_engine.specs.Built.{IsBuilt}
-use Rattle.rvc_engine.specs.NoImage.{IsNoImage}
+use Rattle.rvc_engine.specs.Refused.{IsFault}
 use Rattle.rvc_engine.specs.Top.{top_asked}
 use Rattle.rvc_engine.specs.declared.fault.BuildFault.{BuildFault}
 use Rattle.rvc_engine.specs.declared.fault.BuildFault.TheVariants as build
@@ -62,13 +62,13 @@ module _ (job : Job) (library : loading.Library) (misses faults : loading.Counts
   opened_nothing : feeds_new ≡ feeds → WritesOnlyAt 0 old new → OpenedNothing cmd
   opened_nothing same only = record { same_feeds = same; only_report = only }
 
-  comes_unbuilt : (why : BuildFault) (names : Names) → IsNoImage library (top_asked (string_bytes job.top)) misses faults (file_names names) why
+  comes_unbuilt : (why : BuildFault) (names : Names) → IsFault library (top_asked (string_bytes job.top)) misses faults (file_names names) why
       → OpenedNothing cmd → Comes cmd (status_of_build why) [] (about_words names job)
   comes_unbuilt (build.Refused r) names none nothing = (by_files (file_names names) (record { why = none }), nothing)
   comes_unbuilt (build.ReadFault file) names none nothing = (record { counted = none.0; names = file_names names; told = none.1; about_is = refl }, nothing)
   comes_unbuilt build.Memory names none nothing = nothing
 
-  pub unbuilt_answered : (why : BuildFault) (names : Names) (answer : Status) → IsNoImage library (top_asked (string_bytes job.top)) misses faults (file_names names) why → feeds_new ≡ feeds
+  pub unbuilt_answered : (why : BuildFault) (names : Names) (answer : Status) → IsFault library (top_asked (string_bytes job.top)) misses faults (file_names names) why → feeds_new ≡ feeds
       → IsPut (status_of_build why) (last_line (about_words names job) (status_of_build why)) old new answer → IsAnswered Comes cmd answer
   unbuilt_answered why names answer none same put =
       line_answered Comes cmd (status_of_build why) answer [] (about_words names job) (last_alone [] (about_words names job) why)

@@ -33,7 +33,7 @@ use Rattle.network_cells.specs.Sources.{IsActorNetwork}
 use Rattle.rvc_engine.specs.Built.{HasImage, IsBuilt}
 use Rattle.rvc_engine.specs.Top.{top_asked}
 use Rattle.rvc_engine.specs.declared.image.Image.{Image}
-use Rattle.grown_links.specs.Growth.{GrowTooFar, IsGrownTooMuch}
+use Rattle.grown_links.specs.Growth.{GrowTooFar}
 use Rattle.network_job.specs.Answering.{AreAllOpen, EndIsCaused, HeadFails, IsPermitted, IsUnread, IsUnwritten, LeavesJob}
 use Rattle.network_job.specs.Answering as answering
 use Rattle.network_job.specs.Files.{IsChannelOf, IsFeedOf, OpensOnly, WritesOnly}

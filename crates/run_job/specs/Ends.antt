@@ -23,7 +23,7 @@ use Rattle.run_report.specs.declared.status.ReadAt.TheVariants.{File, Feed}
 use Rattle.run_report.specs.declared.status.Status.{Status}
 use Rattle.run_report.specs.declared.status.Status.TheVariants as status
 use Rattle.network_commands.specs.Answers.{BreaksFiles, FileUnread, HasWrongWord}
-use Rattle.network_commands.specs.Commands.{AreCertified, AreGiven, Command, HasFiles, IsToRun, OpenedNothing, TouchesOnly, about_files, about_net, port_names, run_over, top_of, words_of}
+use Rattle.network_commands.specs.Commands.{AreCertified, AreGiven, Command, HasFiles, IsToRun, OpenedNothing, TouchesOnly, about_files, about_net, port_names, run_over, words_of}
 
 -- ---- the network that is run
 
@@ -41,7 +41,8 @@ AllAreOpen cmd net = AreAllOpen net.links (port_names net.ins) (port_names net.o
 -- This network was run until this line. Whatever bytes its inputs have: the trace is the text of its paced lines, of which
 -- this is the last, each output that has a file has the bytes of what was sent to it, and the numbers count these lines. No
 -- more firings were made than the budget permits. The report has these numbers, and how many actors are certified.
-pub record Ran (cmd : Command) (net : Network State) (end : Line) (counts : Counts) (lines : List ℕ) (about : About) : Type 0 where
+pub record Ran (cmd : Command) (net : Network State) (end : Line) (counts : Counts) (lines : List ℕ)
+    (about : About) : Type 0 where
   pub is_to_run : IsToRun cmd net
   pub fits : WouldGrowTooFar cmd net → ⊥
   pub leaves : (inputs : List (List ℕ)) → AreGiven cmd net inputs

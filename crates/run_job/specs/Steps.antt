@@ -1,6 +1,6 @@
 -- The steps from an image to an answer.
 -- Not trusted but for images: no other promise is read with it.
-use Rattle.std.specs.Prelude.{◌≡◌, ℕ, ◌≤◌, List, [], ◌++◌, length, map, string_bytes, Some, IfOk}
+use Rattle.std.specs.Prelude.{◌≡◌, ℕ, ◌≤◌, List, [], length, map, string_bytes, Some, IfOk}
 use Rattle.std.specs.declared.result.Result.{Result}
 use Rattle.std.specs.declared.result.Result.TheVariants.{Ok, Err}
 use Rattle.rvc_io.specs.Channels.{Channels}
@@ -95,26 +95,35 @@ lines_at image names job (Err fault) = []
 -- ---- runs
 
 -- a run of cells leaves what one of the sources would, and comes to this
-pub record CellsRan (image : Image) (job : Job) (feeds feeds_new : Inputs) (old new : Channels) (came : Result Outcome JobFault) : Type 0 where
+pub record CellsRan (image : Image) (job : Job) (feeds feeds_new : Inputs) (old new : Channels)
+    (came : Result Outcome JobFault) : Type 0 where
   pub leaves : (actors : List Actor) (net : Network State) (inputs : List (List ℕ))
       → HasImage image actors net → IsActorNetwork actors net
       → AreInputs inputs net.links (port_names net.ins) (asks.words_of job) feeds
       → LeavesJob (setting_of net inputs (start_of net inputs) job) came feeds_new new
   pub within : IfOk came (λ outcome. outcome.counts.firings ≤ job.budget)
   pub permitted : IfStarted came (IsPermitted image.flat job)
-  pub opened : IfOk came (λ outcome. AreAllOpen image.flat.links.items (asks.in_names image.flat) (asks.out_names image.flat) (asks.words_of job) (string_bytes job.trace) feeds_new new)
+  pub opened : IfOk came (λ outcome. AreAllOpen image.flat.links.items (asks.in_names image.flat)
+      (asks.out_names image.flat) (asks.words_of job) (string_bytes job.trace) feeds_new new)
   pub refused : OnRefused came (IsRefused image.flat job)
   pub unstarted : IfUnstarted came ((feeds_new ≡ feeds) × (new ≡ old))
-  pub unread : OnUnread came (λ feed. IsUnread image.flat.links.items (asks.in_names image.flat) (asks.words_of job) feeds feeds_new feed × (new ≡ old))
-  pub unwritten : OnUnwritten came (IsUnwritten image.flat.links.items (asks.in_names image.flat) (asks.out_names image.flat) (asks.words_of job) (string_bytes job.trace) feeds feeds_new old new)
-  pub faults : IfOk came (λ outcome. EndIsCaused image.flat.links.items (asks.in_names image.flat) (asks.out_names image.flat) (asks.words_of job) feeds feeds_new old new outcome.end)
+  pub unread : OnUnread came (λ feed. IsUnread image.flat.links.items (asks.in_names image.flat)
+      (asks.words_of job) feeds feeds_new feed × (new ≡ old))
+  pub unwritten : OnUnwritten came
+      (IsUnwritten image.flat.links.items (asks.in_names image.flat) (asks.out_names image.flat)
+      (asks.words_of job) (string_bytes job.trace) feeds feeds_new old new)
+  pub faults : IfOk came (λ outcome. EndIsCaused image.flat.links.items (asks.in_names image.flat)
+      (asks.out_names image.flat) (asks.words_of job) feeds feeds_new old new outcome.end)
   pub report : Keeps 0 old new
   pub only_feeds : OpensOnly image.flat.links.items (asks.in_names image.flat) (asks.words_of job) feeds feeds_new
   pub others : WritesOnly (asks.out_names image.flat) (asks.words_of job) old new
 
 -- .. and then the report was put, or wasn't
-pub record ImageRan (image : Image) (names : Names) (job : Job) (feeds feeds_new : Inputs) (old new : Channels) (answer : Status) : Type 0 where
+pub record ImageRan (image : Image) (names : Names) (job : Job) (feeds feeds_new : Inputs)
+    (old new : Channels) (answer : Status) : Type 0 where
   pub came : Result Outcome JobFault
   pub between : Channels
   pub ran : CellsRan image job feeds feeds_new old between came
-  pub put : IsPut (status_of came) (report (lines_at image names job came) (about_image image names job) (status_of came)) between new answer
+  pub put : IsPut (status_of came)
+      (report (lines_at image names job came) (about_image image names job) (status_of came))
+      between new answer

@@ -72,7 +72,8 @@ fn put_refusal<D: Drains>(
     drains: &mut D,
 ) -> Result<(), Failed>
     requires { (D.channels drains.old).is_open REPORT_CHANNEL ≡ true }
-    ensures { Puts result (refusal_line (about subject.now) refusal.now) (D.channels drains.old) (D.channels drains.new) }
+    ensures { Puts result (refusal_line (about subject.now) refusal.now) (D.channels drains.old)
+        (D.channels drains.new) }
 {
     let words = [
         Word::OfRule(refusal.rule),
@@ -137,7 +138,8 @@ fn put_uncertified<D: Drains>(
     drains: &mut D,
 ) -> Result<(), Failed>
     requires { (D.channels drains.old).is_open REPORT_CHANNEL ≡ true }
-    ensures { Puts result (uncertified_line inst.0 state a.0 b.0 reason) (D.channels drains.old) (D.channels drains.new) }
+    ensures { Puts result (uncertified_line inst.0 state a.0 b.0 reason) (D.channels drains.old)
+        (D.channels drains.new) }
 {
     let words = [
         Word::Number(u64::from(inst.0)),

@@ -22,7 +22,9 @@ first_or_0 (first ∷ others) = first
 -- A runner was made of these cells, and its run ended so: in each network that they make, and over the bytes of the
 -- feeds, the lines are paced, or begun if a feed or a channel failed; they are on the trace, what they sent is on the
 -- outputs, and the numbers count them.
-pub record RanFrom {X : Type 0} (cells : List (Cell X)) (wiring : Wiring) (plan : Plan) (kind : RoundKind) (budget : ℕ) (feeds feeds_new : Inputs) (old now : Channels) (ran : Ran) : Type 0 where
+pub record RanFrom {X : Type 0} (cells : List (Cell X)) (wiring : Wiring) (plan : Plan)
+    (kind : RoundKind) (budget : ℕ) (feeds feeds_new : Inputs) (old now : Channels)
+    (ran : Ran) : Type 0 where
   pub run : Running (Cell X)
   pub new : Running (Cell X)
   pub begins : Begins cells wiring plan kind run

@@ -2,7 +2,7 @@
 -- Trusted: part of what a promise means.
 use Rattle.rvc_base.specs.declared.refusal.Rule.{Rule}
 
--- Y1: a form isn't built yet. Place: its first token.
+-- Y1: a form isn't built yet. Place: its first token. Nothing is refused so: each form is built.
 abbrev pub not_built : Rule
 not_built = record { 0 = 1 }
 

@@ -5,7 +5,7 @@ use crate::refusal::Rule;
 impl Rule {
     /// Y1: a form isn't built yet.
     ///
-    /// Place: its first token.
+    /// Place: its first token. Nothing is refused so: each form is built.
     pub const NOT_BUILT: Rule = Rule(1);
     /// L1: a byte stands outside the alphabet, or a `!` without `=` at once behind it.
     ///

@@ -12,8 +12,7 @@ use Rattle.rvc_engine.specs.Built.{IsBuilt, IsImageOf}
 use Rattle.rvc_engine.specs.Checked.{CountsMisses}
 use Rattle.rvc_engine.specs.Images.{MeansNet}
 use Rattle.rvc_engine.specs.Laws.{NetworksAreNotRefused}
-use Rattle.rvc_engine.specs.NoImage.{IsNoImage, IsUnbuilt}
-use Rattle.rvc_engine.specs.Refused.{IsFault, RefusesTop}
+use Rattle.rvc_engine.specs.Refused.{IsFault, IsOutside, RefusesTop}
 use Rattle.rvc_engine.specs.Steps.{IsHeld}
 use Rattle.rvc_engine.specs.declared.held.Held.{Held}
 use Rattle.rvc_engine.specs.declared.image.Image.{Image}
@@ -33,13 +32,13 @@ pub built_missed : (r : Result Image BuildFault) (library : Library) (top : Aske
 built_missed (Ok image) library top misses names held h same = subst (CountsMisses top misses) (sym same) h.missed
 built_missed (Err f) library top misses names held h same = tt
 
-pub no_image : (r : Result Image BuildFault) (library : Library) (top : Asked) (misses faults : Counts) (names : List (List ℕ)) → IfErr r (λ fault. fault ≡ Memory) → IfErr r (IsNoImage library top misses faults names)
+pub no_image : (r : Result Image BuildFault) (library : Library) (top : Asked) (misses faults : Counts) (names : List (List ℕ)) → IfErr r (λ fault. fault ≡ Memory) → IfErr r (IsFault library top misses faults names)
 no_image (Ok image) library top misses faults names why = tt
-no_image (Err f) library top misses faults names why = subst (IsNoImage library top misses faults names) (sym why) tt
+no_image (Err f) library top misses faults names why = subst (IsFault library top misses faults names) (sym why) tt
 
 -- what was checked isn't given, so there is no image
 pub none_checked : (library : Library) (top : Asked) (misses faults : Counts) (names : List (List ℕ)) (f : BuildFault) → IsFault library top misses faults names f
-    → IsNoImage library top misses faults names f
+    → IsFault library top misses faults names f
 none_checked library top misses faults names (Refused r) h = h
 none_checked library top misses faults names (ReadFault file) h = h
 none_checked library top misses faults names Memory h = tt
@@ -53,7 +52,7 @@ library_image library top names image h = record { reads = h.reads; are_loaded =
 
 pub completes_image : (r : Result Image BuildFault) (library : Library) (top : Asked) (misses faults : Counts) (names : List (List ℕ)) (net : Network State)
     → LibraryNetworksAreOne → NetworksAreNotRefused → TellsAll library → IsLibraryNetwork library top net
-    → IfOk r (IsBuilt library top names) → IfErr r (IsNoImage library top misses faults names) → MatchResult r (λ image. MeansNet image net) IsUnbuilt
+    → IfOk r (IsBuilt library top names) → IfErr r (IsFault library top misses faults names) → MatchResult r (λ image. MeansNet image net) IsOutside
 completes_image (Ok image) library top misses faults names net one kept tells is h k =
     subst (MeansNet image) (one library top h.is_image.net net tells (library_image library top names image h) is)
     (record { actors = h.is_image.means.actors; has = h.is_image.has })

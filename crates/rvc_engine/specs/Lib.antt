@@ -5,7 +5,6 @@ pub mod Laws
 pub mod Steps
 pub mod LoneNet
 pub mod Built
-pub mod NoImage
 pub mod Answering
 pub mod Compiling
 pub mod Images

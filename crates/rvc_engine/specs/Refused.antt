@@ -59,7 +59,8 @@ pub record BreaksRule (library : Library) (top : Asked) (names : List (List ℕ)
   pub breaks : Breaks (files_of reads) (class_asked top) r
 
 -- a file that is asked for is refused, or all are read and break a rule
-pub data RefusesTop (library : Library) (top : Asked) (misses : Counts) (names : List (List ℕ)) (r : Refusal) : Type 0 where
+pub data RefusesTop (library : Library) (top : Asked) (misses : Counts) (names : List (List ℕ))
+    (r : Refusal) : Type 0 where
   in_files : IsRefused library top misses r names → RefusesTop library top misses names r
   in_network : BreaksRule library top names r → RefusesTop library top misses names r
 

@@ -10,7 +10,6 @@ ghost use Rattle.source_network.specs.Library.{IsLibraryNetwork};
 ghost use Rattle.rvc_engine.specs.Built.{IsBuilt};
 ghost use Rattle.rvc_engine.specs.Checked.{CountsMisses, HasNetwork, IsChecked};
 ghost use Rattle.rvc_engine.specs.Images.{MeansNet};
-ghost use Rattle.rvc_engine.specs.NoImage.{IsNoImage, IsUnbuilt};
 ghost use Rattle.rvc_engine.specs.Refused.{IsFault, IsOutside, RefusesTop};
 ghost use Rattle.rvc_engine.specs.Top.{top_asked};
 
@@ -103,7 +102,7 @@ pub fn build<L: Library>(
         (file_names names.new)) }
     ensures missed { IfOk result (λ image. CountsMisses (top_asked top.now)
         (record { old = L.misses library.old; new = L.misses library.new }) image.flat) }
-    ensures fault { IfErr result (IsNoImage (L.file library.old) (top_asked top.now)
+    ensures fault { IfErr result (IsFault (L.file library.old) (top_asked top.now)
         (record { old = L.misses library.old; new = L.misses library.new })
         (record { old = L.faults library.old; new = L.faults library.new })
         (file_names names.new)) }
@@ -111,7 +110,7 @@ pub fn build<L: Library>(
     // What a library that tells of each name decides.
     ensures complete { (net : Network State) → TellsAll (L.file library.old)
         → IsLibraryNetwork (L.file library.old) (top_asked top.now) net
-        → MatchResult result (λ image. MeansNet image net) IsUnbuilt }
+        → MatchResult result (λ image. MeansNet image net) IsOutside }
     ensures incomplete { (misses : Counts) (refusal : Denial) (found : List (List ℕ))
         → TellsAll (L.file library.old)
         → RefusesTop (L.file library.old) (top_asked top.now) misses found refusal → IsErr result }

@@ -1,6 +1,6 @@
 -- Which of numbered files are open, and what is told of them.
 -- Trusted: part of what a promise means.
-use Rattle.std.specs.Prelude.{ℕ, List, [], Bool, true, false, ◌||◌, ◌==◌, None, slice_index_or}
+use Rattle.std.specs.Prelude.{ℕ, List, [], Bool, false, ◌||◌, ◌==◌, None, slice_index_or}
 use Rattle.rvc_io.specs.Channels.{Channels}
 use Rattle.rvc_io.specs.Feeds.{Inputs}
 

@@ -28,8 +28,12 @@ without_flags =
 -- the places `VERB`, `TOP` and `PORTS`, and six options, in any order
 unfoldable pub rvc : App
 rvc =
-    let places = with_rule (with_rule (with_rule (without_flags (new_app (codes "rvc"))) (place (codes "VERB"))) (place (codes "TOP"))) (last_place (codes "PORTS")) in
-    with_rule (with_rule (with_rule (with_rule (with_rule (with_rule places (option (codes "trace"))) (option (codes "workers"))) (option (codes "round"))) (option (codes "burst"))) (option (codes "budget"))) (option (codes "grow"))
+    let places =
+    with_rule (with_rule (with_rule (without_flags (new_app (codes "rvc")))
+    (place (codes "VERB"))) (place (codes "TOP"))) (last_place (codes "PORTS")) in
+    with_rule (with_rule (with_rule (with_rule (with_rule (with_rule places
+    (option (codes "trace"))) (option (codes "workers"))) (option (codes "round")))
+    (option (codes "burst"))) (option (codes "budget"))) (option (codes "grow"))
 
 abbrev pub is_some_fault : Kinds → Bool
 is_some_fault [] = false

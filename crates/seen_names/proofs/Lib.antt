@@ -1,6 +1,10 @@
 mod Sized
 mod Rounds
-mod SameCalls
+mod Bare
+mod SameValues
 mod SameKinds
 mod Callless
+mod SameFuns
 mod OneRound
+mod OneMore
+mod Keys

@@ -14,8 +14,8 @@ use Rattle.const_eval.specs.Held.{Kept, globals_of, held, last_first, names_in}
 use Rattle.cal_check.specs.Actors.{at_rest}
 use Rattle.cal_check.specs.Routines.{FunDecl, fun_judged, funs_after, funs_over, with_fun}
 use Rattle.cal_check.specs.Variables.{seen}
-use Rattle.seen_names.specs.Bounds.{AreEnough}
 use Rattle.seen_names.specs.Known.{AreNew, all_known, is_named_in, known_at, known_view, names_alone, names_differ, value_seen}
+use Rattle.seen_names.specs.Needs.{AreEnough}
 use Rattle.seen_names.specs.declared.known.KnownName.{KnownName}
 
 -- ---- tests

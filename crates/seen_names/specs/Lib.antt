@@ -1,3 +1,3 @@
 pub mod Known
 pub mod Calls
-pub mod Bounds
+pub mod Needs

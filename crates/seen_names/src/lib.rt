@@ -6,13 +6,17 @@
 //! it is judged. `cal_check` says which names those are (ISO/IEC 23001-4, RVC-CAL: state variables and functions).
 #![tactic(auto)]
 
-mod bounds;
 mod calls;
+mod constants;
 mod declared;
+mod growing;
 mod known;
+mod name_set;
+mod needs;
 mod seen;
 
 pub use calls::{calls_alone_need_functions, calls_any, type_calls_any};
 pub use declared::{DeclaredFun, names_differ};
+pub use growing::GrowingNames;
 pub use known::{KnownName, add_name, names_alone};
 pub use seen::{names_at_rest, names_seen};

@@ -8,10 +8,10 @@ ghost use Rattle.cal_check.specs.Variables.{seen};
 ghost use Rattle.const_eval.specs.Constants.{has_fun};
 ghost use Rattle.const_eval.specs.Counting.{names_view};
 ghost use Rattle.const_eval.specs.Held.{globals_of, held, last_first, names_in};
-ghost use Rattle.seen_names.specs.Bounds.{AreEnough};
 ghost use Rattle.seen_names.specs.Known.{all_known, fun_decls, known_at, names_differ};
+ghost use Rattle.seen_names.specs.Needs.{AreEnough, needs_of};
 
-use crate::bounds::some_calls;
+use crate::constants::needs_of;
 use crate::declared::DeclaredFun;
 use crate::known::{KnownName, names_without};
 use cal_model::types_are_kept;
@@ -59,10 +59,11 @@ fn round(
 /// How many rounds find all functions: one, if no size and no bound in them calls a function, and else as many as there are
 /// functions.
 #[tactic(auto, using(crate::proofs::OneRound::all_rounds, crate::proofs::OneRound::one_round))]
-fn rounds_needed(funs: &[DeclaredFun]) -> usize
+fn rounds_needed(funs: &[DeclaredFun], calls: bool) -> usize
+    requires { calls ≡ (needs_of (fun_decls funs.now)).calls }
     ensures { AreEnough result (fun_decls funs.now) }
 {
-    if some_calls(funs) || funs.is_empty() {
+    if calls || funs.is_empty() {
         return funs.len();
     }
     1
@@ -74,13 +75,15 @@ fn with_funs(
     at_rest: bool,
     known: &[KnownName],
     funs: &[DeclaredFun],
+    calls: bool,
 ) -> Result<Env, Memory>
-    requires { names_differ (fun_decls funs.now) ≡ true }
+    requires differ { names_differ (fun_decls funs.now) ≡ true }
+    requires calls { calls ≡ (needs_of (fun_decls funs.now)).calls }
     ensures { IfOk result (λ env. names_in env
         ≡ seen (fun_decls funs.now) (last_first (known_at at_rest) known.now [])) }
 {
     let mut env = names_without(alloc, at_rest, known)?;
-    let needed = rounds_needed(funs);
+    let needed = rounds_needed(funs, calls);
     let mut rounds = 0usize;
     'rounds: while rounds < needed {
         env = round(alloc, at_rest, known, funs, &env)?;
@@ -101,7 +104,22 @@ pub fn names_seen(alloc: Global, known: &[KnownName], funs: &[DeclaredFun]) -> R
     requires { names_differ (fun_decls funs.now) ≡ true }
     ensures { IfOk result (λ env. names_in env ≡ seen (fun_decls funs.now) (all_known known.now)) }
 {
-    with_funs(alloc, false, known, funs)
+    let needs = needs_of(alloc, funs)?;
+    seen_over(alloc, known, funs, needs.calls())
+}
+
+/// The same, once it is known whether what must be constant in the functions calls one.
+pub(crate) fn seen_over(
+    alloc: Global,
+    known: &[KnownName],
+    funs: &[DeclaredFun],
+    calls: bool,
+) -> Result<Env, Memory>
+    requires differ { names_differ (fun_decls funs.now) ≡ true }
+    requires calls { calls ≡ (needs_of (fun_decls funs.now)).calls }
+    ensures { IfOk result (λ env. names_in env ≡ seen (fun_decls funs.now) (all_known known.now)) }
+{
+    with_funs(alloc, false, known, funs, calls)
 }
 
 /// What is seen of them inside an actor, once all values are known: of what changes only the kind.
@@ -120,5 +138,6 @@ pub fn names_at_rest(
     ensures { IfOk result (λ env. names_in env
         ≡ seen (fun_decls funs.now) (map at_rest (all_known known.now))) }
 {
-    with_funs(alloc, true, known, funs)
+    let needs = needs_of(alloc, funs)?;
+    with_funs(alloc, true, known, funs, needs.calls())
 }

@@ -66,7 +66,8 @@ seen_behind xs names = names_inside (declared_by xs (inner_variables names.inner
 
 -- All variables, or what a type or a start of one breaks. If what isn't constant is passed over, and the type of one
 -- isn't, there are none.
-abbrev pub DeclaresAllSaid : Bool → Result (Option (Vec Variable Global)) KindFault → List VarDecl → DeclaredNames → Names → Type 0
+abbrev pub DeclaresAllSaid : Bool → Result (Option (Vec Variable Global)) KindFault → List VarDecl
+    → DeclaredNames → Names → Type 0
 DeclaresAllSaid passes (Ok (Some xs)) vs names outer =
     (said passes (starts_broken (listed (map var_tree vs)) outer) ≡ [])
     × (names_behind (listed (map var_tree vs)) outer ≡ Fine (seen_behind xs.items names))

@@ -203,7 +203,8 @@ pub fn block(
     body: &[Stmt],
     passes: bool,
 ) -> Result<(), KindFault>
-    ensures { Checks result (said passes (block_broken (listed (map var_tree declared.now)) (listed (map stmt_tree body.now))
+    ensures { Checks result (said passes
+        (block_broken (listed (map var_tree declared.now)) (listed (map stmt_tree body.now))
         (map proc_view procs.now) (names_view names.now))) }
 {
     let Some(variables) = check_vars(names, declared, passes)? else {

@@ -1,12 +1,12 @@
 -- Code of statements writes only cells that may be written, and reads only tokens that may be read.
-use Rattle.std.proofs.Common.{◌≡◌, ℕ, zero, suc, ◌+◌, ◌*◌, ◌<◌, ◌≤◌, Bool, List, [], ◌∷◌, ◌++◌, length, true, false, refl, sym, ap, ◌∙◌, subst, Option, None, Some, arith}
-use Rattle.std.specs.Prelude.{if◌then◌else◌, pos}
+use Rattle.std.proofs.Common.{◌≡◌, ℕ, ◌+◌, ◌≤◌, Bool, List, [], ◌∷◌, ◌++◌, length, true, false, refl, ap, ◌∙◌, subst, Option, None, Some, arith}
+use Rattle.std.specs.Prelude.{if◌then◌else◌}
 use Rattle.std.specs.Str.{bytes_eq}
 use Rattle.rvc_base.specs.declared.scalar.Scalar.{Scalar}
 use Rattle.cal_ast.specs.Tree as tree
 use Rattle.cal_ast.specs.Tree.{Tree}
 use Rattle.cal_model.specs.Actor.{Local, Proc}
-use Rattle.cal_model.specs.Kinding.{Known, Names, counter, known_as, meant_by, type_judged, with_known}
+use Rattle.cal_model.specs.Kinding.{Known, Names, counter, known_as, type_judged, with_known}
 use Rattle.cal_model.specs.Sound.{AreStatements, IsProc, IsStatement, MayBeAssigned, kind_of_judged, known_local, with_locals, with_vars_known}
 use Rattle.cal_model.specs.Value.{Kind, Shape, Single, Many, scalars_of_type}
 use Rattle.code_ir.specs.declared.instr.Instr.{Instr}
@@ -14,8 +14,7 @@ use Rattle.code_ir.specs.declared.instr.Instr.TheVariants as op
 use Rattle.expr_lower.specs.declared.callees.Formal.{Formal}
 use Rattle.expr_lower.specs.declared.names.Seat.{Seat}
 use Rattle.expr_lower.specs.declared.names.Seat.TheVariants.{Cell, Tokens}
-use Rattle.expr_lower.specs.Allowing.{Allowed, Allows, AreAllowed, AreWritten, IsAllowed, MayWrite, SeatIsRead}
-use Rattle.expr_lower.specs.Calling.{AreInRow}
+use Rattle.expr_lower.specs.Allowing.{Allowed, Allows, AreAllowed, AreWritten, MayWrite, SeatIsRead}
 use Rattle.expr_lower.specs.Coding.{formal_stores}
 use Rattle.expr_lower.specs.Names.{Name, local, local_of, named}
 use Rattle.expr_lower.specs.Parted.{number_of, sized}
@@ -25,14 +24,13 @@ use Rattle.expr_lower.proofs.AllowedRoutines.{formals_read, row_written}
 use Rattle.expr_lower.proofs.Coded.{grows, grows_test}
 use Rattle.expr_lower.proofs.PartValues.{sized_is}
 use Rattle.list_lower.proofs.AllowedFills.{fill_allowed, list_start_allowed}
-use Rattle.list_lower.proofs.Filled.{grows_fill}
 use Rattle.stmt_lower.specs.AllowingRuns.{AllowsRuns, ChangesAreWritten, SeatIsWritten}
 use Rattle.stmt_lower.specs.Procedures.{Procedure, Routines}
 use Rattle.stmt_lower.specs.Proceeding.{IsProcBody, IsProcRoutine, local_list, local_more, no_local}
 use Rattle.stmt_lower.specs.Stating.{IsKept, IsStmt, AreStmts, copy_code, no_place, part_tail, place_more, set, set_filled, set_item, set_items, set_list, set_part, set_part_list, set_whole, step_code, step_in, count_next, if_alone, if_else, while_code, each_code, each_counted, each_head, each_tail, block_code, none, one_more, IsBlock, list_more, no_more, variable_more, call, run_code}
 use Rattle.stmt_lower.specs.Targets.{leaf_of}
 use Rattle.stmt_lower.proofs.DeepItems.{grows_kept}
-use Rattle.stmt_lower.proofs.Executed.{grows_all, grows_block, grows_start, grows_stmt}
+use Rattle.stmt_lower.proofs.Executed.{grows_all, grows_start, grows_stmt}
 use Rattle.stmt_lower.proofs.ListStarting.{grows_list_start}
 use Rattle.stmt_lower.proofs.ProcCalls.{proc_found}
 

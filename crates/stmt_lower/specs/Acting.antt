@@ -28,7 +28,8 @@ pub record HasCells (low high : ℕ) (xs : List Formal) : Type 0 where
 
 -- The run goes on to a place, with one frame less, with the operands that there were and with cells that hold these
 -- globals. It changes only the cells of the globals and those of routines.
-pub record ComesBack (w : World) (globals : List Name) (s : State) (back : ℕ) (frames : List ℕ) (vars : List Var) (left : ℕ) : Type 0 where
+pub record ComesBack (w : World) (globals : List Name) (s : State) (back : ℕ) (frames : List ℕ)
+    (vars : List Var) (left : ℕ) : Type 0 where
   pub cells : List ℤ
   pub reaches : Reaches w.code w.tokens s (state back s.stack frames cells left)
   pub keeps : KeepsBut globals 0 0 w.low w.high s.cells cells

@@ -87,7 +87,8 @@ pub record CutShort (w : World) (names outer : List Name) (n m : ℕ) (s : State
 
 -- The run goes on to a place with the operands that there were, with so many turns left and with cells that hold an
 -- environment.
-pub record GoesOn (w : World) (globals locals : List Name) (n m : ℕ) (s : State) (end : ℕ) (env : Env) (left : ℕ) : Type 0 where
+pub record GoesOn (w : World) (globals locals : List Name) (n m : ℕ) (s : State) (end : ℕ)
+    (env : Env) (left : ℕ) : Type 0 where
   pub cells : List ℤ
   pub reaches : Reaches w.code w.tokens s (state end s.stack s.frames cells left)
   pub keeps : KeepsOver (locals ++ globals) globals n m w.low w.high s.cells cells
@@ -105,7 +106,8 @@ EndsOn w globals locals n m s end Lacks o last = Unit {0}
 EndsOn w globals locals n m s end Clashes o last = Unit {0}
 
 -- what is round statements that call: the routines are there, and the cells hold the locals and the globals
-pub record IsReady (rs : Routines) (w : World) (runs : Runs) (globals locals : List Name) (n m : ℕ) (cells : List ℤ) (env : Env) : Type 0 where
+pub record IsReady (rs : Routines) (w : World) (runs : Runs) (globals locals : List Name) (n m : ℕ)
+    (cells : List ℤ) (env : Env) : Type 0 where
   pub functions : Serves w globals rs.functions
   pub procedures : ServesRuns w runs globals rs.procedures
   pub laid : AreLaid globals w.low w.high n locals
@@ -116,7 +118,8 @@ pub record IsReady (rs : Routines) (w : World) (runs : Runs) (globals locals : L
 
 -- Wherever these instructions stand, in code that has the routines, they do what executing the statements does, as
 -- `Executes` says it of statements that call nothing; the names are locals and then globals.
-pub record ExecutesCalling (rs : Routines) (names : List Name) (body : Tree) (base n m : ℕ) (code : List Instr) : Type 0 where
+pub record ExecutesCalling (rs : Routines) (names : List Name) (body : Tree) (base n m : ℕ)
+    (code : List Instr) : Type 0 where
   pub goes : (w : World) (runs : Runs) (globals locals : List Name) (env : Env) (stack : List ℤ) (frames : List ℕ)
       (cells : List ℤ) (left : ℕ)
       → names ≡ locals ++ globals → StandsAt w.code.instrs base code
@@ -136,7 +139,8 @@ pub record ExecutesCalling (rs : Routines) (names : List Name) (body : Tree) (ba
 -- The instructions execute the statements. In any code that has the routines they fit where they stand, at any height.
 -- They write no cells but their own, those of formals and those of names that may be assigned, and read no tokens but
 -- those of names.
-pub record IsExecutedCalling (rs : Routines) (names : List Name) (body : Tree) (base n : ℕ) (code : List Instr) (m : ℕ) : Type 0 where
+pub record IsExecutedCalling (rs : Routines) (names : List Name) (body : Tree) (base n : ℕ)
+    (code : List Instr) (m : ℕ) : Type 0 where
   pub cells : n ≤ m
   pub executes : ExecutesCalling rs names body base n m code
   pub fits : (whole : Code) (callable h : ℕ) → HasRunRoutines whole callable m rs

@@ -49,7 +49,8 @@ pub data IsProcBody (rs : Routines) (body : Tree) :
       → IsProcBody rs body names (x ∷ xs) base n (a ++ b) m
 
 -- The code of a procedure as a routine that is called by this name: its formals stand side by side in cells from n on.
-pub record IsProcRoutine (globals : List Name) (rs : Routines) (p : Proc) (g : Procedure) (base n : ℕ) (code : List Instr) (m : ℕ) : Type 0 where
+pub record IsProcRoutine (globals : List Name) (rs : Routines) (p : Proc) (g : Procedure)
+    (base n : ℕ) (code : List Instr) (m : ℕ) : Type 0 where
   pub text : g.text ≡ p.name
   pub formals : StandForFormals p.formals g.formals
   pub row : AreInRow n g.formals
@@ -64,7 +65,8 @@ pub record ProcSized (p : Proc) : Type 0 where
 
 -- Routines that stand in code, for procedures of an actor, behind those of its functions: each calls only those before
 -- it, and its cells lie behind theirs. The last one's cells end at n.
-pub data AreProcRoutines (globals : List Name) (whole : Code) (funs : List Fun) (procs : List Proc) (low : ℕ) (fs : List Function) :
+pub data AreProcRoutines (globals : List Name) (whole : Code) (funs : List Fun) (procs : List Proc)
+    (low : ℕ) (fs : List Function) :
     List Procedure → ℕ → Type 0 where
   no_procedure : (n : ℕ) → AreRoutines globals whole funs low fs n
       → AreProcRoutines globals whole funs procs low fs [] n

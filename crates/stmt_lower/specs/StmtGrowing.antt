@@ -95,7 +95,8 @@ left_out_vars rs names (tree.cons (tree.var shape (tree.ident text place) start 
     elim (single_meant shape) [
       | None ↦ elim (shape_meant shape) [
         | None ↦ Some at
-        | Some t ↦ left_out_list_start rs.functions names t start or_else left_out_vars rs (local_of text t 0 ∷ names) vars body
+        | Some t ↦ left_out_list_start rs.functions names t start
+            or_else left_out_vars rs (local_of text t 0 ∷ names) vars body
       ]
       | Some t ↦ left_out_start rs.functions names start or_else left_out_vars rs (local text t 0 ∷ names) vars body
     ]
@@ -120,7 +121,8 @@ abbrev mutual
   left_out_stmt rs names (tree.foreach_stmt shape (tree.ident text place) from to body at) =
       elim (single_meant shape) [
         | None ↦ Some at
-        | Some t ↦ left_out_in rs.functions names from or_else (left_out_in rs.functions names to or_else left_out_all rs
+        | Some t ↦ left_out_in rs.functions names from
+            or_else (left_out_in rs.functions names to or_else left_out_all rs
             (local text t 0 ∷ names) body)
       ]
   left_out_stmt rs names (tree.block vars body at) =

@@ -22,21 +22,25 @@ ghost use Rattle.stmt_lower.specs.Procedures.{Procedure, Routines};
 /// what the procedures do, and have no other ends. Those of the functions do what these do there, and the cells of all
 /// of them are in a row.
 pub fn routines_do_what_procedures_do()
-    ensures procedures { (globals : List Name) (whole : Code) (tokens : ℕ → List ℤ) (funs : List Fun) (procs : List Proc) (fs : List Function) (ps : List Procedure) (low n : ℕ)
+    ensures procedures { (globals : List Name) (whole : Code) (tokens : ℕ → List ℤ)
+        (funs : List Fun) (procs : List Proc) (fs : List Function) (ps : List Procedure) (low n : ℕ)
         → AreBelow low globals → NamesApart globals → AreTyped globals
         → AreProcRoutines globals whole funs procs low fs ps n
         → ServesRuns (world_of whole tokens (calls_of funs) low n) (runs_of procs (calls_of funs)) globals ps }
-    ensures functions { (globals : List Name) (whole : Code) (tokens : ℕ → List ℤ) (funs : List Fun) (procs : List Proc) (fs : List Function) (ps : List Procedure) (low n : ℕ)
+    ensures functions { (globals : List Name) (whole : Code) (tokens : ℕ → List ℤ) (funs : List Fun)
+        (procs : List Proc) (fs : List Function) (ps : List Procedure) (low n : ℕ)
         → AreBelow low globals → AreProcRoutines globals whole funs procs low fs ps n
         → Serves (world_of whole tokens (calls_of funs) low n) globals fs }
-    ensures cells { (globals : List Name) (whole : Code) (funs : List Fun) (procs : List Proc) (fs : List Function) (ps : List Procedure) (low n : ℕ)
+    ensures cells { (globals : List Name) (whole : Code) (funs : List Fun) (procs : List Proc)
+        (fs : List Function) (ps : List Procedure) (low n : ℕ)
         → AreProcRoutines globals whole funs procs low fs ps n → low ≤ n }
 {}
 
 /// The code of a procedure's routine fits where it stands in code that has the routines which it calls, with cells for
 /// all of them.
 pub fn procedures_fit()
-    ensures { (whole : Code) (callable limit : ℕ) (globals : List Name) (rs : Routines) (p : Proc) (g : Procedure) (base n m : ℕ) (code : List Instr)
+    ensures { (whole : Code) (callable limit : ℕ) (globals : List Name) (rs : Routines) (p : Proc)
+        (g : Procedure) (base n m : ℕ) (code : List Instr)
         → HasRunRoutines whole callable limit rs → AreBelow n globals → AreTyped globals → ProcSized p
         → m ≤ limit → StandsAt whole.instrs base code
         → IsProcRoutine globals rs p g base n code m → FitsAsProc whole callable limit base code }

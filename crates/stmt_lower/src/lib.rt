@@ -1,6 +1,6 @@
 //! Code for statements and procedures: instructions that do what executing statements and calling procedures does.
 //!
-//! It stands on [`expr_lower`], which makes the code of their expressions and of functions. Code is appended to a
+//! It stands on [`list_lower`], which makes the code of their expressions and of functions. Code is appended to a
 //! [`Draft`](expr_lower::Draft), and leaves what the statements leave in the cells of the names.
 #![tactic(auto)]
 

@@ -1,6 +1,6 @@
 //! Procedures as routines.
 
-ghost use Rattle.std.specs.Prelude.{◌≡◌, ◌∷◌, ◌<◌, ◌^◌, [], length, IfErr, IfOk, None, OnOk};
+ghost use Rattle.std.specs.Prelude.{◌≡◌, ◌<◌, ◌^◌, [], length, IfErr, IfOk, None, OnOk};
 ghost use Rattle.cal_model.specs.View.{proc_view};
 ghost use Rattle.expr_lower.specs.Growing.{IsFault};
 ghost use Rattle.stmt_lower.specs.Proceeding.{AddsProcRoutine, IsFaultOfProc, IsWholeProc};

@@ -33,7 +33,7 @@ use cal_ast::{Expr, ExprForm, Ident, Stmt, StmtForm, TypeExpr, VarDecl};
 use cal_model::Shape;
 use code_ir::Instr;
 use expr_lower::{
-    Callee, Draft, Frame, LowerFault, Named, close, link, next_place, put, put_all, take_cell,
+    Callee, Draft, Frame, LowerFault, Named, close, link, next_place, put, take_cell,
 };
 use list_lower::{lower, lower_args, lower_test, shape_meant, single_meant, start, start_list};
 use rvc_base::Scalar;
@@ -494,11 +494,14 @@ fn behind(
     draft: &mut Draft,
 ) -> Result<(), LowerFault>
     ensures ok { OnOk result
-        (AddsBlock (called scope.now) (behind first.now (shape_view shape.now) cell scope.now) rest.now body.now draft.old draft.new) }
+        (AddsBlock (called scope.now) (behind first.now (shape_view shape.now) cell scope.now)
+        rest.now body.now draft.old draft.new) }
     ensures whole { OnOk result
-        (left_out_block (called scope.now) (behind first.now (shape_view shape.now) cell scope.now) rest.now body.now ≡ None) }
+        (left_out_block (called scope.now) (behind first.now (shape_view shape.now) cell scope.now)
+        rest.now body.now ≡ None) }
     ensures fault { IfErr result
-        (IsFault (left_out_block (called scope.now) (behind first.now (shape_view shape.now) cell scope.now) rest.now body.now) draft.new) }
+        (IsFault (left_out_block (called scope.now)
+        (behind first.now (shape_view shape.now) cell scope.now) rest.now body.now) draft.new) }
 {
     let frame = Frame {
         name: first.name.text.as_str(),
@@ -520,9 +523,9 @@ fn behind(
 /// values or lists, `if`, `while`, and `foreach` and blocks whose types are written without names, over the expressions
 /// for which [`lower_expr`](list_lower::lower_expr) or, of lists, [`lower_list`](list_lower::lower_list) makes code. The
 /// variables of a block may be lists at any depth. A `foreach` uses three cells more, or one if its bounds are written out
-/// and its type holds them, a variable of a block one for each of its numbers, a part of a list in lists one for each of
-/// its places and one for each number of its value, and a list that isn't copied from a name one for each of its numbers,
-/// beside those of its generators; they are added to the draft.
+/// and its type holds them, a variable of a block one for each of its numbers, and a part of a list in lists one for each
+/// of its places. What is stored in such a part or as a whole list uses one for each of its numbers, unless it is copied
+/// from a name, beside those of its generators. All are added to the draft.
 ///
 /// # Errors
 ///

@@ -1,5 +1,5 @@
 -- What is to come over input links where tokens were taken back, and a delivery behind what stacks have.
-use Rattle.std.proofs.Common.{◌≡◌, ◌≢◌, ℕ, zero, suc, ◌+◌, ◌-◌, ◌^◌, ◌<◌, ◌≤◌, ◌⊎◌, min, Bool, true, false, List, [], ◌∷◌, ◌++◌, ℤ, length, drop, map, refl, sym, ap, subst, ◌∙◌, inl, inr, ⊎_elim, arith, append-nil, lit<}
+use Rattle.std.proofs.Common.{◌≡◌, ℕ, ◌+◌, ◌-◌, ◌^◌, ◌<◌, ◌≤◌, ◌⊎◌, min, true, false, List, [], ◌++◌, ℤ, length, drop, refl, sym, ap, subst, ◌∙◌, inl, inr, ⊎_elim, arith, append-nil}
 use Rattle.std.specs.Prelude.{Option, None, Some, slice_get, slice_index_or}
 use Rattle.std.proofs.lemmas.Bool.{cases_lt}
 use Rattle.std.proofs.lemmas.List.{length-map}
@@ -22,15 +22,15 @@ use Rattle.net_state.specs.Working.{AreFed}
 use Rattle.net_state.proofs.Coming.{by_bool}
 use Rattle.round_runner.specs.Running.{AreFedBy, feed_of}
 use Rattle.network_runner.specs.Delivering.{Delivers, IsDelivered}
-use Rattle.network_runner.specs.Filling.{CameOn, CameOver, CameOverOn, TellsRest}
+use Rattle.network_runner.specs.Filling.{CameOn, CameOver, TellsRest}
 use Rattle.network_runner.proofs.Begun.{map_index}
 use Rattle.network_runner.proofs.Delivered.{comes_as}
 use Rattle.network_runner.proofs.Flowing.{AllGoneOn, GoneOn}
 use Rattle.trace_replay.specs.Ending.{SameOnInputs}
-use Rattle.trace_replay.specs.Holding.{AreEmpty, AreFedBehind, AreFresh, CountsOnePut, CountsPut, DeliversHeld, FitStacks, FitTaken, FitsStack, IsBehind, PutsEach, ahead, ahead_by, counts_of, rooms_of, stacked, tokens_of_stacks}
+use Rattle.trace_replay.specs.Holding.{AreEmpty, AreFedBehind, AreFresh, CountsOnePut, CountsPut, DeliversHeld, FitStacks, FitTaken, FitsStack, PutsEach, ahead, ahead_by, counts_of, rooms_of, stacked, tokens_of_stacks}
 use Rattle.trace_replay.specs.declared.holding.TakenBack.{TakenBack}
 use Rattle.trace_replay.proofs.Ahead.{after_ahead, ahead_at, ahead_in, ahead_none, ahead_out, arrivals_ahead, delivered_ahead, left_ahead, sent_ahead}
-use Rattle.trace_replay.proofs.Chained.{There, is_low, there}
+use Rattle.trace_replay.proofs.Chained.{There, there}
 use Rattle.trace_replay.proofs.Stacks.{empty_at}
 use Rattle.trace_replay.proofs.Waits.{capacity_held, inside_input, waits_untaken}
 

@@ -1,5 +1,5 @@
 -- Where the lines of a run that were read have led.
-use Rattle.std.proofs.Common.{◌≡◌, ℕ, suc, ◌+◌, ◌⊎◌, Bool, true, false, List, [], ◌∷◌, ◌++◌, length, refl, sym, ap, subst, ◌∙◌, inl, inr, ⊎_elim, arith, append_assoc, append-nil}
+use Rattle.std.proofs.Common.{◌≡◌, ℕ, suc, ◌+◌, Bool, true, false, List, [], ◌∷◌, ◌++◌, length, refl, sym, ap, subst, ◌∙◌, inl, arith, append_assoc, append-nil}
 use Rattle.std.specs.Prelude.{Option, None, Some, Err, slice_get, take, flat_map, if◌then◌else◌}
 use Rattle.std.specs.List.{concat}
 use Rattle.rvc_io.specs.Feeds.{Inputs, PullsOnlyAt}
@@ -28,18 +28,17 @@ use Rattle.trace_replay.specs.Feeding.{PullsInputs}
 use Rattle.trace_replay.specs.Laws.{StartFits}
 use Rattle.trace_replay.specs.Head.{StandsAt}
 use Rattle.trace_replay.specs.Judging.{AtEnd, AtEvents, AtFirst, AtInstance, IsNotRun, Lead, LeadsOn, MayCome, Reached, Trial, after_line, due, first_line, instance_text, is_end, is_of_table}
-use Rattle.trace_replay.specs.Reading.{NamesRead, NamesTrace, HasReached, IsJudged, IsRead, OnReadFault}
+use Rattle.trace_replay.specs.Reading.{NamesRead, NamesTrace, HasReached, IsRead, OnReadFault}
 use Rattle.trace_text.specs.Text.{line_feed, line_text}
 use Rattle.trace_replay.specs.Scanning.{Scans}
 use Rattle.trace_replay.specs.declared.bytes.TheConstants.{TRACE_FEED}
 use Rattle.trace_replay.specs.declared.reading.Trace.{Trace}
 use Rattle.trace_replay.specs.declared.why.Why.{Why}
-use Rattle.trace_replay.specs.declared.why.Why.TheVariants.{End}
 use Rattle.trace_replay.specs.declared.why.ReplayFault.{ReplayFault}
 use Rattle.trace_replay.specs.declared.why.ReplayFault.TheVariants.{NotRun, ReadFault, Memory}
 use Rattle.trace_replay.proofs.Counted.{ordered, played_on}
 use Rattle.trace_replay.proofs.Looped.{no_trace, start_since, steps_come, steps_since}
-use Rattle.trace_replay.proofs.Reached.{concat_more, not_run_line, reached_more, told_after}
+use Rattle.trace_replay.proofs.Reached.{concat_more, not_run_line, reached_more}
 use Rattle.trace_replay.proofs.Traces.{written_text}
 
 -- The lines so far have led to the state s, and the numbers count them; `opened` is the state after the last delivery.

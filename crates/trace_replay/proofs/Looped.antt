@@ -22,7 +22,7 @@ use Rattle.trace_replay.specs.Counting.{FitLinks}
 use Rattle.trace_replay.specs.Ending.{CanGrow, HoldEnough}
 use Rattle.trace_replay.specs.Trying.{AllWork}
 use Rattle.trace_replay.specs.declared.bytes.TheConstants.{TRACE_FEED}
-use Rattle.trace_replay.specs.Judging.{AtEvents, MayCome, Trial}
+use Rattle.trace_replay.specs.Judging.{MayCome, Trial}
 use Rattle.trace_replay.specs.Laws.{StartFits}
 use Rattle.trace_replay.proofs.Onward.{deliver_comes, fire_comes, trap_comes}
 use Rattle.trace_replay.proofs.Growths.{HasGrown, grown_is}

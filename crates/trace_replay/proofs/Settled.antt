@@ -12,7 +12,7 @@ use Rattle.net_state.specs.Held.{Held}
 use Rattle.net_state.specs.Standing.{IsTrueOfUnarrived, StandsIn, unarrived}
 use Rattle.net_state.specs.Surveyed.{AreSettled}
 use Rattle.trace_replay.specs.Ending.{AreUnsettled}
-use Rattle.trace_replay.proofs.Chained.{There, low_there, there}
+use Rattle.trace_replay.proofs.Chained.{There, there}
 
 -- on the first n links all that was sent inside has arrived
 abbrev pub AreOutTo : {X : Type 0} → ℕ → Held (Cell X) → Type 0

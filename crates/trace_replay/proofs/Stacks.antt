@@ -1,5 +1,5 @@
 -- What lies on stacks is put back, and taken back, link by link.
-use Rattle.std.proofs.Common.{◌≡◌, ◌≢◌, ℕ, zero, suc, ◌+◌, ◌<◌, ◌≤◌, true, false, List, [], ◌∷◌, ℤ, length, take, drop, map, min, refl, sym, ap, subst, ◌∙◌, ⊎_elim, arith}
+use Rattle.std.proofs.Common.{◌≡◌, ◌≢◌, ℕ, zero, suc, ◌+◌, ◌<◌, ◌≤◌, true, false, List, [], ◌∷◌, ℤ, length, take, drop, min, refl, sym, ap, subst, ◌∙◌, ⊎_elim, arith}
 use Rattle.std.specs.Prelude.{Some, slice_get, slice_set, slice_index_or, if◌then◌else◌}
 use Rattle.std.proofs.lemmas.Bool.{cases_eq}
 use Rattle.std.proofs.lemmas.List.{length-map, length-set}
@@ -20,7 +20,7 @@ use Rattle.net_state.proofs.Kept.{same_then}
 use Rattle.net_state.proofs.Surveying.{same_all}
 use Rattle.network_runner.proofs.Begun.{map_at, map_index}
 use Rattle.net_state.specs.declared.filling.Filled.{Filled}
-use Rattle.trace_replay.specs.Holding.{AreEmpty, ComeNext, CountsOnePut, CountsPut, FitStacks, FitsStack, IsBehind, KeepsRest, MayBeAhead, PutsEach, PutsOne, TakesEach, TakesOne, ahead, ahead_by, ahead_on, counts_of, rooms_of, tokens_of_stacks}
+use Rattle.trace_replay.specs.Holding.{AreEmpty, ComeNext, CountsOnePut, CountsPut, FitStacks, FitsStack, IsBehind, KeepsRest, MayBeAhead, PutsEach, PutsOne, TakesEach, TakesOne, ahead, ahead_on, counts_of, rooms_of, tokens_of_stacks}
 use Rattle.trace_replay.proofs.Ahead.{ahead_in, ahead_more, ahead_none, ahead_out, prefix_same, set_self, take_whole}
 use Rattle.trace_replay.proofs.Chained.{There, is_low, low_there, there}
 use Rattle.trace_replay.proofs.Waits.{inside_input, waits_untaken}

@@ -1,6 +1,6 @@
 -- What a line does to a network between two lines.
-use Rattle.std.proofs.Common.{◌≡◌, ℕ, ◌≤◌, Bool, true, false, List, length, refl, sym, ap, subst, ◌∙◌, inl, inr, ⊎_elim, arith}
-use Rattle.std.specs.Prelude.{Option, None, Some, is_some, map, slice_get}
+use Rattle.std.proofs.Common.{◌≡◌, ℕ, ◌≤◌, Bool, true, false, List, length, refl, sym, ap, subst, ◌∙◌, arith}
+use Rattle.std.specs.Prelude.{Option, Some, is_some, map, slice_get}
 use Rattle.std.specs.Option.{option_map}
 use Rattle.std.proofs.lemmas.Option.{slice_get-map}
 use Rattle.rvc_base.specs.declared.trap.Trap.{Trap as TrapName}
@@ -9,12 +9,9 @@ use Rattle.port_files.specs.Coming.{Reading}
 use Rattle.trace_text.specs.declared.line.Line.{Line}
 use Rattle.trace_text.specs.declared.line.Line.TheVariants.{Header as FirstLine, Inst, Fire, Deliver, Grow, Quiet, Trap as TrapLine, Stall, Budget}
 use Rattle.net_model.specs.declared.wiring.Counts.{Counts}
-use Rattle.net_model.specs.declared.wiring.End.{End}
-use Rattle.net_model.specs.declared.wiring.End.TheVariants.{Leaf as AtLeaf, Net as AtNet}
 use Rattle.net_model.specs.declared.wiring.Link.{Link}
-use Rattle.net_model.specs.Network.{Network, is_input, is_outside}
-use Rattle.net_model.specs.State.{Flow, State, effect_at, give_of, need_of, untaken}
-use Rattle.net_model.specs.Ends.{Grows, IsStalled, LacksOn, all_fed, with_rest}
+use Rattle.net_model.specs.State.{State, effect_at, need_of, untaken}
+use Rattle.net_model.specs.Ends.{Grows}
 use Rattle.net_model.specs.Event.{Fire as FireEvent, after_firing, happens, trap}
 use Rattle.net_model.specs.Trace.{after_delivery, grown}
 use Rattle.net_model.specs.Cell.{Cell}

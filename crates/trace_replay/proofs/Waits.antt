@@ -1,12 +1,12 @@
 -- How many tokens of an input link are untaken: as many as wait at its reading end.
-use Rattle.std.proofs.Common.{◌≡◌, ℕ, ◌+◌, ◌-◌, ◌<◌, ◌≤◌, Bool, true, false, List, length, refl, sym, ap, subst, ◌∙◌, arith}
-use Rattle.std.specs.Prelude.{Option, None, Some, map, slice_get, slice_index_or}
+use Rattle.std.proofs.Common.{◌≡◌, ℕ, ◌-◌, ◌<◌, true, false, List, length, refl, sym, ap, subst, ◌∙◌}
+use Rattle.std.specs.Prelude.{Option, None, Some, slice_get, slice_index_or}
 use Rattle.std.proofs.lemmas.List.{length-map}
 use Rattle.net_model.specs.declared.wiring.End.{End}
 use Rattle.net_model.specs.declared.wiring.End.TheVariants.{Leaf as AtLeaf, Net as AtNet}
 use Rattle.net_model.specs.declared.wiring.Link.{Link}
 use Rattle.net_model.specs.Network.{Leaf, Network, is_input, is_leaf_port, is_output, is_outside}
-use Rattle.net_model.specs.State.{Flow, State, untaken, waiting}
+use Rattle.net_model.specs.State.{Flow, State, untaken}
 use Rattle.net_model.specs.Cell.{Cell}
 use Rattle.net_model.specs.Ready.{tokens_of, waiting_at}
 use Rattle.net_model.specs.Wired.{HasInput, IsWired, LeadsToPort}

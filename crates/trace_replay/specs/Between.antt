@@ -48,7 +48,8 @@ between cell held taken readings numbers feeds = record {
 
 -- The network stands in the state s, which the last delivery `opened`. `inputs` are the bytes of its inputs from which
 -- the run began.
-pub record IsAt {X : Type 0} (net : Network X) (inputs : List (List ℕ)) (now : Between X) (opened s : State X) : Type 0 where
+pub record IsAt {X : Type 0} (net : Network X) (inputs : List (List ℕ)) (now : Between X)
+    (opened s : State X) : Type 0 where
   pub stands : StandsHeld net inputs now.held (stacked now.taken) now.readings now.feeds opened s
   pub fits : FitInputs net s
 

@@ -18,7 +18,8 @@ use Rattle.trace_replay.specs.Judging.{max_trace_bytes}
 
 -- The numbers count lines that lead from s to last, but for what was sent to outputs and hasn't left, which is still
 -- to be counted.
-pub record IsCountedTo {X : Type 0} (net : Network X) (inputs : List (List ℕ)) (s : State X) (lines : List Line) (last : State X) (counts : Counts) : Type 0 where
+pub record IsCountedTo {X : Type 0} (net : Network X) (inputs : List (List ℕ)) (s : State X)
+    (lines : List Line) (last : State X) (counts : Counts) : Type 0 where
   pub firings : counts.firings ≡ length (firings_shown lines)
   pub rounds : counts.rounds ≡ deliveries_in lines
   pub links : length counts.arrived.items ≡ length net.links

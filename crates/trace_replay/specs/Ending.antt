@@ -54,13 +54,15 @@ IsEndOf {X} grow held line = (net : Network X) (s : State X) → StandsIn net he
 abbrev pub EndsSo : {X : Type 0} → ℕ → Line → Held (Cell X) → List (List ℤ) → List (Option Reading)
     → Inputs → Type 0
 EndsSo {X} grow line held stacks readings feeds = (net : Network X) (inputs : List (List ℕ))
-    (opened s : State X) → StandsHeld net inputs held stacks readings feeds opened s → IsWired net → AreLawful net → FitInputs net s
+    (opened s : State X) → StandsHeld net inputs held stacks readings feeds opened s → IsWired net
+    → AreLawful net → FitInputs net s
     → IsTrueEnd net grow s line
 
 abbrev pub EndsNotSo : {X : Type 0} → ℕ → Line → Held (Cell X) → List (List ℤ)
     → List (Option Reading) → Inputs → Type 0
 EndsNotSo {X} grow line held stacks readings feeds = (net : Network X) (inputs : List (List ℕ))
-    (opened s : State X) → StandsHeld net inputs held stacks readings feeds opened s → IsWired net → AreLawful net → FitInputs net s
+    (opened s : State X) → StandsHeld net inputs held stacks readings feeds opened s → IsWired net
+    → AreLawful net → FitInputs net s
     → IsTrueEnd net grow s line → ⊥
 
 -- link l may grow further

@@ -1,11 +1,9 @@
 -- Lines of a run that are read one after another, up to an end line.
 -- Trusted are `IsTextOf` and `IsEnded`: part of what a promise means.
-use Rattle.std.specs.Prelude.{◌≡◌, ◌⊎◌, ℕ, suc, ◌+◌, true, List, [], ◌++◌, length, map, flat_map, Some, String, string_bytes}
-use Rattle.std.specs.List.{concat}
+use Rattle.std.specs.Prelude.{◌≡◌, ℕ, suc, ◌+◌, List, [], ◌++◌, length, map, flat_map, Some, String, string_bytes}
 use Rattle.std.specs.declared.alloc.Global.{Global as Heap}
 use Rattle.rvc_io.specs.Feeds.{Inputs}
 use Rattle.trace_text.specs.declared.line.Line.{Line}
-use Rattle.trace_text.specs.Spelling.{Spells}
 use Rattle.trace_text.specs.Table.{AreWritten}
 use Rattle.trace_text.specs.Text.{line_text}
 use Rattle.net_model.specs.declared.wiring.Counts.{Counts}
@@ -18,18 +16,16 @@ use Rattle.net_model.specs.Cell.{Cell}
 use Rattle.trace_replay.specs.Between.{Between, IsAt, stand}
 use Rattle.trace_replay.specs.Counting.{IsCountedTo}
 use Rattle.trace_replay.specs.Head.{IsHeadOf, PassesEnd, StandsAt}
-use Rattle.trace_replay.specs.Judging.{AtEvents, AtFirst, IsNotRun, Lead, Trial, is_of_table}
+use Rattle.trace_replay.specs.Judging.{AtEvents, AtFirst, Trial}
 use Rattle.trace_replay.specs.Laws.{StartFits}
 use Rattle.trace_replay.specs.Reading.{IsJudged, IsWhole}
 use Rattle.trace_replay.specs.declared.between.Replay.{Replay}
 use Rattle.trace_replay.specs.declared.reading.Trace.{Trace}
-use Rattle.trace_replay.specs.declared.why.Why.{Why}
-use Rattle.trace_replay.specs.declared.why.Why.TheVariants.{End}
 use Rattle.trace_replay.specs.declared.why.ReplayFault.{ReplayFault}
-use Rattle.trace_replay.specs.declared.why.ReplayFault.TheVariants.{NotRun, ReadFault, Memory}
 
 -- the head of a trace was read, and the network stands where the run begins
-pub record BeginsAt {X : Type 0} (t : Trial X) (text : List ℕ) (inputs : List (List ℕ)) (trace : Trace) (now : Between X) (grow : ℕ) : Type 0 where
+pub record BeginsAt {X : Type 0} (t : Trial X) (text : List ℕ) (inputs : List (List ℕ))
+    (trace : Trace) (now : Between X) (grow : ℕ) : Type 0 where
   pub grow_is : t.grow ≡ grow
   pub wired : IsWired t.net
   pub lawful : AreLawful t.net
@@ -47,7 +43,8 @@ pub record IsTextOf {X : Type 0} (t : Trial X) (text : List ℕ) (lines : List L
   pub leads : played t.net t.start lines ≡ Some s
 
 -- the trace was read to its end, with this end line, and the numbers count its lines
-pub record IsEnded {X : Type 0} (t : Trial X) (text : List ℕ) (inputs : List (List ℕ)) (end : Line) (numbers : Counts) : Type 0 where
+pub record IsEnded {X : Type 0} (t : Trial X) (text : List ℕ) (inputs : List (List ℕ)) (end : Line)
+    (numbers : Counts) : Type 0 where
   pub last : State X
   pub whole : IsWhole t text end last
   pub lines : List Line
@@ -69,7 +66,9 @@ EndsWhole X feeds end old before line = (line ≡ end) × PassesEnd X old (feeds
 -- The whole trace.
 
 -- nothing of the trace was read, and the network stands where the run begins
-pub record BeginsFirst {X : Type 0} (t : Trial X) (text : List ℕ) (inputs : List (List ℕ)) (trace : Trace) (now : Between X) (grow : ℕ) (first : Line) (names : List (List ℕ)) : Type 0 where
+pub record BeginsFirst {X : Type 0} (t : Trial X) (text : List ℕ) (inputs : List (List ℕ))
+    (trace : Trace) (now : Between X) (grow : ℕ) (first : Line)
+    (names : List (List ℕ)) : Type 0 where
   pub head : IsHeadOf t trace.grow first names
   pub grow_is : t.grow ≡ grow
   pub wired : IsWired t.net

@@ -49,7 +49,8 @@ IfUnread Grown P = Unit {0}
 IfUnread (Unread feed) P = P feed
 
 -- what the code knows then of what is held, of what was taken back and of the readers
-pub record StillFits {X : Type 0} (links : List Link) (old new : Held (Cell X)) (taken : TakenBack) (after : List (Option Reading)) (later : Inputs) : Type 0 where
+pub record StillFits {X : Type 0} (links : List Link) (old new : Held (Cell X)) (taken : TakenBack)
+    (after : List (Option Reading)) (later : Inputs) : Type 0 where
   pub taken_fits : FitTaken new taken
   pub readers : ReadersFit links after later
   pub enough : HoldEnough links new.capacities

@@ -1,6 +1,6 @@
 -- Tokens of input links that were taken back, until they arrive.
 -- Trusted are `tokens_of_stacks`, `stacked`, `IsBehind`, `AreFedBehind` and `StandsHeld`: part of what a promise means.
-use Rattle.std.specs.Prelude.{◌≡◌, ◌≢◌, ℕ, ◌+◌, ◌^◌, ◌≤◌, ◌<◌, true, false, List, [], ◌∷◌, ℤ, length, map, drop, slice_get, slice_set, slice_index_or, Option, Some, if◌then◌else◌}
+use Rattle.std.specs.Prelude.{◌≡◌, ℕ, ◌+◌, ◌^◌, ◌≤◌, ◌<◌, true, false, List, [], ◌∷◌, ℤ, length, map, drop, slice_get, slice_set, slice_index_or, Option, Some, if◌then◌else◌}
 use Rattle.rvc_io.specs.Feeds.{Inputs}
 use Rattle.port_files.specs.Coming.{Reading}
 use Rattle.token_ring.specs.Queue.{Queue}
@@ -11,7 +11,7 @@ use Rattle.net_model.specs.Event.{after_arrival}
 use Rattle.net_model.specs.Cell.{Cell}
 use Rattle.net_model.specs.Wired.{IsWired}
 use Rattle.net_state.specs.declared.filling.Filled.{Filled}
-use Rattle.net_state.specs.Held.{Held, seen}
+use Rattle.net_state.specs.Held.{Held}
 use Rattle.net_state.specs.Moving.{SameActors, SameMarks}
 use Rattle.net_state.specs.Standing.{StandsIn, StandsSince, unarrived}
 use Rattle.net_state.specs.TakingBack.{WaitElsewhere, down, waits_on}
@@ -36,14 +36,17 @@ pub record IsBehind {X : Type 0} (net : Network X) (stacks : List (List ℤ)) (s
       ≡ down (slice_index_or stacks l []) (unarrived (slice_get later.flows l))
 
 -- What is to come on each input link is what its stack has, and then what its feed has.
-pub record AreFedBehind {X : Type 0} (net : Network X) (inputs : List (List ℕ)) (s : State X) (stacks : List (List ℤ)) (readings : List (Option Reading)) (feeds : Inputs) : Type 0 where
+pub record AreFedBehind {X : Type 0} (net : Network X) (inputs : List (List ℕ)) (s : State X)
+    (stacks : List (List ℤ)) (readings : List (Option Reading)) (feeds : Inputs) : Type 0 where
   pub later : State X
   pub behind : IsBehind net stacks s later
   pub fed : AreFedBy net inputs later readings feeds
 
 -- The state stands in what is held, it was `opened` by the last delivery, and what is to come is what stacks and feeds
 -- have. `inputs` are the bytes of the network's inputs from which the run began.
-pub record StandsHeld {X : Type 0} (net : Network X) (inputs : List (List ℕ)) (held : Held (Cell X)) (stacks : List (List ℤ)) (readings : List (Option Reading)) (feeds : Inputs) (opened s : State X) : Type 0 where
+pub record StandsHeld {X : Type 0} (net : Network X) (inputs : List (List ℕ)) (held : Held (Cell X))
+    (stacks : List (List ℤ)) (readings : List (Option Reading)) (feeds : Inputs)
+    (opened s : State X) : Type 0 where
   pub stands : StandsSince net held opened s
   pub fed : AreFedBehind net inputs s stacks readings feeds
 
@@ -153,7 +156,9 @@ pub record CountsPut (put : List ℕ) (old new : List Filled) : Type 0 where
 
 -- A delivery behind what stacks have: each state of a wired network goes on by it, and the network is at rest. What came
 -- over a link is told with what its stack had.
-pub record DeliversHeld {X : Type 0} (old new : Held (Cell X)) (stacks : List (List ℤ)) (before after : List (Option Reading)) (feeds_old feeds_new : Inputs) (came : List Filled) : Type 0 where
+pub record DeliversHeld {X : Type 0} (old new : Held (Cell X)) (stacks : List (List ℤ))
+    (before after : List (Option Reading)) (feeds_old feeds_new : Inputs)
+    (came : List Filled) : Type 0 where
   pub states : (net : Network X) (inputs : List (List ℕ)) (s : State X) → StandsIn net old s
       → IsWired net → AreFedBehind net inputs s stacks before feeds_old
       → IsDelivered net inputs s new after feeds_new came

@@ -191,7 +191,8 @@ pub record AreOfTable {X : Type 0} (t : Trial X) (lines : List Line) : Type 0 wh
   pub events : AreWritten lines
 
 -- The text is a trace of a run with this end line, over the network and from the start of the trial.
-pub record IsTrace {X : Type 0} (t : Trial X) (text : List ℕ) (lines : List Line) (end : Line) (last : State X) : Type 0 where
+pub record IsTrace {X : Type 0} (t : Trial X) (text : List ℕ) (lines : List Line) (end : Line)
+    (last : State X) : Type 0 where
   pub is_text : text ≡ trace.text t.net t.grow lines
   pub of_table : AreOfTable t lines
   pub plays : PlaysFrom t.net t.grow t.start lines last

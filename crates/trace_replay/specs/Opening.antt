@@ -11,7 +11,8 @@ use Rattle.trace_replay.specs.Holding.{AreFresh}
 use Rattle.trace_replay.specs.declared.between.Replay.{Replay}
 
 -- it has these cells and this wiring, and the cells hold the state in which a run from them begins
-pub record IsOpenedOn {C X : Type 0} (cell : C → Cell X) (cells : List C) (wiring : Wiring) (grow : ℕ) (replay : Replay C) : Type 0 where
+pub record IsOpenedOn {C X : Type 0} (cell : C → Cell X) (cells : List C) (wiring : Wiring)
+    (grow : ℕ) (replay : Replay C) : Type 0 where
   pub cells_are : replay.state.cells ≡ cells
   pub links_held : replay.state.links ≡ wiring.links.items
   pub links_are : replay.links.items ≡ wiring.links.items

@@ -22,7 +22,8 @@ use Rattle.trace_replay.specs.declared.why.ReplayFault.{ReplayFault}
 use Rattle.trace_replay.specs.declared.why.ReplayFault.TheVariants.{NotRun, ReadFault, Memory}
 
 -- Of the text n lines were read, which have led to what was reached; `passed` bytes were read, and these are to come.
-pub record HasReached {X : Type 0} (t : Trial X) (text : List ℕ) (n passed : ℕ) (reached : Reached X) (coming : Option (List ℕ)) : Type 0 where
+pub record HasReached {X : Type 0} (t : Trial X) (text : List ℕ) (n passed : ℕ)
+    (reached : Reached X) (coming : Option (List ℕ)) : Type 0 where
   pub texts : List (List ℕ)
   pub rest : List ℕ
   pub lead : Lead t AtFirst texts reached
@@ -37,7 +38,8 @@ pub record IsCounted (n passed : ℕ) : Type 0 where
   pub within : passed ≤ max_trace_bytes
 
 -- a line was read that a trace of this version may have
-pub record IsRead (expected : List ℕ) (grow passed passed_new : ℕ) (before after : Option (List ℕ)) (line : Line) (same : Bool) : Type 0 where
+pub record IsRead (expected : List ℕ) (grow passed passed_new : ℕ) (before after : Option (List ℕ))
+    (line : Line) (same : Bool) : Type 0 where
   pub scans : Scans expected passed passed_new before after (Whole line same)
   pub of_table : is_of_table grow line ≡ true
   pub within : passed_new ≤ max_trace_bytes

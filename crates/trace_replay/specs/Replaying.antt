@@ -32,7 +32,8 @@ pub record IsReadyAs {X : Type 0} (net : Network X) (cells : List (Cell X)) (wir
   pub is_of : IsNetworkOf net cells wiring
   pub ready : IsReady net grow 0 cells
 
-pub record CanReplay {X : Type 0} (cells : List (Cell X)) (wiring : Wiring) (grow : ℕ) (names : List (List ℕ)) (feeds : Inputs) : Type 0 where
+pub record CanReplay {X : Type 0} (cells : List (Cell X)) (wiring : Wiring) (grow : ℕ)
+    (names : List (List ℕ)) (feeds : Inputs) : Type 0 where
   pub ready : (net : Network X) × IsReadyAs net cells wiring grow
   -- each link and each input of the network has a type of tokens
   pub sizes : HaveSizes wiring.links.items
@@ -61,7 +62,9 @@ IsEndTold opened inputs feed feeds (AtNet port) =
 
 -- The trace that feeds tell, and what it is judged by: the network that cells, wiring and names make, the limit of
 -- growth, and the state in which the run begins. `inputs` are the bytes of each network input, in port order.
-pub record IsReplayOf {X : Type 0} (t : Trial X) (text : List ℕ) (inputs : List (List ℕ)) (cells : List (Cell X)) (wiring : Wiring) (grow : ℕ) (names : List (List ℕ)) (feeds : Inputs) : Type 0 where
+pub record IsReplayOf {X : Type 0} (t : Trial X) (text : List ℕ) (inputs : List (List ℕ))
+    (cells : List (Cell X)) (wiring : Wiring) (grow : ℕ) (names : List (List ℕ))
+    (feeds : Inputs) : Type 0 where
   pub is_of : IsNetworkOf t.net cells wiring
   pub grow_is : t.grow ≡ grow
   pub start : t.start ≡ given_state t.net cells inputs
@@ -72,7 +75,8 @@ pub record IsReplayOf {X : Type 0} (t : Trial X) (text : List ℕ) (inputs : Lis
 
 -- The text is the trace of a run with this end line over these inputs, and not longer than a trace may be, and the
 -- numbers count its lines.
-pub record IsReplayed {X : Type 0} (t : Trial X) (text : List ℕ) (inputs : List (List ℕ)) (replayed : Replayed) : Type 0 where
+pub record IsReplayed {X : Type 0} (t : Trial X) (text : List ℕ) (inputs : List (List ℕ))
+    (replayed : Replayed) : Type 0 where
   pub lines : List Line
   pub last : State X
   pub is_trace : IsTrace t text lines replayed.end last

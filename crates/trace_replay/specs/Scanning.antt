@@ -34,7 +34,8 @@ IsScanned expected text passed after TooLong = (front : List ℕ) × (byte : ℕ
     × (passed + length front ≡ max_trace_bytes)
 
 -- `passed` and `passed_new` count the bytes of the trace that were read before and after
-pub record Scans (expected : List ℕ) (passed passed_new : ℕ) (before after : Option (List ℕ)) (scanned : Scanned) : Type 0 where
+pub record Scans (expected : List ℕ) (passed passed_new : ℕ) (before after : Option (List ℕ))
+    (scanned : Scanned) : Type 0 where
   pub text : List ℕ
   pub passes : Passes text before after
   pub is_scanned : IsScanned expected text passed after scanned

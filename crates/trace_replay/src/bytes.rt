@@ -1,6 +1,6 @@
 //! The bytes of a recorded trace, pulled in pieces.
 
-ghost use Rattle.std.specs.Prelude.{◌≡◌, ◌≤◌, ◌<◌, ◌++◌, ℕ, List, [], true, false, IfOk, OnOk, OnErr, IsSome, IfSome, IfNone, length, vec_len};
+ghost use Rattle.std.specs.Prelude.{◌≡◌, ◌≤◌, ◌<◌, ◌++◌, ℕ, List, [], true, false, IfOk, OnOk, OnErr, IfSome, IfNone, vec_len};
 ghost use Rattle.rvc_io.specs.Feeds.{PullsOnly, ReadFails};
 ghost use Rattle.port_files.specs.Coming.{KeepsComing, NothingLeft};
 ghost use Rattle.trace_replay.specs.Coming.{GivesNext, StartsWith};

@@ -1,6 +1,6 @@
 //! The lines of a run, one after another up to the end line.
 
-ghost use Rattle.std.specs.Prelude.{◌≡◌, ◌≤◌, true, false, IfOk, IfErr, is_some, length, map};
+ghost use Rattle.std.specs.Prelude.{◌≡◌, ◌≤◌, true, IfOk, IfErr, is_some, length, map};
 ghost use Rattle.rvc_io.specs.Feeds.{PullsOnly, ReadFails};
 ghost use Rattle.net_model.specs.Limits.{max_instances};
 ghost use Rattle.trace_replay.specs.Between.{IsReadyToGo};

@@ -31,7 +31,8 @@ pub(crate) fn read_first<A: Firing, F: Feeds>(
 ) -> Result<(), ReplayFault>
     requires open { (F.feeds feeds.old).is_open TRACE_FEED ≡ true }
     requires counted { IsCounted trace.old.count trace.old.lines.passed }
-    ensures read { OnOk result (PassesFirst A.State first.now trace.old (F.feeds feeds.old) trace.new (F.feeds feeds.new)) }
+    ensures read { OnOk result (PassesFirst A.State first.now trace.old (F.feeds feeds.old)
+        trace.new (F.feeds feeds.new)) }
     ensures judged { IfErr result (JudgesFirst A.State first.now trace.old (F.feeds feeds.old)) }
     ensures number { OnOk result (trace.new.count ≡ trace.old.count + 1) }
     ensures counted { OnOk result (IsCounted trace.new.count trace.new.lines.passed) }

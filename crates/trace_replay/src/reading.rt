@@ -1,9 +1,7 @@
 //! The lines of a trace, with their numbers.
 
-ghost use Rattle.std.specs.Prelude.{◌≡◌, ◌≤◌, ◌+◌, ◌++◌, [], true, false, IfOk, IfErr, OnErr, OnOk};
+ghost use Rattle.std.specs.Prelude.{◌≡◌, ◌+◌, [], true, IfOk, IfErr, OnOk};
 ghost use Rattle.rvc_io.specs.Feeds.{PullsOnly, ReadFails};
-ghost use Rattle.port_files.specs.Coming.{coming_on};
-ghost use Rattle.trace_text.specs.Text.{line_feed};
 ghost use Rattle.trace_replay.specs.Head.{JudgesEnd, PassesEnd};
 ghost use Rattle.trace_replay.specs.Judging.{is_of_table as of_table};
 ghost use Rattle.trace_replay.specs.declared.scan.Scanned.TheVariants as scanned;

@@ -1,6 +1,6 @@
 //! Replay of a recorded trace over the actors that ran.
 
-ghost use Rattle.std.specs.Prelude.{◌≡◌, IfOk, IfErr, map, string_bytes};
+ghost use Rattle.std.specs.Prelude.{IfOk, IfErr, map, string_bytes};
 ghost use Rattle.rvc_io.specs.Feeds.{ReadFails};
 ghost use Rattle.trace_replay.specs.Feeding.{OnlyPulls};
 ghost use Rattle.trace_replay.specs.Reading.{OnReadFault, NamesFeed};

@@ -1,6 +1,5 @@
 -- What a reader says of the bytes that it has read.
 use Rattle.std.proofs.Common.{◌≡◌, ℕ, List, [], ◌∷◌, ◌++◌, refl, sym, ap, ◌∙◌, subst, inl, inr, append_assoc}
-use Rattle.std.specs.Prelude.{None}
 use Rattle.std.proofs.lemmas.List.{append-nil}
 use Rattle.rvc_base.specs.Trap.{trap_name}
 use Rattle.trace_text.specs.declared.line.Line.{Line}

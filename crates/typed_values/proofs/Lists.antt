@@ -4,7 +4,7 @@ use Rattle.cal_check.specs.Constants.{has_kind, have_kind}
 use Rattle.std.proofs.Common.{Bool, true, false, ◌≡◌, ℕ, zero, suc, ◌+◌, ◌≤◌, List, [], ◌∷◌, ◌++◌, map, length, take, refl, ap, sym, ◌∙◌, add-one, arith}
 use Rattle.std.proofs.lemmas.Bool.Decides.{nat_tests}
 use Rattle.std.proofs.lemmas.List.{map-append, take_all}
-use Rattle.cal_model.specs.Value.{Kind, ListKind, Shape, Value, Items, Values, Nil, Cons, count, one, joined, repeated, stored, stored_each}
+use Rattle.cal_model.specs.Value.{Kind, ListKind, Shape, Value, Items, Cons, count, one, joined, repeated, stored, stored_each}
 use Rattle.cal_model.specs.View.{in_order, value_view}
 use Rattle.cal_model.specs.declared.value.Value.{Value as Declared}
 

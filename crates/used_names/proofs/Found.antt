@@ -1,8 +1,8 @@
 -- What rounds over declarations find is what an actor uses.
-use Rattle.std.proofs.Common.{◌≡◌, ℕ, zero, suc, ◌<◌, ◌≤◌, ◌⊎◌, inl, inr, ⊎_elim, Bool, true, false, ◌||◌, not, List, [], ◌∷◌, ◌++◌, length, map, refl, sym, ap, subst, ◌∙◌, arith, Contains}
+use Rattle.std.proofs.Common.{◌≡◌, ℕ, zero, suc, ◌<◌, ◌≤◌, ◌⊎◌, inl, inr, ⊎_elim, Bool, true, false, ◌||◌, not, List, [], ◌∷◌, ◌++◌, length, map, refl, sym, ap, subst, ◌∙◌, arith, Contains, reverse}
 use Rattle.std.specs.Prelude.{cond, filter, if◌then◌else◌}
 use Rattle.std.specs.Str.{bytes_eq}
-use Rattle.std.proofs.lemmas.List.{append-nil, append_assoc}
+use Rattle.std.proofs.lemmas.List.{append-nil, append_assoc, length-reverse, map-append, reverse-append, reverse-reverse}
 use Rattle.cal_ast.specs.Tree.{Tree}
 use Rattle.cal_model.proofs.KindNames.{same-text}
 use Rattle.cal_model.specs.Actor.{Fun, Held}
@@ -125,6 +125,40 @@ pub round_settles : (ds : List Outer) (names : List (List ℕ)) → length (roun
 round_settles ds names e =
     let nothing = nothing_found ds names e in
     subst (λ xs. IsSettled (round_names ds names) xs) (sym nothing.all_left) (subst (λ n. IsSettled n ds) (sym nothing.names_stay) nothing.settled)
+
+-- ---- the other way round
+
+reverse_more : {A : Type 0} (x : A) (xs : List A) → reverse (x ∷ xs) ≡ reverse xs ++ x ∷ []
+reverse_more x xs = reverse-append (x ∷ []) xs
+
+map_reverse : {A B : Type 0} (f : A → B) (xs : List A) → map f (reverse xs) ≡ reverse (map f xs)
+map_reverse f [] = refl
+map_reverse f (x ∷ xs) =
+    ap (map f) (reverse_more x xs) ∙ map-append f (reverse xs) (x ∷ []) ∙ ap (λ ys. ys ++ f x ∷ []) (map_reverse f xs) ∙ sym (reverse_more (f x) (map f xs))
+
+in_reverse : {A : Type 0} (xs : List A) (x : A) → Contains xs x → Contains (reverse xs) x
+in_reverse [] x h = absurd (in-none x h)
+in_reverse (y ∷ xs) x h =
+    subst (λ ys. Contains ys x) (sym (reverse_more y xs))
+    (⊎_elim (λ e. in_right (reverse xs) (y ∷ []) x (at-head x y [] e)) (λ r. in_left (reverse xs) (y ∷ []) x (in_reverse xs x r)) (head-or-rest x y xs h))
+
+of_reverse : {A : Type 0} (xs : List A) (x : A) → Contains (reverse xs) x → Contains xs x
+of_reverse xs x h = subst (λ ys. Contains ys x) (reverse-reverse xs) (in_reverse (reverse xs) x h)
+
+-- what is left may stand the other way round
+reverse_found : (s : Source) (names : List (List ℕ)) (ds : List Outer) → IsFound s names ds → IsFound s names (reverse ds)
+reverse_found s names ds found = record {
+  actor = found.actor;
+  wanted = found.wanted;
+  inside = λ d c. found.inside d (of_reverse ds d c);
+  visited = λ d c. ⊎_elim (λ l. inl (in_reverse ds d l)) (λ f. inr f) (found.visited d c);
+}
+
+pub turned_found : {A : Type 0} (view : A → Outer) (s : Source) (names : List (List ℕ)) (xs ys : List A) → ys ≡ reverse xs → IsFound s names (map view xs) → IsFound s names (map view ys)
+turned_found view s names xs ys e found = subst (IsFound s names) (sym (ap (map view) e ∙ map_reverse view xs)) (reverse_found s names (map view xs) found)
+
+pub turned_length : {A : Type 0} (xs ys : List A) → ys ≡ reverse xs → length ys ≡ length xs
+turned_length xs ys e = ap length e ∙ length-reverse xs
 
 -- ---- a round as it is told
 

@@ -67,6 +67,9 @@ fn names_of(alloc: Global, decls: &[OuterDecl]) -> Result<NameSet, Memory>
 }
 
 /// The names that an actor uses, or something that it uses.
+///
+/// A declaration uses others that stand before it, or behind it, so each round goes the other way than the last one: a
+/// chain of declarations that stand in one order is found in two rounds.
 fn found_names(alloc: Global, actor: &Actor, decls: &[OuterDecl]) -> Result<NameSet, Memory>
     ensures { IfOk result (λ names. (s : Source)
         → IsSourceOf s (actor_tree actor.now) (map outer_view decls.now)
@@ -78,6 +81,7 @@ fn found_names(alloc: Global, actor: &Actor, decls: &[OuterDecl]) -> Result<Name
     let mut before = decls.len();
     'rounds: while left.len() < before {
         before = left.len();
+        left.reverse();
         left = round(alloc, &mut names, &left)?;
     }
     Ok(names)

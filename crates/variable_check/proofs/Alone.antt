@@ -1,19 +1,18 @@
--- Variables that call no function are judged over the names alone.
+-- Variables that call no function are judged over the names alone, and others over the names with the functions.
 use Rattle.std.proofs.Common.{◌≡◌, Bool, true, false, List, [], ◌∷◌, ◌++◌, map, refl, sym, ap, subst, ◌∙◌}
-use Rattle.std.specs.Prelude.{◌||◌, if◌then◌else◌}
+use Rattle.std.specs.Prelude.{◌||◌, Option, Some, if◌then◌else◌}
 use Rattle.std.specs.declared.result.Result.{Result}
 use Rattle.rvc_base.specs.declared.refusal.Front.{Front}
 use Rattle.cal_model.specs.Value.{Shape}
 use Rattle.cal_model.specs.Kinding.{Judged, Fine, Broken, Known, Names}
-use Rattle.cal_model.specs.View.{fun_view}
-use Rattle.const_eval.specs.Held.{Kept as Environment, globals_of, names_in}
 use Rattle.cal_check.specs.Constants.{early_type}
 use Rattle.cal_check.specs.Routines.{FunDecl}
 use Rattle.cal_check.specs.Variables.{Given, Spot, VarDecl, Valued, come, seen, with_come, with_type, with_var}
 use Rattle.seen_names.specs.Calls.{StartsAreSame, TypesAreSame, calls_any}
 use Rattle.seen_names.specs.Known.{all_known, known_view, names_alone}
+use Rattle.seen_names.specs.Needs.{IsKept, Kept as Growing}
 use Rattle.seen_names.specs.declared.known.KnownName.{KnownName}
-use Rattle.variable_check.specs.Valuing.{AreAlone, Declares, Values}
+use Rattle.variable_check.specs.Valuing.{Declares, Values}
 use Rattle.variable_check.specs.declared.valued.Valued.{Valued as Kept}
 use Rattle.variable_check.proofs.Adding.{last_behind}
 
@@ -36,7 +35,7 @@ alone_same types starts x gs owner fs known vs e =
     ∙ ap (λ j. with_type j x gs owner (seen fs known) vs) (types fs known x.shape none.0)
 
 pub declares_alone : TypesAreSame → StartsAreSame → (r : Result (Unit {0}) Front) (old new : Kept) (x : VarDecl) (gs : List Given) (owner : Spot) (fs : List FunDecl) (names : Names) → old.whole ≡ true
-    → AreAlone names old → (calls_any x.shape || calls_any x.start) ≡ false → Declares r (x ∷ []) (with_type (early_type x.shape names) x gs owner names) old new
+    → names ≡ names_alone (all_known old.known.items) → (calls_any x.shape || calls_any x.start) ≡ false → Declares r (x ∷ []) (with_type (early_type x.shape names) x gs owner names) old new
     → Declares r (x ∷ []) (with_var x gs owner fs) old new
 declares_alone types starts r old new x gs owner fs names w e none d xs vs h =
     subst (λ us. Values r (xs ++ x ∷ []) new us)
@@ -45,17 +44,30 @@ declares_alone types starts r old new x gs owner fs names w e none d xs vs h =
     ∙ sym (ap (λ b. if b then with_type (early_type x.shape (seen fs vs.known)) x gs owner (seen fs vs.known) vs else vs) (sym h.whole ∙ w)))
     (d xs vs h)
 
+-- ---- over the names with the functions
+
+pub some_same : {A : Type 0} (a b : A) (o : Option A) → Some a ≡ o → o ≡ Some b → a ≡ b
+some_same a b o h i = cc
+
+pub declares_seen : (r : Result (Unit {0}) Front) (old new : Kept) (x : VarDecl) (gs : List Given) (owner : Spot) (fs : List FunDecl) (names : Names) → old.whole ≡ true
+    → names ≡ seen fs (all_known old.known.items) → Declares r (x ∷ []) (with_type (early_type x.shape names) x gs owner names) old new → Declares r (x ∷ []) (with_var x gs owner fs) old new
+declares_seen r old new x gs owner fs names w e d xs vs h =
+    subst (λ us. Values r (xs ++ x ∷ []) new us)
+    (ap (λ n. with_type (early_type x.shape n) x gs owner n vs) (e ∙ ap (seen fs) h.known)
+    ∙ sym (ap (λ b. if b then with_type (early_type x.shape (seen fs vs.known)) x gs owner (seen fs vs.known) vs else vs) (sym h.whole ∙ w)))
+    (d xs vs h)
+
 -- ---- one name more
 
 same_head : {A : Type 0} (x y : A) (xs ys : List A) → x ∷ xs ≡ y ∷ ys → x ≡ y
 same_head x y xs ys h = cc
 
-pub last_added : (old new : Environment) (known front before : List KnownName) (last x : KnownName) → known ≡ front ++ last ∷ [] → globals_of new ≡ known_view last ∷ globals_of old
-    → map fun_view new.funs ≡ map fun_view old.funs → known ≡ before ++ x ∷ [] → names_in old ≡ names_alone (all_known before) → names_in new ≡ names_alone (all_known known)
-last_added old new known front before last x split globals funs parts are =
+-- the last of the names became known
+pub last_kept : (old new : Growing) (fs : List FunDecl) (known front before : List KnownName) (last x : KnownName) → known ≡ front ++ last ∷ []
+    → ((gs : List FunDecl) (ks : List Known) → IsKept old gs ks → IsKept new gs (known_view last ∷ ks)) → known ≡ before ++ x ∷ [] → IsKept old fs (all_known before)
+    → IsKept new fs (all_known known)
+last_kept old new fs known front before last x split adds parts kept =
     let own : all_known known ≡ known_view x ∷ all_known before = ap all_known parts ∙ last_behind known_view before x [] in
     let other : all_known known ≡ known_view last ∷ all_known front = ap all_known split ∙ last_behind known_view front last [] in
     let same : known_view last ≡ known_view x = same_head (known_view last) (known_view x) (all_known front) (all_known before) (sym other ∙ own) in
-    let all : globals_of new ≡ all_known known = globals ∙ ap (λ k. k ∷ globals_of old) same ∙ ap (λ n. known_view x ∷ n.globals) are ∙ sym own in
-    let none : map fun_view new.funs ≡ [] = funs ∙ ap (λ n. n.funs) are in
-    ap (λ ks. record { globals = ks; locals = []; funs = map fun_view new.funs }) all ∙ ap (λ fs. record { globals = all_known known; locals = []; funs = fs }) none
+    subst (IsKept new fs) (ap (λ k. k ∷ all_known before) same ∙ sym own) (adds fs (all_known before) kept)

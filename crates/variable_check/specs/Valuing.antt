@@ -19,8 +19,9 @@ use Rattle.const_eval.specs.declared.fault.KindFault.TheVariants as fault
 use Rattle.cal_check.specs.Actors.{first_valueless, is_declared, is_given, said_or_all}
 use Rattle.cal_check.specs.Violations.{Violation, said, violation}
 use Rattle.cal_check.specs.Variables.{Come, Found, Given, Spot, VarDecl, Valued, found_in, is_none, param_broken, value_of}
-use Rattle.cal_model.specs.Kinding.{Names}
-use Rattle.seen_names.specs.Known.{all_known, names_alone}
+use Rattle.cal_check.specs.Routines.{FunDecl}
+use Rattle.seen_names.specs.Known.{all_known}
+use Rattle.seen_names.specs.Needs.{IsKept, Kept as Growing}
 use Rattle.seen_names.specs.declared.known.KnownName.{KnownName}
 use Rattle.variable_check.specs.Causes.{IsCause, IsSaid, SaysRule, inconstant}
 use Rattle.variable_check.specs.declared.starting.Started.{Started}
@@ -184,6 +185,6 @@ grows_if false old new = new.known.items ≡ old.known.items
 abbrev pub Grows : (old new : Kept) → Type 0
 Grows old new = grows_if new.whole old new
 
--- these names are those that are known, without functions
-abbrev pub AreAlone : Names → Kept → Type 0
-AreAlone names v = names ≡ names_alone (all_known v.known.items)
+-- what is kept of names is of those that are known, and of these functions
+abbrev pub AreSeen : Growing → List FunDecl → Kept → Type 0
+AreSeen names fs v = IsKept names fs (all_known v.known.items)

@@ -10,9 +10,11 @@ ghost use Rattle.cal_model.specs.View.{kind_view, shape_view};
 ghost use Rattle.const_eval.specs.Held.{names_in};
 ghost use Rattle.const_eval.specs.Judging.{Breaks};
 ghost use Rattle.seen_names.specs.Calls.{calls_any};
-ghost use Rattle.seen_names.specs.Known.{all_known, fun_decls, names_alone, names_differ};
+ghost use Rattle.cal_check.specs.Routines.{FunDecl};
+ghost use Rattle.seen_names.specs.Known.{all_known, fun_decls, names_differ};
+ghost use Rattle.seen_names.specs.Needs.{IsKept};
 ghost use Rattle.variable_check.specs.Views.{all_given, spot_of, var_decl, var_decls};
-ghost use Rattle.variable_check.specs.Valuing.{AreAlone, Declares, Grows, Settles, Untypes, said_of};
+ghost use Rattle.variable_check.specs.Valuing.{AreSeen, Declares, Grows, Settles, Untypes, said_of};
 
 use crate::declared::DeclaredVar;
 use crate::fault::{in_file, is_not_constant};
@@ -24,10 +26,7 @@ use cal_model::{Kind, Shape, kind_of_type, types_are_kept};
 use const_eval::{Env, KindFault, Names};
 use early_check::early_type;
 use rvc_base::{Front, Memory, Place};
-use seen_names::{
-    KnownName, add_name, calls_alone_need_functions, names_alone, names_seen, type_calls_any,
-};
-use std::alloc::Global;
+use seen_names::{GrowingNames, KnownName, calls_alone_need_functions, type_calls_any};
 
 /// What a variable of a type and its kind comes to.
 fn value_of(
@@ -136,72 +135,84 @@ fn start_calls_any(start: &Option<Expr>) -> bool
 }
 
 /// Adds a variable over what it sees, which is all names and functions.
-fn add_calling(told: Told<'_>, so_far: &mut Valued, x: DeclaredVar) -> Result<(), Front>
+fn add_calling(
+    told: Told<'_>,
+    so_far: &mut Valued,
+    names: &mut GrowingNames,
+    x: DeclaredVar,
+) -> Result<(), Front>
     requires differ { names_differ (fun_decls told.funs.now) ≡ true }
     requires whole { so_far.old.whole ≡ true }
+    requires names { AreSeen names.old (fun_decls told.funs.now) so_far.old }
     ensures declares { Declares result (var_decl x.entry ∷ []) (with_var (var_decl x.entry)
         (all_given told.entry.given.now) (spot_of told.entry.owner) (fun_decls told.entry.funs.now))
         so_far.old so_far.new }
     ensures grows { OnOk result (Grows so_far.old so_far.new) }
+    ensures names { OnOk result (AreSeen names.new (fun_decls told.entry.funs.now) so_far.old) }
 {
-    let Ok(env) = names_seen(told.alloc, &so_far.known, told.funs) else {
+    let Ok(()) = names.make(&so_far.known, told.funs) else {
         return Err(Front::Memory);
     };
-    add_over(told, so_far, &env, x)
+    add_over(told, so_far, names.seen(), x)
 }
 
 /// Adds a variable over the names alone, if it calls no function.
-fn add_alone(told: Told<'_>, so_far: &mut Valued, alone: &Env, x: DeclaredVar) -> Result<(), Front>
+fn add_alone(
+    told: Told<'_>,
+    so_far: &mut Valued,
+    names: &mut GrowingNames,
+    x: DeclaredVar,
+) -> Result<(), Front>
     requires differ { names_differ (fun_decls told.funs.now) ≡ true }
     requires whole { so_far.old.whole ≡ true }
-    requires alone { AreAlone (names_in alone.now) so_far.old }
+    requires names { AreSeen names.old (fun_decls told.funs.now) so_far.old }
     ensures declares { Declares result (var_decl x.entry ∷ []) (with_var (var_decl x.entry)
         (all_given told.entry.given.now) (spot_of told.entry.owner) (fun_decls told.entry.funs.now))
         so_far.old so_far.new }
     ensures grows { OnOk result (Grows so_far.old so_far.new) }
+    ensures names { OnOk result (AreSeen names.new (fun_decls told.entry.funs.now) so_far.old) }
 {
     calls_alone_need_functions();
     if needs_functions(x) {
-        return add_calling(told, so_far, x);
+        return add_calling(told, so_far, names, x);
     }
-    add_over(told, so_far, alone, x)
+    add_over(told, so_far, names.alone(), x)
 }
 
-/// Adds the last of the names that are known to those before it.
-fn add_last(alone: &mut Env, alloc: Global, known: &[KnownName]) -> Result<(), Memory>
-    ensures { OnOk result ((before : List KnownName) (x : KnownName) → known.now ≡ before ++ x ∷ []
-        → names_in alone.old ≡ names_alone (all_known before)
-        → names_in alone.new ≡ names_alone (all_known known.now)) }
+/// The last of the names that are known becomes known.
+fn add_last(names: &mut GrowingNames, known: &[KnownName]) -> Result<(), Memory>
+    ensures { OnOk result ((fs : List FunDecl) (before : List KnownName) (x : KnownName)
+        → known.now ≡ before ++ x ∷ [] → IsKept names.old fs (all_known before)
+        → IsKept names.new fs (all_known known.now)) }
 {
     let Some((last, _)) = known.split_last() else {
         return Ok(());
     };
-    add_name(alone, alloc, last)?;
-    Ok(())
+    names.add(last)
 }
 
-/// Adds a variable, unless one before it has no type. What is known is in an environment without functions too.
+/// Adds a variable, unless one before it has no type. What is known becomes known to those that are seen too.
 fn add_variable(
     told: Told<'_>,
     so_far: &mut Valued,
-    alone: &mut Env,
+    names: &mut GrowingNames,
     x: DeclaredVar,
 ) -> Result<(), Front>
     requires differ { names_differ (fun_decls told.funs.now) ≡ true }
-    requires alone { AreAlone (names_in alone.old) so_far.old }
+    requires names { AreSeen names.old (fun_decls told.funs.now) so_far.old }
     ensures declares { Declares result (var_decl x.entry ∷ []) (with_var (var_decl x.entry)
         (all_given told.entry.given.now) (spot_of told.entry.owner) (fun_decls told.entry.funs.now))
         so_far.old so_far.new }
-    ensures alone { OnOk result (AreAlone (names_in alone.new) so_far.new) }
+    ensures names { OnOk result (AreSeen names.new (fun_decls told.entry.funs.now) so_far.new) }
 {
     if !so_far.whole {
         return Ok(());
     }
-    add_alone(told, so_far, alone, x)?;
+    add_alone(told, so_far, names, x)?;
     if !so_far.whole {
         return Ok(());
     }
-    match add_last(alone, told.alloc, &so_far.known) {
+    match add_last(names, &so_far.known) {
         Ok(()) => Ok(()),
         Err(Memory) => Err(Front::Memory),
     }
@@ -227,11 +238,11 @@ pub fn value_all(told: Told<'_>, so_far: &mut Valued, vars: &[DeclaredVar]) -> R
         (all_given told.entry.given.now) (spot_of told.entry.owner) (fun_decls told.entry.funs.now))
         so_far.old so_far.new }
 {
-    let Ok(mut alone) = names_alone(told.alloc, &so_far.known) else {
+    let Ok(mut names) = GrowingNames::new(told.alloc, &so_far.known, told.funs) else {
         return Err(Front::Memory);
     };
     for x in vars {
-        add_variable(told, so_far, &mut alone, *x)?;
+        add_variable(told, so_far, &mut names, *x)?;
     }
     Ok(())
 }

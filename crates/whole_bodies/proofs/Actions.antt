@@ -1,5 +1,5 @@
 -- Nothing is left out of the actions of a sound actor.
-use Rattle.std.proofs.Common.{◌≡◌, ℕ, ◌≤◌, List, [], ◌∷◌, map, refl, sym, ap, ◌∙◌, subst, Option, None, Some}
+use Rattle.std.proofs.Common.{◌≡◌, ℕ, ◌≤◌, List, [], ◌∷◌, map, refl, ap, ◌∙◌, subst, Option, None, Some}
 use Rattle.std.specs.Prelude.{option_map, slice_get}
 use Rattle.std.proofs.lemmas.Option.{slice_get-map}
 use Rattle.rvc_base.specs.declared.scalar.Scalar.{Scalar}
@@ -10,16 +10,16 @@ use Rattle.cal_ast.specs.View.{expr_tree}
 use Rattle.cal_model.specs.declared.bound.Bound.{Bound}
 use Rattle.cal_model.specs.declared.bound.BoundAction.{BoundAction}
 use Rattle.cal_model.specs.declared.bound.BoundOutput.{BoundOutput}
-use Rattle.cal_model.specs.Value.{Kind, BoolKind, Many, Single, kind_of_scalar}
+use Rattle.cal_model.specs.Value.{Kind, BoolKind, Many, kind_of_scalar}
 use Rattle.cal_model.specs.Actor.{Action, Actor}
-use Rattle.cal_model.specs.Kinding.{Judged, Fine, Names, kind, kinds}
+use Rattle.cal_model.specs.Kinding.{Fine, Names, kind, kinds}
 use Rattle.cal_model.specs.Rates.{need, taken_on}
 use Rattle.cal_model.specs.Selection.{kind_of_port}
 use Rattle.cal_model.specs.Sound.{AreAll, Each, IsAction, IsOutput, IsPlain, IsSound, kind_of_tokens, max_rate, names_of, with_locals, with_patterns}
-use Rattle.cal_model.specs.View.{action_view, actor_of, local_view, output_view}
+use Rattle.cal_model.specs.View.{action_view, actor_of, output_view}
 use Rattle.cal_model.proofs.KeptByFirings.{action-at}
 use Rattle.expr_lower.specs.Callees.{Function}
-use Rattle.expr_lower.specs.Growing.{left_out_fill, left_out_fills, left_out_in, one, ◌or_else◌}
+use Rattle.expr_lower.specs.Growing.{left_out_fills, left_out_in, one}
 use Rattle.expr_lower.specs.Names.{Name}
 use Rattle.stmt_lower.specs.Procedures.{Routines}
 use Rattle.stmt_lower.specs.StmtGrowing.{left_out_all}

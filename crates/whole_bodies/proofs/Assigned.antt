@@ -1,13 +1,13 @@
 -- Nothing is left out of an assignment.
-use Rattle.std.proofs.Common.{◌≡◌, ℕ, suc, ◌+◌, ◌*◌, List, [], ◌∷◌, Bool, true, false, refl, sym, ap, ◌∙◌, subst, Option, None, Some, arith}
-use Rattle.std.specs.Prelude.{◌^◌, ◌&&◌, nat_eq, nat_lt, if◌then◌else◌}
+use Rattle.std.proofs.Common.{◌≡◌, ℕ, List, [], ◌∷◌, Bool, true, false, refl, sym, ap, ◌∙◌, subst, Option, None, Some, arith}
+use Rattle.std.specs.Prelude.{nat_eq, if◌then◌else◌}
 use Rattle.std.proofs.lemmas.Bool.Decides.{nat_tests}
 use Rattle.rvc_base.specs.declared.scalar.Scalar.{Scalar}
 use Rattle.rvc_base.specs.declared.scalar.Scalar.TheVariants as scalar
 use Rattle.cal_ast.specs.Tree as tree
 use Rattle.cal_ast.specs.Tree.{Tree}
-use Rattle.cal_model.specs.Value.{Kind, NumKind, BoolKind, ListKind, Shape, Single, Many, IsType, kind_of_scalar, kind_of_type, scalars_of_type}
-use Rattle.cal_model.specs.Kinding.{Judged, Fine, Broken, Names, and_so, kind, kinds}
+use Rattle.cal_model.specs.Value.{Kind, NumKind, BoolKind, ListKind, Shape, Single, Many, IsType, kind_of_scalar, kind_of_type}
+use Rattle.cal_model.specs.Kinding.{Fine, Names, and_so, kind, kinds}
 use Rattle.cal_model.specs.Sound.{AreAll, kind_inside}
 use Rattle.cal_model.proofs.KindValues.{both, fine-is, split}
 use Rattle.expr_lower.specs.declared.names.ItemList.{ItemList}
@@ -17,7 +17,7 @@ use Rattle.expr_lower.specs.Callees.{Function}
 use Rattle.expr_lower.specs.Growing.{left_out_fill, left_out_fills, left_out_in, left_out_many, left_out_whole as left_out_named_whole, one, ◌or_else◌}
 use Rattle.expr_lower.specs.Listed.{items_in, items_of, list_named}
 use Rattle.expr_lower.specs.Names.{Name, local_of, named}
-use Rattle.expr_lower.specs.Parted.{Part, alike, number_of, part_at, part_named, sized, whole_in, whole_of}
+use Rattle.expr_lower.specs.Parted.{Part, alike, number_of, part_at, sized, whole_in, whole_of}
 use Rattle.stmt_lower.specs.StmtGrowing.{left_out_chosen, left_out_copy, left_out_deep, left_out_each, left_out_filled, left_out_list, left_out_part, left_out_put, left_out_set, left_out_whole}
 use Rattle.stmt_lower.specs.Targets.{cell_named, cell_of, cells_named, cells_of, part_in}
 use Rattle.whole_forms.specs.Lowerable.{IsLike}

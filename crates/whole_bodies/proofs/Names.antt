@@ -1,14 +1,13 @@
 -- Names that the code sees, and further ones in front of them.
-use Rattle.std.proofs.Common.{◌≡◌, ℕ, suc, ◌+◌, List, [], ◌∷◌, ◌++◌, map, Bool, true, false, refl, sym, ap, ◌∙◌, subst, Option, None, Some}
+use Rattle.std.proofs.Common.{◌≡◌, ℕ, ◌+◌, List, [], ◌∷◌, map, Bool, true, false, refl, sym, ap, ◌∙◌, subst, None, Some}
 use Rattle.std.specs.Prelude.{if◌then◌else◌}
 use Rattle.std.specs.Str.{bytes_eq}
 use Rattle.rvc_base.specs.declared.scalar.Scalar.{Scalar}
 use Rattle.rvc_base.specs.declared.scalar.Scalar.TheVariants as scalar
-use Rattle.cal_ast.specs.Tree.{Tree}
 use Rattle.cal_model.specs.Value.{Shape, Single, IsOf, IsType, kind_of_type, scalars_of_type}
 use Rattle.cal_model.specs.Actor.{Fun, Held, Local}
 use Rattle.cal_model.specs.Kinding.{Known, Names, known_as, meant_by, with_known}
-use Rattle.cal_model.specs.Sound.{AreLocals, Each, IsFormal, StartHasKind, known_local, known_of, with_locals}
+use Rattle.cal_model.specs.Sound.{AreLocals, Each, IsFormal, known_local, known_of, with_locals}
 use Rattle.expr_lower.specs.declared.names.Seat.{Seat}
 use Rattle.expr_lower.specs.declared.names.Seat.TheVariants.{Cell}
 use Rattle.expr_lower.specs.Listed.{single_of}

@@ -1,17 +1,16 @@
 -- The names that an action sees.
-use Rattle.std.proofs.Common.{◌≡◌, ℕ, suc, ◌+◌, ◌*◌, ◌<◌, ◌≤◌, List, [], ◌∷◌, ◌++◌, map, length, false, true, refl, sym, ap, ◌∙◌, subst, append_assoc, Option, None, Some, arith}
+use Rattle.std.proofs.Common.{◌≡◌, ℕ, suc, ◌+◌, ◌*◌, ◌<◌, ◌≤◌, List, [], ◌∷◌, ◌++◌, length, false, true, refl, sym, subst, append_assoc, Option, None, Some, arith}
 use Rattle.std.proofs.Math.Nat.{mul-le-mul_right}
 use Rattle.rvc_base.specs.declared.scalar.Scalar.{Scalar}
 use Rattle.rvc_base.specs.Storing.{IsSize}
-use Rattle.cal_model.specs.Value.{Shape, Single, Many, IsType, kind_of_type}
+use Rattle.cal_model.specs.Value.{IsType, kind_of_type}
 use Rattle.cal_model.specs.Actor.{Action, Actor, Fun, Pattern}
 use Rattle.cal_model.specs.Kinding.{Known, Names, with_known}
 use Rattle.cal_model.specs.Rates.{parts_times, taken_on}
 use Rattle.cal_model.specs.Selection.{kind_of_port}
 use Rattle.cal_model.specs.Sound.{Each, IsAction, IsPattern, IsRepeat, IsSound, kind_of_tokens, max_rate, names_of, with_pattern, with_patterns}
 use Rattle.cal_model.proofs.ActorStates.{first-sized}
-use Rattle.expr_lower.specs.declared.names.Seat.{Seat}
-use Rattle.expr_lower.specs.declared.names.Seat.TheVariants.{Cell, Tokens}
+use Rattle.expr_lower.specs.declared.names.Seat.TheVariants.{Tokens}
 use Rattle.expr_lower.specs.Names.{Name}
 use Rattle.action_lower.specs.Seats.{pattern_seat, pattern_seats, pattern_seats_from, pattern_shape, seen_seats, var_seats}
 use Rattle.action_lower.proofs.Holding.{size-at}

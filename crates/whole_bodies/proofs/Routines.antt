@@ -1,15 +1,13 @@
 -- Nothing is left out of locals, functions and procedures.
-use Rattle.std.proofs.Common.{◌≡◌, ℕ, List, [], ◌∷◌, map, refl, sym, ap, ◌∙◌, subst, Option, None, Some}
+use Rattle.std.proofs.Common.{◌≡◌, ℕ, List, [], ◌∷◌, map, refl, ap, ◌∙◌, Option, None, Some}
 use Rattle.rvc_base.specs.declared.scalar.Scalar.{Scalar}
-use Rattle.cal_ast.specs.Tree as tree
 use Rattle.cal_ast.specs.Tree.{Tree}
 use Rattle.cal_ast.specs.View.{optional}
 use Rattle.cal_model.specs.Value.{Kind, Shape, Single, Many, IsType, kind_of_scalar, kind_of_type}
 use Rattle.cal_model.specs.Actor.{Fun, Local, Proc}
-use Rattle.cal_model.specs.Kinding.{Judged, Fine, Names, kind, with_known}
-use Rattle.cal_model.specs.Sound.{AreLocals, AreStatements, Each, IsFun, IsPlain, IsProc, IsVarStart, StartHasKind, known_local, with_locals}
+use Rattle.cal_model.specs.Kinding.{Fine, Names, kind, with_known}
+use Rattle.cal_model.specs.Sound.{AreLocals, AreStatements, IsFun, IsPlain, IsProc, IsVarStart, StartHasKind, known_local, with_locals}
 use Rattle.expr_lower.specs.Callees.{Function}
-use Rattle.expr_lower.specs.Growing.{left_out_in, ◌or_else◌}
 use Rattle.expr_lower.specs.Listed.{single_of}
 use Rattle.expr_lower.specs.Names.{Name, local_of}
 use Rattle.expr_lower.specs.Routining.{behind_formals, left_out_body, left_out_formals, left_out_fun, some_formal}
@@ -17,7 +15,6 @@ use Rattle.expr_lower.specs.Starting.{left_out_list_start, left_out_local, left_
 use Rattle.expr_lower.specs.Types.{type_size}
 use Rattle.stmt_lower.specs.Proceeding.{left_out_proc, left_out_proc_body}
 use Rattle.stmt_lower.specs.Procedures.{Routines}
-use Rattle.stmt_lower.specs.StmtGrowing.{left_out_all}
 use Rattle.action_lower.specs.LocalCode.{left_out_locals}
 use Rattle.whole_bodies.specs.Standing.{AreReady, CallsAll, StartsCallAll}
 use Rattle.whole_forms.specs.Lowerable.{CallsRoutines, HasRoutine}

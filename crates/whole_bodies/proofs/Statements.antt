@@ -1,5 +1,5 @@
 -- Nothing is left out of statements.
-use Rattle.std.proofs.Common.{◌≡◌, ℕ, List, [], ◌∷◌, length, Bool, true, refl, sym, ap, ◌∙◌, subst, Option, None, Some, arith}
+use Rattle.std.proofs.Common.{◌≡◌, ℕ, List, ◌∷◌, length, Bool, true, refl, sym, ap, ◌∙◌, subst, Option, None, Some, arith}
 use Rattle.std.specs.Prelude.{nat_eq, if◌then◌else◌}
 use Rattle.std.proofs.lemmas.Bool.Decides.{nat_tests}
 use Rattle.rvc_base.specs.declared.scalar.Scalar.{Scalar}
@@ -7,9 +7,9 @@ use Rattle.rvc_base.specs.declared.scalar.Scalar.TheVariants as scalar
 use Rattle.cal_ast.specs.Places.{begins}
 use Rattle.cal_ast.specs.Tree as tree
 use Rattle.cal_ast.specs.Tree.{Tree}
-use Rattle.cal_model.specs.Value.{Kind, NumKind, BoolKind, Shape, Single, Many, kind_of_scalar, kind_of_type}
+use Rattle.cal_model.specs.Value.{Kind, NumKind, BoolKind, Shape, Single, Many, kind_of_type}
 use Rattle.cal_model.specs.Actor.{Fun, Proc}
-use Rattle.cal_model.specs.Kinding.{Judged, Fine, Known, Names, arguments_fit, counter, counts, kind, kinds, type_judged, with_known}
+use Rattle.cal_model.specs.Kinding.{Judged, Fine, Known, Names, arguments_fit, counter, kind, kinds, type_judged, with_known}
 use Rattle.cal_model.specs.Sound.{AreStatements, AreVars, IsPlain, IsStatement, IsVarStart, MayBeAssigned, kind_inside, kind_of_judged, with_vars_known}
 use Rattle.expr_lower.specs.declared.names.Seat.{Seat}
 use Rattle.expr_lower.specs.declared.names.Seat.TheVariants.{Cell}

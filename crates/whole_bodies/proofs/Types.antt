@@ -1,12 +1,12 @@
 -- Sizes of types that are allowed, and kinds of types.
-use Rattle.std.proofs.Common.{◌≡◌, ℕ, suc, ◌+◌, ◌*◌, ◌<◌, ◌≤◌, List, [], ◌∷◌, Bool, true, false, refl, sym, ap, ◌∙◌, subst, Option, None, Some, arith}
-use Rattle.std.specs.Prelude.{◌^◌, ◌&&◌, nat_le, nat_lt, nat_eq, if◌then◌else◌}
+use Rattle.std.proofs.Common.{◌≡◌, ℕ, ◌*◌, ◌≤◌, Bool, true, refl, ap, ◌∙◌, Option, None, Some, arith}
+use Rattle.std.specs.Prelude.{◌&&◌, nat_le, if◌then◌else◌}
 use Rattle.std.proofs.lemmas.Bool.Decides.{nat_tests}
 use Rattle.rvc_base.specs.declared.scalar.Scalar.{Scalar}
 use Rattle.rvc_base.specs.declared.scalar.Scalar.TheVariants as scalar
 use Rattle.rvc_base.specs.Storing.{IsSize}
 use Rattle.rvc_base.specs.Width.{max_size}
-use Rattle.cal_model.specs.Value.{Kind, NumKind, BoolKind, ListKind, Shape, Single, Many, IsType, kind_of_scalar, kind_of_type, max_list_scalars, scalars_of_type}
+use Rattle.cal_model.specs.Value.{Shape, Single, Many, IsType, kind_of_scalar, max_list_scalars, scalars_of_type}
 use Rattle.expr_lower.specs.Growing.{one, ◌or_else◌}
 use Rattle.expr_lower.specs.Types.{is_size, numbers_of_items, type_size}
 use Rattle.whole_forms.specs.Lowerable.{IsLike}

@@ -1,15 +1,14 @@
 -- What is known of expressions.
-use Rattle.std.proofs.Common.{◌≡◌, ℕ, List, length, true, refl, sym, ap, ◌∙◌, subst, Option, None, Some}
+use Rattle.std.proofs.Common.{◌≡◌, ℕ, List, length, true, refl, None}
 use Rattle.rvc_base.specs.declared.scalar.Scalar.{Scalar}
 use Rattle.rvc_base.specs.declared.scalar.Scalar.TheVariants as scalar
-use Rattle.cal_ast.specs.Tree as tree
 use Rattle.cal_ast.specs.Tree.{Tree}
 use Rattle.cal_model.specs.Value.{Kind, NumKind, Shape, Single, Many, kind_of_scalar}
 use Rattle.cal_model.specs.Actor.{Fun, Local}
-use Rattle.cal_model.specs.Kinding.{Judged, Fine, Names, arguments_fit, counts, kind, kinds}
-use Rattle.cal_model.specs.Sound.{AreAll, Each, EachCall, IsFormal, IsPlain}
+use Rattle.cal_model.specs.Kinding.{Fine, Names, arguments_fit, counts, kind, kinds}
+use Rattle.cal_model.specs.Sound.{AreAll, Each, IsFormal, IsPlain}
 use Rattle.expr_lower.specs.Callees.{Function}
-use Rattle.expr_lower.specs.Growing.{left_out_args, left_out_fill, left_out_fills, left_out_in, one}
+use Rattle.expr_lower.specs.Growing.{left_out_args, left_out_fills, left_out_in, one}
 use Rattle.expr_lower.specs.Names.{Name}
 use Rattle.expr_lower.specs.Parted.{number_of}
 use Rattle.stmt_lower.specs.StmtGrowing.{left_out_each}

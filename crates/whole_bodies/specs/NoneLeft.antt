@@ -1,9 +1,9 @@
 -- Nothing is left out of bodies that break no rule.
 -- Trusted: part of what a promise means.
-use Rattle.std.specs.Prelude.{◌≡◌, ℕ, List, None, Some, slice_get}
+use Rattle.std.specs.Prelude.{◌≡◌, ℕ, List, None}
 use Rattle.cal_ast.specs.Tree.{Tree}
 use Rattle.cal_model.specs.declared.bound.Bound.{Bound}
-use Rattle.cal_model.specs.Actor.{Action, Actor, Fun, Proc}
+use Rattle.cal_model.specs.Actor.{Actor, Fun, Proc}
 use Rattle.cal_model.specs.Kinding.{Names}
 use Rattle.cal_model.specs.Sound.{AreStatements, IsFun, IsPlain, IsProc, IsSound}
 use Rattle.cal_model.specs.View.{actor_of}

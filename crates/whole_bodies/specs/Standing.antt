@@ -1,12 +1,11 @@
 -- Names, functions and procedures of which the code has what a body needs.
 -- Trusted: part of what a promise means.
-use Rattle.std.specs.Prelude.{◌≡◌, ℕ, List, length, true, Option, None, Some}
+use Rattle.std.specs.Prelude.{◌≡◌, ℕ, List, length, true, Some}
 use Rattle.cal_ast.specs.Tree.{Tree}
 use Rattle.cal_model.specs.Actor.{Fun, Local, Proc}
 use Rattle.cal_model.specs.Kinding.{Known, Names, meant_by}
 use Rattle.cal_model.specs.Sound.{Each, EachCall, IsFormal, StartCalls}
 use Rattle.cal_model.specs.Statement.{proc_named}
-use Rattle.expr_lower.specs.declared.names.Seat.{Seat}
 use Rattle.expr_lower.specs.declared.names.Seat.TheVariants.{Cell}
 use Rattle.expr_lower.specs.Callees.{Function}
 use Rattle.expr_lower.specs.Names.{Name, named}

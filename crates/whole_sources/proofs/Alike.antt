@@ -11,7 +11,7 @@ use Rattle.cal_model.specs.Env.{Env, Var, look_up, variable, with_local}
 use Rattle.cal_model.specs.Expression.{Calls, Given, args_given, elements, eval, eval_all, indexed, prefixed, size_of_value, span, type_meant, type_named}
 use Rattle.cal_model.specs.Sound.{EachCall}
 use Rattle.cal_check.specs.Uses.{OnlyUses}
-use Rattle.whole_sources.proofs.Outcomes.{chosen-same, each-same, range-same, right-same, then-same, turn-same}
+use Rattle.cal_check.proofs.SameCalls.{chosen-same, each-same, range-same, right-same, then-same, turn-same}
 
 -- in an expression or a type variables of these names are used, and functions of those
 abbrev pub InUse : (V Q : List ℕ → Type 0) → Tree → Type 0

@@ -21,25 +21,27 @@ use Rattle.cal_model.specs.Statement.{runs_of}
 use Rattle.cal_model.specs.Value.{Kind}
 use Rattle.cal_model.proofs.ActorStates.{states-are-tested}
 use Rattle.cal_check.specs.Actions.{Around, action_of, or_none, output_judged, outputs_if, outputs_on, patterns_of, with_all_patterns}
-use Rattle.cal_check.specs.Actors.{Conforms, IsSource, Source, actions_of, actor_given, all_funs, all_valued, around_of, declared_vars}
+use Rattle.cal_check.specs.Actors.{Conforms, IsSource, Source, actions_of, actor_given, all_funs, all_valued, around_of}
 use Rattle.cal_check.specs.AsWritten.{ActionsDoTheSame, act_as_is, act_written, action_as_is, done_by, funs_as_are, output_as_is, outputs_as_are, procs_as_are, seen_in_action}
 use Rattle.cal_check.specs.Laws.{AreBare}
 use Rattle.cal_check.specs.Meaning.{HasConstants, HoldsConstants}
 use Rattle.cal_check.specs.Ports.{each_asked, ports_asked}
-use Rattle.cal_check.specs.Sources.{IsSourceFormed, SourcesAreSound, actions_of_source, proc_name, procs_of_source}
+use Rattle.cal_check.specs.Sources.{IsSourceFormed, SourcesAreSound, actions_of_source, procs_of_source}
 use Rattle.cal_check.specs.Variables.{Given, Spot}
 use Rattle.cal_check.specs.Violations.{all_fine, fine}
 use Rattle.cal_check.specs.Written.{behind_vars, written}
+use Rattle.cal_check.proofs.ActionsKept.{patterns-outside}
 use Rattle.cal_check.proofs.Lists.{at-head, in-rest}
+use Rattle.cal_check.proofs.SourceNames.{vars-distinct}
+use Rattle.cal_check.proofs.WrittenUses.{fine-some, output-has, some-parts}
 use Rattle.whole_sources.specs.AsWritten.{IsSameBehaviour, IsSameOrder, actions_as_are, actor_as_is}
 use Rattle.whole_sources.specs.Behaving.{IsStateOf, ShowsTheSame, narrowed_effect}
 use Rattle.whole_sources.specs.Keeping.{Keep, narrowed_state}
 use Rattle.whole_sources.specs.WholeActor.{kept_by, whole_actor, whole_order}
 use Rattle.whole_sources.proofs.Conforming.{all-are-held, functions-are}
-use Rattle.whole_sources.proofs.HeldConstants.{distinct-front, vars-have-constants}
+use Rattle.whole_sources.proofs.HeldConstants.{vars-have-constants}
 use Rattle.whole_sources.proofs.Sources.{source-behaves}
 use Rattle.whole_sources.proofs.WrittenActor.{AreAlike, behave-the-same, state-same}
-use Rattle.whole_sources.proofs.WrittenUses.{fine-some, output-has, some-parts}
 
 -- ---- what an action keeps as it stands
 
@@ -138,10 +140,6 @@ pattern-bare : (k : Kind) (ns : List (List ℕ)) (n : Names) → AreBare n.local
 pattern-bare k [] n h = h
 pattern-bare k (name ∷ ns) n h = pattern-bare k ns (with_known (record { name = name; kind = k; value = None; changes = false }) n) (refl, h)
 
-pattern-outside : (k : Kind) (ns : List (List ℕ)) (n : Names) → (with_pattern k ns n).globals ≡ n.globals
-pattern-outside k [] n = refl
-pattern-outside k (name ∷ ns) n = pattern-outside k ns (with_known (record { name = name; kind = k; value = None; changes = false }) n)
-
 abbrev kind_by : List Port → Pattern → Kind
 kind_by ports q = kind_of_tokens (kind_of_port ports q.port) q.repeat
 
@@ -157,10 +155,6 @@ patterns-named actor u ports (q ∷ qs) n zs h =
 patterns-bare : (ports : List Port) (qs : List Pattern) (n : Names) → AreBare n.locals → AreBare (with_all_patterns ports qs n).locals
 patterns-bare ports [] n h = h
 patterns-bare ports (q ∷ qs) n h = patterns-bare ports qs (with_pattern (kind_by ports q) q.names n) (pattern-bare (kind_by ports q) q.names n h)
-
-patterns-outside : (ports : List Port) (qs : List Pattern) (n : Names) → (with_all_patterns ports qs n).globals ≡ n.globals
-patterns-outside ports [] n = refl
-patterns-outside ports (q ∷ qs) n = patterns-outside ports qs (with_pattern (kind_by ports q) q.names n) ∙ pattern-outside (kind_by ports q) q.names n
 
 -- ---- a source
 
@@ -182,10 +176,7 @@ module _ (same : ActionsDoTheSame) (s : Source) (gs : List Given) (owner : Spot)
 
   -- the names of all variables differ
   held-distinct : AreDistinct (map (λ x. x.name) (all_valued s gs owner).held)
-  held-distinct =
-      let vars : List (List ℕ) = map (λ x. x.name) (declared_vars s) in
-      let names : List (List ℕ) = map (λ f. f.name) (all_funs s) in
-      subst AreDistinct (sym (all-are-held s gs owner c).named) (distinct-front vars names (distinct-front (vars ++ names) (map proc_name (procs_of_source s)) formed.distinct))
+  held-distinct = vars-distinct s (all_valued s gs owner).held (all-are-held s gs owner c).named formed.distinct
 
   -- in each state the constants have their values
   state-has : (x : State) → is_actor_state whole x ≡ true → HasConstants around.names.globals x.vars
@@ -199,7 +190,7 @@ module _ (same : ActionsDoTheSame) (s : Source) (gs : List Given) (owner : Spot)
       record {
         bare = patterns-bare around.ins qs around.names tt;
         named = patterns-named whole u around.ins qs around.names [] refl ∙ ap names_by (append-nil (pattern_vars whole u qs));
-        constants = subst (λ ks. HasConstants ks x.vars) (sym (patterns-outside around.ins qs around.names)) (state-has x h);
+        constants = subst (λ ks. HasConstants ks x.vars) (sym (patterns-outside around.ins qs around.names).0) (state-has x h);
       }
 
   -- an action does what it does as it stands, over these functions

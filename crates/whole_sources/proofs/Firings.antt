@@ -1,5 +1,5 @@
 -- An actor of which only what it uses is kept behaves as with all that is declared.
-use Rattle.std.proofs.Common.{◌≡◌, ℕ, zero, suc, ℤ, Bool, true, false, List, [], ◌∷◌, ◌++◌, map, length, refl, sym, ap, subst, ◌∙◌, Option, None, Some}
+use Rattle.std.proofs.Common.{◌≡◌, ℕ, ℤ, Bool, true, false, List, [], ◌∷◌, ◌++◌, map, length, refl, sym, ap, ◌∙◌, Option, None, Some}
 use Rattle.std.specs.Prelude.{if◌then◌else◌, ◌&&◌, ◌||◌, not, nat_le, option_map, slice_get}
 use Rattle.std.specs.List.{range_with_len}
 use Rattle.std.specs.Str.{bytes_eq}
@@ -20,20 +20,14 @@ use Rattle.cal_model.specs.Selection.{AreFalse, AreTrapping, AreTrue, Guards, Pr
 use Rattle.cal_model.specs.Sound.{Each}
 use Rattle.cal_model.specs.Statement.{exec_all, runs_of}
 use Rattle.cal_model.proofs.KindNames.{same-text}
+use Rattle.cal_check.proofs.Lists.{each-at}
+use Rattle.cal_check.proofs.SameCalls.{then-same}
 use Rattle.whole_sources.specs.Behaving.{ShowsTheSame, IsStateOf, narrowed_behaviour, narrowed_effect, same_order}
 use Rattle.whole_sources.specs.Closed.{ActionWithin, IsClosed, Within}
 use Rattle.whole_sources.specs.Keeping.{DoTheSame, GiveTheSame, Keep, mapped, narrowed, narrowed_actor, narrowed_state, only, only_held}
 use Rattle.whole_sources.proofs.Narrowed.{only-in, only-out, then-kept, then-mapped}
-use Rattle.whole_sources.proofs.Outcomes.{then-same}
 use Rattle.whole_sources.proofs.Routines.{calls-kept, declared-kept, runs-kept}
 use Rattle.whole_sources.proofs.Statements.{all-kept, eval-kept, statements-kept}
-
--- ---- lists
-
-each-at : {A : Type 0} (P : A → Type 0) (xs : List A) (k : ℕ) (x : A) → Each P xs → slice_get xs k ≡ Some x → P x
-each-at P [] k x e h = absurd (let i : None ≡ Some x = h in cc)
-each-at P (y ∷ ys) zero x e h = subst P (let i : y ≡ x = cc in i) e.0
-each-at P (y ∷ ys) (suc k) x e h = each-at P ys k x e.1 h
 
 -- ---- guards and outputs
 

@@ -1,5 +1,5 @@
 -- In each state of an actor that has all variables of its source the constants of the source have their values.
-use Rattle.std.proofs.Common.{◌≡◌, ℕ, ⊎_elim, Bool, true, false, List, [], ◌∷◌, ◌++◌, map, refl, sym, ap, subst, ◌∙◌, Contains, Option, None, Some}
+use Rattle.std.proofs.Common.{◌≡◌, ℕ, Bool, true, false, List, [], ◌∷◌, map, refl, sym, ap, subst, ◌∙◌, Contains, Option, None, Some}
 use Rattle.std.specs.Prelude.{if◌then◌else◌}
 use Rattle.std.specs.Str.{bytes_eq}
 use Rattle.cal_model.specs.Actor.{Held}
@@ -10,18 +10,8 @@ use Rattle.cal_model.specs.Sound.{AreDistinct, Each, known_of}
 use Rattle.cal_model.specs.Value.{Value}
 use Rattle.cal_model.proofs.KindNames.{same-text, text-same}
 use Rattle.cal_check.specs.Meaning.{HasConstants}
-use Rattle.cal_check.proofs.Lists.{at-head, head-or-rest, in-none, in-rest}
-use Rattle.whole_sources.proofs.Conforming.{rest_behind}
-
--- ---- names that differ
-
-in-front : {A : Type 0} (xs ys : List A) (x : A) → Contains xs x → Contains (xs ++ ys) x
-in-front [] ys x c = absurd (in-none x c)
-in-front (z ∷ zs) ys x c = ⊎_elim (λ (e : z ≡ x). at-head x z (zs ++ ys) e) (λ d. in-rest x z (zs ++ ys) (in-front zs ys x d)) (head-or-rest x z zs c)
-
-pub distinct-front : {A : Type 0} (xs ys : List A) → AreDistinct (xs ++ ys) → AreDistinct xs
-distinct-front [] ys d = tt
-distinct-front (x ∷ xs) ys d = ((λ c. d.0 (in-front xs ys x c)), distinct-front xs ys d.1)
+use Rattle.cal_check.proofs.Lists.{at-head, in-rest}
+use Rattle.cal_check.proofs.RestNames.{rest_behind}
 
 -- ---- what is found under a name
 

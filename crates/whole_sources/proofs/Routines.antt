@@ -11,7 +11,7 @@ use Rattle.cal_model.specs.Actor.{Fun, Local, Proc}
 use Rattle.cal_model.specs.Call.{answered, arguments, calls_of, calls_within, declared, first_value, fun_named, on_call}
 use Rattle.cal_model.specs.Sound.{Each, EachCall, FunCallsBelow, FunsNeverReturn, StartCalls}
 use Rattle.cal_model.specs.Statement.{Runs, exec_all, performed, proc_named, runs_of, runs_within}
-use Rattle.cal_model.proofs.KindNames.{same-text}
+use Rattle.cal_check.proofs.FittingValues.{named-one}
 use Rattle.whole_sources.specs.Closed.{FunWithin, FunsWithin, ProcWithin, StartWithin, Within}
 use Rattle.whole_sources.specs.Keeping.{DoTheSame, GiveTheSame, IsKept, Keep, mapped, narrowed, only, only_funs}
 use Rattle.whole_sources.proofs.Alike.{World, called-in, eval-alike}
@@ -92,19 +92,6 @@ module _ (keep : Keep) where
       go true h = omega arith
       go false h = omega arith
 
--- the function of a name is one of them, and has that name
-record IsNamed (P : Fun → Type 0) (name : List ℕ) (f : Fun) : Type 0 where
-  is : P f
-  named : f.name ≡ name
-
-named-one : (P : Fun → Type 0) (name : List ℕ) (fs : List Fun) (f : Fun) → Each P fs → fun_named name fs ≡ Some f → IsNamed P name f
-named-one P name [] f e h = absurd (let i : None ≡ Some f = h in cc)
-named-one P name (g ∷ gs) f e h = go (bytes_eq g.name name) refl h (λ i. named-one P name gs f e.1 i)
-  where
-    go : (b : Bool) → bytes_eq g.name name ≡ b → (if b then Some g else fun_named name gs) ≡ Some f → (fun_named name gs ≡ Some f → IsNamed P name f) → IsNamed P name f
-    go true s i rest = let same : g ≡ f = cc in subst (λ x. IsNamed P name x) same (record { is = e.0; named = same-text g.name name s })
-    go false s i rest = rest i
-
 -- ---- calls of functions
 
 -- what a function gives, if there is one
@@ -119,13 +106,13 @@ module _ (keep : Keep) (funs : List Fun) (closed : FunsWithin keep funs) where
       ap (answer_of (calls_within n (only_funs keep funs)) (only keep globals) args left) (funs-kept keep name funs k)
       ∙ go (fun_named name funs) (λ f e. named-one (λ f. IsKept keep f.name → FunWithin keep f) name funs f closed e) (λ other gs vs j i. within-kept n other gs vs j i)
     where
-      go : (o : Option Fun) → ((f : Fun) → o ≡ Some f → IsNamed (λ f. IsKept keep f.name → FunWithin keep f) name f)
+      go : (o : Option Fun) → ((f : Fun) → o ≡ Some f → (IsKept keep f.name → FunWithin keep f) × (f.name ≡ name))
           → GiveTheSame keep (calls_within n (only_funs keep funs)) (calls_within n funs)
           → answer_of (calls_within n (only_funs keep funs)) (only keep globals) args left o ≡ answer_of (calls_within n funs) globals args left o
       go None h fewer = refl
       go (Some f) h fewer =
           answered-kept keep (calls_within n (only_funs keep funs)) (calls_within n funs) fewer f globals args left
-          ((h f refl).is (ap keep (h f refl).named ∙ k))
+          ((h f refl).0 (ap keep (h f refl).1 ∙ k))
 
 -- ---- more calls that may be open change nothing
 
@@ -192,15 +179,15 @@ module _ (rank : List ℕ → ℕ) (funs : List Fun) (below : Each (FunCallsBelo
   enough (suc n) (suc m) name args left l k =
       go (fun_named name funs) (λ f e. named-one (FunCallsBelow rank) name funs f below e) (λ other vs j p q. enough n m other vs j p q)
     where
-      go : (o : Option Fun) → ((f : Fun) → o ≡ Some f → IsNamed (FunCallsBelow rank) name f)
+      go : (o : Option Fun) → ((f : Fun) → o ≡ Some f → FunCallsBelow rank f × (f.name ≡ name))
           → ((other : List ℕ) (vs : Values) (j : ℕ) → rank other < n → rank other < m → calls_within n funs globals other vs j ≡ calls_within m funs globals other vs j)
           → answer_of (calls_within n funs) globals args left o ≡ answer_of (calls_within m funs) globals args left o
       go None h less = refl
       go (Some f) h less =
           let is = h f refl in
-          let lower : rank f.name ≡ rank name = ap rank is.named in
+          let lower : rank f.name ≡ rank name = ap rank is.1 in
           answered-open (λ other. rank other < rank f.name) (λ other. ⊥) (calls_within n funs) (calls_within m funs) globals
-          (λ other i vs j. less other vs j (omega arith) (omega arith)) f args left is.is.locals is.is.body
+          (λ other i vs j. less other vs j (omega arith) (omega arith)) f args left is.0.locals is.0.body
 
 -- functions that never return to themselves, with as many calls open as there are or more
 pub more-open : (funs : List Fun) (globals : List Var) (n : ℕ) (name : List ℕ) (args : Values) (left : ℕ) → FunsNeverReturn funs → length funs ≤ n
@@ -212,8 +199,8 @@ more-open funs globals n name args left ends l = go (fun_named name funs) refl
         nothing-named ends.rank funs ends.calls globals (length funs) name args left e ∙ sym (nothing-named ends.rank funs ends.calls globals n name args left e)
     go (Some f) e =
         let is = named-one (λ f. ends.rank f.name < length funs) name funs f ends.in_range e in
-        let low : ends.rank f.name < length funs = is.is in
-        let same : ends.rank f.name ≡ ends.rank name = ap ends.rank is.named in
+        let low : ends.rank f.name < length funs = is.0 in
+        let same : ends.rank f.name ≡ ends.rank name = ap ends.rank is.1 in
         enough ends.rank funs ends.calls globals (length funs) n name args left (omega arith) (omega arith)
 
 -- ---- what functions give and procedures do

@@ -12,57 +12,25 @@ use Rattle.cal_model.specs.Firing.{behaviour}
 use Rattle.cal_model.proofs.KindValues.{fine-is, not-fine, split}
 use Rattle.rvc_base.specs.Rules.{unknown_name}
 use Rattle.cal_check.specs.Actions.{Around, action_of, or_none, outputs_fine, patterns_of, with_all_patterns}
-use Rattle.cal_check.specs.Actors.{Conforms, IsSource, Source, actions_in, actions_of, actor_given, all_funs, around_of, funs_in, funs_of, kept_funs, kept_vars, members_of, procs_in, procs_of}
+use Rattle.cal_check.specs.Actors.{Conforms, IsSource, Source, actions_in, actions_of, actor_given, all_funs, around_of, funs_of, kept_funs, kept_vars, members_of, procs_of}
 use Rattle.cal_check.specs.Routines.{FunDecl, Head, formals_judged, fun_if, fun_judged, head_judged, locals_of, proc_judged, proc_of}
 use Rattle.cal_check.specs.Statements.{names_behind}
 use Rattle.cal_check.specs.Sources.{IsSourceFormed, SourcesAreSound, procs_of_source}
-use Rattle.cal_check.specs.Uses.{OnlyUses}
 use Rattle.cal_check.specs.Variables.{Given, Spot}
 use Rattle.cal_check.specs.Violations.{all_fine, fine}
 use Rattle.cal_check.specs.Written.{behind_vars}
-use Rattle.cal_check.proofs.Lists.{each-append, each-map}
+use Rattle.cal_check.proofs.SettledFuns.{fun-name}
+use Rattle.cal_check.proofs.SoundSource.{actions-use, funs-use, members-use, procs-use}
+use Rattle.cal_check.proofs.WrittenUses.{EachStart, OfStart, body-uses, fine-some, guards-use, locals-use, outputs-use, some-parts, statement-uses, written-uses}
 use Rattle.whole_sources.specs.Behaving.{IsStateOf, ShowsTheSame}
 use Rattle.whole_sources.specs.Closed.{ActionWithin, FunWithin, FunsWithin, IsClosed, ProcWithin, StartWithin, Within}
 use Rattle.whole_sources.specs.Keeping.{IsKept, Keep, narrowed_actor, only_funs, only_held}
 use Rattle.whole_sources.specs.WholeActor.{kept_by, whole_actor, whole_order}
 use Rattle.whole_sources.proofs.Firings.{shows-the-same}
 use Rattle.whole_sources.proofs.Routines.{StartIn}
-use Rattle.whole_sources.proofs.UsedNames.{actor-uses, outers-use}
-use Rattle.whole_sources.proofs.WrittenUses.{EachStart, OfStart, body-uses, fine-some, guards-use, locals-use, outputs-use, some-parts, statement-uses, written-uses}
-
--- ---- parts of the actor's tree
-
-module _ (P : List ℕ → Type 0) where
-  members-of : (t : Tree) → OnlyUses P t → OnlyUses P (members_of t)
-  members-of (tree.actor x params ins outs members at) u = u.3
-  members-of other u = tt
-
-  own-funs : (file : ℕ) (members : Tree) → OnlyUses P members → Each (λ f. OnlyUses P f.decl) (funs_in file members)
-  own-funs file (tree.cons (tree.function (tree.ident name place) formals result vars body at) ms) u = (u.0, own-funs file ms u.1)
-  own-funs file (tree.cons m ms) u = own-funs file ms u.1
-  own-funs file other u = tt
-
-  procs-use : (members : Tree) → OnlyUses P members → Each (OnlyUses P) (procs_in members)
-  procs-use (tree.cons (tree.procedure name formals vars body at) ms) u = (u.0, procs-use ms u.1)
-  procs-use (tree.cons m ms) u = procs-use ms u.1
-  procs-use other u = tt
-
-  actions-use : (members : Tree) → OnlyUses P members → Each (OnlyUses P) (actions_in members)
-  actions-use (tree.cons (tree.action tagged initialize ins outs guards vars body at) ms) u = (u.0, actions-use ms u.1)
-  actions-use (tree.cons m ms) u = actions-use ms u.1
-  actions-use other u = tt
-
-members-use : (s : Source) → Within (kept_by s) (members_of s.actor)
-members-use s = members-of (IsKept (kept_by s)) s.actor (actor-uses s)
 
 abbrev UsesIfKept : Source → FunDecl → Type 0
 UsesIfKept s f = IsKept (kept_by s) f.name → Within (kept_by s) f.decl
-
-funs-use : (s : Source) → Each (UsesIfKept s) (all_funs s)
-funs-use s =
-    each-append (UsesIfKept s) s.funs (funs_in s.file (members_of s.actor)) (outers-use s)
-    (each-map (λ f. Within (kept_by s) f.decl) (UsesIfKept s) (funs_in s.file (members_of s.actor)) (λ f u k. u)
-    (own-funs (IsKept (kept_by s)) s.file (members_of s.actor) (members-use s)))
 
 -- ---- what is written out
 
@@ -87,16 +55,6 @@ fun-within keep full (tree.function name formals result vars body at) names g u 
     let head = split (head_judged (tree.function name formals result vars body at) names) (λ head. Fine (fun_if (names_behind vars (with_locals head.formals names)) full head vars body names)) g e in
     subst (λ x. FunWithin keep x) (fine-is _ g head.2) (fun-if-within keep (names_behind vars (with_locals head.0.formals names)) full head.0 vars body names u.2 u.3)
 fun-within keep full other names g u e = absurd (not-fine unknown_name 0 g e)
-
-if-name : (j : Judged Names) (full : List ℕ) (head : Head) (vars body : Tree) (names : Names) → (fun_if j full head vars body names).name ≡ full
-if-name (Fine inner) full head vars body names = refl
-if-name (Broken rule at) full head vars body names = refl
-
-fun-name : (full : List ℕ) (decl : Tree) (names : Names) (g : Fun) → fun_judged full decl names ≡ Fine g → g.name ≡ full
-fun-name full (tree.function name formals result vars body at) names g e =
-    let head = split (head_judged (tree.function name formals result vars body at) names) (λ head. Fine (fun_if (names_behind vars (with_locals head.formals names)) full head vars body names)) g e in
-    sym (ap (λ x. x.name) (fine-is _ g head.2)) ∙ if-name (names_behind vars (with_locals head.0.formals names)) full head.0 vars body names
-fun-name full other names g e = absurd (not-fine unknown_name 0 g e)
 
 proc-within : (keep : Keep) (p : Tree) (names : Names) (q : Proc) → Within keep p → proc_judged p names ≡ Fine q → ProcWithin keep q
 proc-within keep (tree.procedure (tree.ident name place) formals vars body at) names q u e =

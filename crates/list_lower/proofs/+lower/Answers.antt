@@ -27,7 +27,7 @@ use Rattle.expr_lower.specs.Growing.{IsFault, left_out_in}
 use Rattle.expr_lower.specs.Parted.{number_of, sized}
 use Rattle.list_lower.specs.declared.lists.Target.{Target}
 use Rattle.list_lower.specs.CounterView.{counter_view, gens_of}
-use Rattle.list_lower.specs.FillWords.{BeginsAt, left_out_elements, left_out_some}
+use Rattle.list_lower.specs.FillWords.{BeginsAt, left_out_elements}
 use Rattle.list_lower.specs.Reserving.{HasMore}
 use Rattle.list_lower.specs.Filling.{AreFills, IsFill, in_parens, one_cell}
 use Rattle.expr_lower.specs.Generators.{how_many}

@@ -1,4 +1,4 @@
-use Rattle.std.proofs.Common.{rules, ◌≡◌, ◌∙◌, ap, length}
+use Rattle.std.proofs.Common.{◌∙◌, ap, length}
 use Rattle.action_machine.proofs.Zeros.{made-for}
 use Rattle.action_machine.proofs.making.cells.Goals as goal
 

@@ -4,7 +4,6 @@ use Rattle.expr_lower.specs.Callees.{functions_view}
 use Rattle.stmt_lower.specs.Procedures.{routines_of}
 use Rattle.actor_lower.specs.Coded.{AddsBodies, AnswersFrom, IsMore}
 use Rattle.actor_lower.specs.Drafted.{IsServed}
-use Rattle.actor_lower.specs.ClearedBodies.{ClearedFiring, ClearedGuards}
 use Rattle.action_lower.specs.Seats.{state_cells}
 use Rattle.actor_lower.proofs.ClearedMade.{firing-lower, guards-from, guards-later}
 use Rattle.actor_lower.proofs.Extending.{answers-from, answers-more, more-again, served-more}

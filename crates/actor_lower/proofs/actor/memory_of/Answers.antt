@@ -1,4 +1,4 @@
-use Rattle.std.proofs.Common.{◌≡◌, subst}
+use Rattle.std.proofs.Common.{subst}
 use Rattle.actor_lower.specs.Faults.{IsActorFault}
 use Rattle.actor_lower.proofs.WholeActors.{no-part}
 use Rattle.actor_lower.proofs.actor.memory_of.Goals as goal

@@ -1,16 +1,15 @@
-use Rattle.std.proofs.Common.{◌≡◌, ◌∙◌, Bool, ap, arith, length, refl, subst, sym, true}
+use Rattle.std.proofs.Common.{◌≡◌, ◌∙◌, Bool, ap, arith, refl, subst, sym}
 use Rattle.std.proofs.lemmas.List.{length-map}
 use Rattle.cal_model.specs.View.{action_view, actor_of, port_view}
 use Rattle.expr_lower.specs.Callees.{functions_view}
 use Rattle.stmt_lower.specs.Procedures.{routines_of}
 use Rattle.lowered_actor.specs.declared.parts.Parts.{Parts}
 use Rattle.lowered_actor.specs.Actor.{actor_of as parts_view}
-use Rattle.lowered_actor.specs.Facts.{FitTogether}
 use Rattle.actor_lower.specs.ClearedBodies.{ClearsActions}
 use Rattle.actor_lower.specs.Coded.{AreBodiesOf, AreCodedActions, all_entries}
-use Rattle.actor_lower.specs.Faults.{IsActorFault, IsWhole}
+use Rattle.actor_lower.specs.Faults.{IsActorFault}
 use Rattle.actor_lower.proofs.AllowedEntries.{made-all}
-use Rattle.actor_lower.proofs.Chosen.{if-ok, is-whole, parts-why, served-same, whole-why, why-err}
+use Rattle.actor_lower.proofs.Chosen.{is-whole, parts-why, served-same, whole-why, why-err}
 use Rattle.actor_lower.proofs.ClearedMade.{routine-bodies, routines-later}
 use Rattle.actor_lower.proofs.ClearedStand.{all-stand}
 use Rattle.actor_lower.proofs.Rowed.{bodies-of}

@@ -157,7 +157,7 @@ named-returns-in_err-name-clause-told t c =
     (named_led c.args.room c.args.tokens.now.now c.in_err-name.field-0.0 c.leading_name.new.tokens.now c.in_err-name.ensures)
 
 pub named-returns-then-not-is_word-clause-told : goal.named-returns-then-not-is_word-clause-told
-named-returns-then-not-is_word-clause-told t c = named_alone c.args.room (string_bytes c.in_ok-name.name.text) c.in_ok-name.name.at c.args.tokens.now.now c.leading_name.new.tokens.now c.in_ok-name.ensures.0 c.in_ok-name.ensures.1 (sym c.is_word.ensures ∙ c.if-not-is_word.true) ∙ ap (λ t. Gave t (plain_tokens c.leading_name.new.tokens.now)) (sym c.variable.ensures.is)
+named-returns-then-not-is_word-clause-told t c = named_alone c.args.room (string_bytes c.in_ok-name.name.text) c.in_ok-name.name.at c.args.tokens.now.now c.leading_name.new.tokens.now c.in_ok-name.ensures.0 c.in_ok-name.ensures.1 (sym c.is_word.ensures ∙ c.if-not-is_word.true) ∙ ap (λ t. Gave t (plain_tokens c.leading_name.new.tokens.now)) (sym c.in_ok-found.ensures.is)
 
 pub named-returns-in_err-args-clause-told : goal.named-returns-in_err-args-clause-told
 named-returns-in_err-args-clause-told t c =
@@ -331,7 +331,7 @@ generator-returns-in_err-to-clause-told t c =
     (generator_to c.args.room c.in_ok-at.at c.args.tokens.now.now c.expect.new.tokens.now c.in_ok-at.ensures (tall_type c.in_ok-shape.shape) c.tall_type.new.tokens.now c.in_ok-shape.ensures.told (string_bytes c.in_ok-name.name.text) c.in_ok-name.name.at c.name.new.tokens.now c.in_ok-name.ensures c.in_ok-expect.field-0 c.expect-2.new.tokens.now c.in_ok-expect.ensures (tall_tree c.in_ok-from.from) c.level_expr.new.tokens.now c.in_ok-from.ensures.told c.in_ok-expect-2.field-0 c.expect-3.new.tokens.now c.in_ok-expect-2.ensures c.in_err-to.field-0.0 c.level_expr-2.new.tokens.now c.in_err-to.ensures.told)
 
 pub generator-returns-clause-told : goal.generator-returns-clause-told
-generator-returns-clause-told t c = generator_ends c.args.room c.in_ok-at.at c.args.tokens.now.now c.expect.new.tokens.now c.in_ok-at.ensures (tall_type c.in_ok-shape.shape) c.tall_type.new.tokens.now c.in_ok-shape.ensures.told (string_bytes c.in_ok-name.name.text) c.in_ok-name.name.at c.name.new.tokens.now c.in_ok-name.ensures c.in_ok-expect.field-0 c.expect-2.new.tokens.now c.in_ok-expect.ensures (tall_tree c.in_ok-from.from) c.level_expr.new.tokens.now c.in_ok-from.ensures.told c.in_ok-expect-2.field-0 c.expect-3.new.tokens.now c.in_ok-expect-2.ensures (tall_tree c.in_ok-to.to) (tall_gen c.generated.result) c.level_expr-2.new.tokens.now c.in_ok-to.ensures.told c.generated.ensures.is
+generator-returns-clause-told t c = generator_ends c.args.room c.in_ok-at.at c.args.tokens.now.now c.expect.new.tokens.now c.in_ok-at.ensures (tall_type c.in_ok-shape.shape) c.tall_type.new.tokens.now c.in_ok-shape.ensures.told (string_bytes c.in_ok-name.name.text) c.in_ok-name.name.at c.name.new.tokens.now c.in_ok-name.ensures c.in_ok-expect.field-0 c.expect-2.new.tokens.now c.in_ok-expect.ensures (tall_tree c.in_ok-from.from) c.level_expr.new.tokens.now c.in_ok-from.ensures.told c.in_ok-expect-2.field-0 c.expect-3.new.tokens.now c.in_ok-expect-2.ensures (tall_tree c.in_ok-to.to) (tall_gen c.in_ok-found.found) c.level_expr-2.new.tokens.now c.in_ok-to.ensures.told c.in_ok-found.ensures.is
 
 pub tall_type-returns-then-not-is_name-clause-told : goal.tall_type-returns-then-not-is_name-clause-told
 tall_type-returns-then-not-is_name-clause-told t c = type_none c.args.room c.args.tokens.now.now (sym c.is_name.ensures ∙ c.if-not-is_name.true)
@@ -363,7 +363,7 @@ type_arg-returns-in_err-shape-clause-told t c =
     (arg_shape c.args.room (string_bytes c.in_ok-name.name.text) c.in_ok-name.name.at c.args.tokens.now.now c.name.new.tokens.now c.in_ok-name.ensures c.take_word.result c.take_word.new.tokens.now c.take_word.ensures c.in_err-shape.field-0.0 c.tall_type.new.tokens.now c.in_err-shape.ensures.told)
 
 pub type_arg-returns-then-is_word-clause-told : goal.type_arg-returns-then-is_word-clause-told
-type_arg-returns-then-is_word-clause-told t c = arg_shaped c.args.room (string_bytes c.in_ok-name.name.text) c.in_ok-name.name.at c.args.tokens.now.now c.name.new.tokens.now c.in_ok-name.ensures c.take_word.result c.take_word.new.tokens.now c.take_word.ensures (tall_type c.in_ok-shape.shape) (tall_type_arg c.shape_arg.result) c.tall_type.new.tokens.now c.in_ok-shape.ensures.told c.shape_arg.ensures.is
+type_arg-returns-then-is_word-clause-told t c = arg_shaped c.args.room (string_bytes c.in_ok-name.name.text) c.in_ok-name.name.at c.args.tokens.now.now c.name.new.tokens.now c.in_ok-name.ensures c.take_word.result c.take_word.new.tokens.now c.take_word.ensures (tall_type c.in_ok-shape.shape) (tall_type_arg c.in_ok-found.found) c.tall_type.new.tokens.now c.in_ok-shape.ensures.told c.in_ok-found.ensures.is
 
 pub type_arg-returns-in_err-expect-clause-told : goal.type_arg-returns-in_err-expect-clause-told
 type_arg-returns-in_err-expect-clause-told t c =
@@ -376,4 +376,4 @@ type_arg-returns-in_err-value-clause-told t c =
     (arg_value c.args.room (string_bytes c.in_ok-name.name.text) c.in_ok-name.name.at c.args.tokens.now.now c.name.new.tokens.now c.in_ok-name.ensures c.in_ok-expect.field-0 c.expect.new.tokens.now c.in_ok-expect.ensures c.in_err-value.field-0.0 c.level_expr.new.tokens.now c.in_err-value.ensures.told)
 
 pub type_arg-returns-clause-told : goal.type_arg-returns-clause-told
-type_arg-returns-clause-told t c = arg_valued c.args.room (string_bytes c.in_ok-name.name.text) c.in_ok-name.name.at c.args.tokens.now.now c.name.new.tokens.now c.in_ok-name.ensures c.in_ok-expect.field-0 c.expect.new.tokens.now c.in_ok-expect.ensures (tall_tree c.in_ok-value.value) (tall_type_arg c.value_arg.result) c.level_expr.new.tokens.now c.in_ok-value.ensures.told c.value_arg.ensures.is
+type_arg-returns-clause-told t c = arg_valued c.args.room (string_bytes c.in_ok-name.name.text) c.in_ok-name.name.at c.args.tokens.now.now c.name.new.tokens.now c.in_ok-name.ensures c.in_ok-expect.field-0 c.expect.new.tokens.now c.in_ok-expect.ensures (tall_tree c.in_ok-value.value) (tall_type_arg c.in_ok-found-2.found) c.level_expr.new.tokens.now c.in_ok-value.ensures.told c.in_ok-found-2.ensures.is

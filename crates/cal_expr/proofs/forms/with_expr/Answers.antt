@@ -5,5 +5,5 @@ use Rattle.cal_expr.proofs.forms.with_expr.Goals as goal
 
 pub invariant_of-result : goal.invariant_of-result
 invariant_of-result c = record {
-  is_high = c.max.ensures ∙ pushed_high expr_tree c.args.found.exprs.items c.args.next.expr c.push.new.self.items c.args.found.high c.args.next.high c.in_ok-push.ensures.items c.args.found.is_high c.args.next.is_high;
+  is_high = c.max.ensures ∙ pushed_high expr_tree c.args.found.exprs.items c.args.next.expr.value c.in_ok-exprs.exprs.items c.args.found.high c.args.next.high c.in_ok-exprs.ensures c.args.found.is_high c.args.next.is_high;
 }

@@ -5,5 +5,5 @@ use Rattle.cal_expr.proofs.types.with_type_arg.Goals as goal
 
 pub invariant_of-result : goal.invariant_of-result
 invariant_of-result c = record {
-  is_high = c.max.ensures ∙ pushed_high type_arg_tree c.args.found.args.items c.args.next.arg c.push.new.self.items c.args.found.high c.args.next.high c.in_ok-push.ensures.items c.args.found.is_high c.args.next.is_high;
+  is_high = c.max.ensures ∙ pushed_high type_arg_tree c.args.found.args.items c.args.next.arg.value c.in_ok-args.args.items c.args.found.high c.args.next.high c.in_ok-args.ensures c.args.found.is_high c.args.next.is_high;
 }

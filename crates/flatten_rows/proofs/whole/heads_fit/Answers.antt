@@ -1,4 +1,4 @@
-use Rattle.std.proofs.Common.{◌≡◌, true, length, sym, ◌∙◌, arith, rules}
+use Rattle.std.proofs.Common.{◌≡◌, length, sym, ◌∙◌, arith, rules}
 use Rattle.fnl_tree.specs.View.{leaf_of, tree_of}
 use Rattle.fnl_flatten.specs.View.{head_of, heads_of}
 use Rattle.flatten_rows.proofs.Passing as passing

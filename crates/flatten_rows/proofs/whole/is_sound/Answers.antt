@@ -1,4 +1,4 @@
-use Rattle.std.proofs.Common.{◌≡◌, ◌-◌, ◌≤◌, true, length, map, ◌∙◌, arith, rules}
+use Rattle.std.proofs.Common.{◌≡◌, ◌-◌, ◌≤◌, true, length, map, arith, rules}
 use Rattle.fnl_tree.specs.View.{net_of, tree_of}
 use Rattle.flatten_rows.specs.Tested.{are_nets_fine}
 use Rattle.flatten_rows.proofs.Passing as passing

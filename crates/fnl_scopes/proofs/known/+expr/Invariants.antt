@@ -1,6 +1,6 @@
 use Rattle.std.proofs.Common.{◌≡◌, ◌+◌, ◌≤◌, map, length}
 use Rattle.cal_ast.specs.Tree.{listed}
-use Rattle.cal_ast.specs.View.{expr_tree, type_arg_tree, type_tree}
+use Rattle.cal_ast.specs.View.{expr_tree}
 use Rattle.fnl_bind.specs.Scopes.{unknown_in}
 use Rattle.fnl_scopes.proofs.Sizes.{size}
 use Rattle.fnl_scopes.proofs.known.+expr.Given as goal

@@ -1,4 +1,4 @@
-use Rattle.std.proofs.Common.{◌≡◌, ◌++◌, map, length}
+use Rattle.std.proofs.Common.{◌≡◌, map, length}
 use Rattle.fnl_bind.specs.Scopes.{keyed_ports, named_twice}
 use Rattle.fnl_frames.specs.Views.{port_of}
 use Rattle.fnl_scopes.specs.Behind.{twice_behind}

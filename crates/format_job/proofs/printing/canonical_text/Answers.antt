@@ -1,4 +1,4 @@
-use Rattle.std.proofs.Common.{◌≡◌, List, ℕ, [], IfErr, map, subst}
+use Rattle.std.proofs.Common.{◌≡◌, [], IfErr, map, subst}
 use Rattle.cal_ast.specs.Tree.{Tree}
 use Rattle.actor_files.specs.FileText.{IsFile}
 use Rattle.run_report.specs.declared.status.Status.TheVariants.{OutOfMemory}

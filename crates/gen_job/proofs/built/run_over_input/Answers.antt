@@ -1,6 +1,6 @@
 use Rattle.std.proofs.Common.{refl, ap, Some}
 use Rattle.generated_network.specs.Objects.{inputs_of}
-use Rattle.gen_job.specs.Steps.{of_memory, of_run}
+use Rattle.gen_job.specs.Steps.{of_run}
 use Rattle.gen_job.proofs.built.run_over_input.Goals as goal
 
 pub returns-in-Ok : goal.returns-in-Ok

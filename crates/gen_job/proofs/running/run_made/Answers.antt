@@ -1,8 +1,8 @@
-use Rattle.std.proofs.Common.{map, string_bytes, subst}
+use Rattle.std.proofs.Common.{map, subst}
 use Rattle.rvc_words.specs.Words.{port_text}
 use Rattle.actor_files.specs.Views.{file_names}
 use Rattle.rvc_engine.specs.Built.{IsBuilt}
-use Rattle.rvc_engine.specs.NoImage.{IsNoImage}
+use Rattle.rvc_engine.specs.Refused.{IsFault}
 use Rattle.rvc_engine.specs.Top.{top_asked}
 use Rattle.generated_network.specs.Objects.{file_told}
 use Rattle.gen_job.specs.Steps.{CameOf, IsLine}
@@ -22,6 +22,6 @@ pub returns : goal.returns
 returns g c = λ library misses faults feeds.
     unbuilt_answered c.args.job.now c.args.made.job c.args.made.library c.args.made.instances c.requires.made (record { old = c.args.made.library.misses; new = c.build.new.library.misses }) library misses faults feeds
     (g.D.Drains.channels c.args.drains.now) (g.D.Drains.channels c.report_unbuilt.new.drains) c.in-Err.fault c.build.new.names c.report_unbuilt.result
-    (subst (λ top. IsNoImage (file_told c.args.made.library) (top_asked top) (record { old = c.args.made.library.misses; new = c.build.new.library.misses }) (record { old = 0; new = 0 }) (file_names c.build.new.names) c.in-Err.fault)
+    (subst (λ top. IsFault (file_told c.args.made.library) (top_asked top) (record { old = c.args.made.library.misses; new = c.build.new.library.misses }) (record { old = 0; new = 0 }) (file_names c.build.new.names) c.in-Err.fault)
     c.as_str.ensures.value c.in-Err.ensures.fault)
     (subst (λ said. IsLine said c.build.new.names c.args.made.job (g.D.Drains.channels c.args.drains.now) (g.D.Drains.channels c.report_unbuilt.new.drains) c.report_unbuilt.result) c.status_of_build.ensures c.report_unbuilt.ensures)

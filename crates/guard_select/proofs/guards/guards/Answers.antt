@@ -1,4 +1,4 @@
-use Rattle.std.proofs.Common.{◌≡◌, refl, subst, sym}
+use Rattle.std.proofs.Common.{subst, sym}
 use Rattle.code_ir.specs.Code.{Code}
 use Rattle.action_machine.specs.Kept.{IsMadeFor}
 use Rattle.lowered_actor.specs.Actor.{action_of}

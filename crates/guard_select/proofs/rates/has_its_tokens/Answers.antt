@@ -1,5 +1,4 @@
-use Rattle.std.proofs.Common.{◌≡◌, ◌<◌, ◌∙◌, ℕ, length, subst, sym, arith}
-use Rattle.std.specs.Prelude.{slice_index_or}
+use Rattle.std.proofs.Common.{◌≡◌, ◌<◌, ℕ, subst, sym, arith}
 use Rattle.lowered_actor.specs.Actor.{Actor, action_of, number_on}
 use Rattle.lowered_actor.specs.Meaning.{need}
 use Rattle.guard_select.proofs.Takes.{lacks-on, need-is, read-number}

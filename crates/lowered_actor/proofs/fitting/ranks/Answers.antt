@@ -1,5 +1,4 @@
-use Rattle.std.proofs.Common.{◌<◌, ℕ, All, List, subst}
-use Rattle.std.specs.Prelude.{Contains}
+use Rattle.std.proofs.Common.{◌<◌}
 use Rattle.lowered_actor.proofs.Loops.{as-many, all-whole}
 use Rattle.lowered_actor.proofs.fitting.ranks.Goals as goal
 

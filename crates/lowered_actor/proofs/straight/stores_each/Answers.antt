@@ -1,4 +1,4 @@
-use Rattle.std.proofs.Common.{◌≡◌, ◌+◌, ◌<◌, ℕ, subst, true, arith}
+use Rattle.std.proofs.Common.{◌≡◌, ◌+◌, ℕ, subst, true, arith}
 use Rattle.lowered_actor.specs.Actor.{actor_of}
 use Rattle.lowered_actor.specs.Straight.{body_at, stores}
 use Rattle.lowered_actor.proofs.Loops.{stores-one-more}

@@ -1,4 +1,4 @@
-use Rattle.std.proofs.Common.{◌≡◌, ◌++◌, sym, ap, ◌∙◌}
+use Rattle.std.proofs.Common.{◌++◌, sym, ap, ◌∙◌}
 use Rattle.cal_ast.specs.View.{pattern_tree}
 use Rattle.cal_check.specs.Ports.{asked_by, each_asked}
 use Rattle.member_check.specs.Asking.{asked_views, patterns_tree}

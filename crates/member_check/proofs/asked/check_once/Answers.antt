@@ -1,4 +1,4 @@
-use Rattle.std.proofs.Common.{◌≡◌, None, suc, take, drop, get_or, sym, subst, ◌∙◌}
+use Rattle.std.proofs.Common.{None, suc, take, drop, get_or, sym, subst, ◌∙◌}
 use Rattle.std.specs.Prelude.{◌==◌}
 use Rattle.rvc_base.specs.Rules.{port_named_twice}
 use Rattle.cal_check.specs.Ports.{keyed_numbers, numbers_twice}

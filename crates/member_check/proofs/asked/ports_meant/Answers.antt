@@ -1,4 +1,4 @@
-use Rattle.std.proofs.Common.{◌≡◌, length, ap, ◌∙◌}
+use Rattle.std.proofs.Common.{length, ap, ◌∙◌}
 use Rattle.member_check.specs.Asking.{asked_views, port_views}
 use Rattle.member_check.proofs.AskedParts.{ports-count, views-count}
 use Rattle.cal_check.specs.Ports.{is_named}

@@ -1,4 +1,4 @@
-use Rattle.std.proofs.Common.{◌≡◌, sym, subst, ap, ◌∙◌, arith}
+use Rattle.std.proofs.Common.{sym, subst, ap, arith}
 use Rattle.std.specs.Prelude.{nat_le}
 use Rattle.rvc_base.specs.Rules.{too_many_ports}
 use Rattle.cal_model.specs.Rates.{parts}

@@ -1,5 +1,5 @@
 use Rattle.std.proofs.Common.{◌≡◌, Err, rules}
-use Rattle.member_check.proofs.Broken.{checks-behind, checks-left, checks-right}
+use Rattle.member_check.proofs.Broken.{checks-behind, checks-left}
 use Rattle.member_check.proofs.header.check_ports.Goals as goal
 
 pub returns-in_err-check_few : goal.returns-in_err-check_few

@@ -1,4 +1,4 @@
-use Rattle.std.proofs.Common.{◌≡◌, ◌++◌, true, false, sym, ap, subst, ◌∙◌}
+use Rattle.std.proofs.Common.{◌≡◌, true, false, sym, ap, subst, ◌∙◌}
 use Rattle.rvc_base.specs.Rules.{port_named_twice}
 use Rattle.cal_model.specs.Tags.{is_seen, with_seen}
 use Rattle.member_check.specs.Judging.{Refuses}

@@ -1,8 +1,7 @@
-use Rattle.std.proofs.Common.{◌≡◌, ◌≢◌, ℕ, Bool, true, false, List, [], ◌∷◌, length, map, refl, sym, ap, subst, ◌∙◌, arith, rules}
+use Rattle.std.proofs.Common.{◌≡◌, ◌≢◌, ℕ, Bool, true, false, List, [], ◌∷◌, length, refl, sym, subst, arith}
 use Rattle.rvc_base.specs.Rules.{wrong_initialize}
 use Rattle.cal_ast.specs.declared.expr.Expr.{Expr}
-use Rattle.cal_check.specs.Actions.{guard_allowed, is_without}
-use Rattle.cal_check.specs.Violations.{unless}
+use Rattle.cal_check.specs.Actions.{guard_allowed}
 use Rattle.member_check.specs.Judging.{Refuses}
 use Rattle.member_check.specs.Parts.{exprs_tree}
 use Rattle.member_check.specs.declared.fault.MemberFault.TheVariants as fault

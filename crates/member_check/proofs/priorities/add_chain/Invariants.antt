@@ -1,7 +1,4 @@
-use Rattle.std.proofs.Common.{◌≡◌, ◌++◌, [], ◌∷◌, length}
-use Rattle.cal_ast.specs.View.{tag_tree}
-use Rattle.cal_model.specs.Tags.{stands_from}
-use Rattle.cal_check.specs.Actions.{tag_parts}
+use Rattle.std.proofs.Common.{◌≡◌, ◌++◌, length}
 use Rattle.cal_check.specs.Schedules.{tags_listed}
 use Rattle.member_check.specs.Parts.{action_views, tags_tree}
 use Rattle.member_check.proofs.Chains.{pairs_behind}

@@ -6,7 +6,6 @@ use Rattle.cal_ast.specs.View.{member_tree, priority_tree}
 use Rattle.cal_check.specs.Schedules.{chains_broken, chains_pairs, pairs_in, priorities_broken}
 use Rattle.member_check.specs.Judging.{Checks, Refuses}
 use Rattle.member_check.specs.Parts.{action_views, actor_with, chains_tree}
-use Rattle.member_check.specs.declared.fault.MemberFault.{MemberFault}
 use Rattle.member_check.proofs.Broken.{checks-err, checks-ok}
 use Rattle.member_check.proofs.Chains.{priority-added, priority-fine, priority-refused}
 use Rattle.member_check.proofs.Mapped.{on-ok-map}

@@ -1,4 +1,4 @@
-use Rattle.std.proofs.Common.{◌≡◌, [], Err, inl, inr, sym, ap, subst, ◌∙◌, refl, rules}
+use Rattle.std.proofs.Common.{◌≡◌, [], Err, inl, inr, sym, subst, ◌∙◌, refl, rules}
 use Rattle.std.specs.Prelude.{IfErr, length}
 use Rattle.rvc_base.specs.Chain.{IsAbove}
 use Rattle.cal_model.specs.Actor.{Actor}

@@ -1,4 +1,4 @@
-use Rattle.std.proofs.Common.{◌≡◌, sym, subst, ◌∙◌}
+use Rattle.std.proofs.Common.{sym, subst, ◌∙◌}
 use Rattle.member_check.specs.Parts.{members_tree}
 use Rattle.priority_order.specs.Cycle.{IsCause}
 use Rattle.member_check.proofs.PairsInRange.{no-cycle}

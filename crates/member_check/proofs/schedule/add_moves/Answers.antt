@@ -1,4 +1,4 @@
-use Rattle.std.proofs.Common.{◌≡◌, ◌++◌, ◌<◌, true, false, not, map, length, List, ℕ, All, sym, ap, subst, ◌∙◌}
+use Rattle.std.proofs.Common.{◌≡◌, ◌++◌, true, false, not, map, length, sym, ap, subst, ◌∙◌}
 use Rattle.rvc_base.specs.Rules.{ambiguous_transition}
 use Rattle.cal_ast.specs.View.{move_tree}
 use Rattle.cal_model.specs.Tags.{moves_by, moves_of}

@@ -1,11 +1,10 @@
-use Rattle.std.proofs.Common.{◌≡◌, ◌++◌, [], Err, map, length, take, drop, sym, ap, subst, ◌∙◌, arith, rules}
+use Rattle.std.proofs.Common.{◌≡◌, ◌++◌, [], Err, map, length, drop, sym, ap, subst, ◌∙◌, arith, rules}
 use Rattle.std.specs.Prelude.{IfOk}
 use Rattle.std.proofs.lemmas.List.{take_at}
 use Rattle.cal_check.specs.Schedules.{moves_broken, moves_listed, transitions_of}
 use Rattle.member_check.specs.Judging.{Checks, Refuses}
 use Rattle.member_check.specs.Parts.{action_views, actor_with, move_of_step, transitions_tree}
 use Rattle.member_check.specs.Targets.{AreSeen, Tells}
-use Rattle.cal_check.proofs.Lists.{none-left}
 use Rattle.member_check.proofs.Moves.{moves-added, moves-fine, moves-refused}
 use Rattle.member_check.proofs.schedule.moves_of.Goals as goal
 

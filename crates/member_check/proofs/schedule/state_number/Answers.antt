@@ -1,6 +1,6 @@
-use Rattle.std.proofs.Common.{◌≡◌, ◌<◌, true, length, sym, ap, subst, ◌∙◌, arith}
+use Rattle.std.proofs.Common.{◌≡◌, ◌<◌, length, sym, ap, subst, ◌∙◌, arith}
 use Rattle.std.specs.Prelude.{string_bytes}
-use Rattle.cal_model.specs.Tags.{is_seen, number_of_name}
+use Rattle.cal_model.specs.Tags.{number_of_name}
 use Rattle.cal_check.proofs.SeenStates.{number-below}
 use Rattle.member_check.proofs.schedule.state_number.Goals as goal
 

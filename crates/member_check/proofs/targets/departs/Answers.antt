@@ -1,4 +1,4 @@
-use Rattle.std.proofs.Common.{◌≡◌, ℕ, ◌+◌, ◌*◌, ◌++◌, Some, None, get_or, set, take, sym, ap, subst, ◌∙◌}
+use Rattle.std.proofs.Common.{◌≡◌, ◌+◌, ◌*◌, ◌++◌, Some, None, get_or, set, take, sym, ap, subst, ◌∙◌}
 use Rattle.cal_model.specs.Tags.{moves_by}
 use Rattle.member_check.specs.Targets.{Tells}
 use Rattle.member_check.proofs.Departing.{IsOne, all-departs, all-told, departs-elsewhere, departs-nowhere, move_by, place_of, told-further}

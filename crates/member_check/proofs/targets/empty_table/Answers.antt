@@ -1,7 +1,5 @@
-use Rattle.std.proofs.Common.{◌≡◌, ◌*◌, ◌≤◌, ℕ, [], ◌∷◌, None, sym, ap, refl, subst, arith}
-use Rattle.cal_model.specs.Sound.{Each, max_actions, max_states}
+use Rattle.std.proofs.Common.{arith}
 use Rattle.member_check.proofs.Departing.{tells-none}
-use Rattle.cal_check.proofs.Lists.{each-append}
 use Rattle.member_check.proofs.targets.empty_table.Goals as goal
 
 pub returns : goal.returns

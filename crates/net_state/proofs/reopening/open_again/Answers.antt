@@ -1,9 +1,9 @@
 use Rattle.std.proofs.Common.{◌≡◌, ℕ, ◌≤◌, arith, length, map, subst}
-use Rattle.std.specs.Prelude.{slice_index_or, vec_items}
+use Rattle.std.specs.Prelude.{vec_items}
 use Rattle.std.proofs.lemmas.Option.{slice_get-get_or}
 use Rattle.net_state.specs.Reopening.{IsReopening}
 use Rattle.net_state.proofs.Kept.{any_link, place_of_writer}
-use Rattle.net_state.proofs.Noted.{reopened_fits, reopened_rooms, reopened_states, reopened_working, reopening_more, reopening_none}
+use Rattle.net_state.proofs.Noted.{reopened_fits, reopened_rooms, reopened_states, reopened_working, reopening_none}
 use Rattle.net_state.proofs.reopening.open_again.Goals as goal
 
 all_done : (l n : ℕ) → l ≤ n → n ≤ l → l ≡ n

@@ -1,4 +1,4 @@
-use Rattle.std.proofs.Common.{length, map, string_bytes, subst}
+use Rattle.std.proofs.Common.{map, string_bytes, subst}
 use Rattle.std.proofs.lemmas.List.{length-map}
 use Rattle.std.specs.Prelude.{Err}
 use Rattle.rvc_words.specs.Words.{port_text}

@@ -4,7 +4,7 @@ use Rattle.source_network.specs.Files.{class_asked, files_of}
 use Rattle.source_network.specs.Library.{IsLibraryNetwork}
 use Rattle.run_report.specs.Report.{last_line}
 use Rattle.rvc_engine.specs.Built.{IsBuilt}
-use Rattle.rvc_engine.specs.NoImage.{IsNoImage, IsUnbuilt}
+use Rattle.rvc_engine.specs.Refused.{IsFault, IsOutside}
 use Rattle.rvc_engine.specs.Top.{top_asked}
 use Rattle.network_commands.specs.Commands.{Command, command, met_by}
 use Rattle.network_commands.specs.Steps.{IsPut, about_words, status_of_build}
@@ -48,8 +48,8 @@ pub returns-clause-answered : goal.returns-clause-answered
 returns-clause-answered g c =
     let cmd : Command = command (met_by g.L.Library.file g.L.Library.misses g.L.Library.faults g.F.Feeds.feeds g.D.Drains.channels c.args.library.now c.build.new.library
     c.args.feeds.now c.args.feeds.now c.args.drains.now c.report_unbuilt.new.drains) c.args.job.now in
-    let why : IsNoImage (g.L.Library.file c.args.library.now) (top_asked (string_bytes c.args.job.now.top)) cmd.misses cmd.faults (file_names c.build.new.names) c.in-Err.fault =
-    subst (λ top. IsNoImage (g.L.Library.file c.args.library.now) (top_asked top) cmd.misses cmd.faults (file_names c.build.new.names) c.in-Err.fault) c.as_str.ensures.value c.in-Err.ensures.fault in
+    let why : IsFault (g.L.Library.file c.args.library.now) (top_asked (string_bytes c.args.job.now.top)) cmd.misses cmd.faults (file_names c.build.new.names) c.in-Err.fault =
+    subst (λ top. IsFault (g.L.Library.file c.args.library.now) (top_asked top) cmd.misses cmd.faults (file_names c.build.new.names) c.in-Err.fault) c.as_str.ensures.value c.in-Err.ensures.fault in
     let put : IsPut (status_of_build c.in-Err.fault) (last_line (about_words c.build.new.names c.args.job.now) (status_of_build c.in-Err.fault))
     (g.D.Drains.channels c.args.drains.now) (g.D.Drains.channels c.report_unbuilt.new.drains) c.report_unbuilt.result =
     subst (λ said. IsPut said (last_line (about_words c.build.new.names c.args.job.now) said) (g.D.Drains.channels c.args.drains.now) (g.D.Drains.channels c.report_unbuilt.new.drains) c.report_unbuilt.result)
@@ -68,7 +68,7 @@ returns-clause-complete g c = λ net tells conforms.
     c.args.feeds.now c.args.feeds.now c.args.drains.now c.report_unbuilt.new.drains) c.args.job.now in
     let is : IsLibraryNetwork (g.L.Library.file c.args.library.now) (top_asked c.as_str.result.now) net =
     subst (λ top. IsLibraryNetwork (g.L.Library.file c.args.library.now) (top_asked top) net) (sym c.as_str.ensures.value) conforms.conforms.means in
-    let un : IsUnbuilt c.in-Err.fault = c.in-Err.ensures.complete net tells is in
+    let un : IsOutside c.in-Err.fault = c.in-Err.ensures.complete net tells is in
     let put : IsPut (status_of_build c.in-Err.fault) (last_line (about_words c.build.new.names c.args.job.now) (status_of_build c.in-Err.fault))
     (g.D.Drains.channels c.args.drains.now) (g.D.Drains.channels c.report_unbuilt.new.drains) c.report_unbuilt.result =
     subst (λ said. IsPut said (last_line (about_words c.build.new.names c.args.job.now) said) (g.D.Drains.channels c.args.drains.now) (g.D.Drains.channels c.report_unbuilt.new.drains) c.report_unbuilt.result)

@@ -1,7 +1,7 @@
 use Rattle.std.proofs.Common.{refl, subst, string_bytes}
 use Rattle.actor_files.specs.Views.{file_names}
 use Rattle.rvc_engine.specs.Built.{IsBuilt}
-use Rattle.rvc_engine.specs.NoImage.{IsNoImage}
+use Rattle.rvc_engine.specs.Refused.{IsFault}
 use Rattle.rvc_engine.specs.Top.{top_asked}
 use Rattle.run_report.specs.Report.{last_line}
 use Rattle.network_commands.specs.Steps.{IsPut, about_words, status_of_build}
@@ -19,10 +19,10 @@ returns-in-Ok-clause-answered g c =
 
 pub returns-clause-answered : goal.returns-clause-answered
 returns-clause-answered g c =
-    let why : IsNoImage (g.L.Library.file c.args.library.now) (top_asked (string_bytes c.args.job.now.top))
+    let why : IsFault (g.L.Library.file c.args.library.now) (top_asked (string_bytes c.args.job.now.top))
     (record { old = g.L.Library.misses c.args.library.now; new = g.L.Library.misses c.build.new.library }) (record { old = g.L.Library.faults c.args.library.now; new = g.L.Library.faults c.build.new.library })
     (file_names c.build.new.names) c.in-Err.fault =
-    subst (λ top. IsNoImage (g.L.Library.file c.args.library.now) (top_asked top)
+    subst (λ top. IsFault (g.L.Library.file c.args.library.now) (top_asked top)
     (record { old = g.L.Library.misses c.args.library.now; new = g.L.Library.misses c.build.new.library }) (record { old = g.L.Library.faults c.args.library.now; new = g.L.Library.faults c.build.new.library })
     (file_names c.build.new.names) c.in-Err.fault) c.as_str.ensures.value c.in-Err.ensures.fault in
     let put : IsPut (status_of_build c.in-Err.fault) (last_line (about_words c.build.new.names c.args.job.now) (status_of_build c.in-Err.fault))

@@ -1,4 +1,4 @@
-use Rattle.std.proofs.Common.{◌≡◌, Some, inl, sym, ap, subst, ◌∙◌}
+use Rattle.std.proofs.Common.{◌≡◌, inl, sym, ap, subst, ◌∙◌}
 use Rattle.conforming_jobs.specs.Conforming.{Conforms, ConformsWith, names_of_ports, no_ports}
 use Rattle.grown_links.specs.Growth.{GrowTooFar}
 use Rattle.certify_job.specs.Ends.{IsDecided}

@@ -1,11 +1,10 @@
-use Rattle.std.proofs.Common.{◌≡◌, ◌+◌, ◌-◌, ◌<◌, ◌≤◌, true, ℕ, suc, length, subst, sym, ap, ◌∙◌, arith}
-use Rattle.std.specs.Prelude.{None, Some, slice_get, slice_index_or, slice_set}
+use Rattle.std.proofs.Common.{◌≡◌, ◌-◌, ◌<◌, ◌≤◌, true, suc, length, subst, sym, ap, ◌∙◌, arith}
+use Rattle.std.specs.Prelude.{None, Some, slice_get, slice_index_or}
 use Rattle.std.proofs.lemmas.Option.{slice_get-get_or}
 use Rattle.rvc_base.specs.declared.scalar.Scalar.TheVariants.{Bool as Truth}
 use Rattle.token_ring.specs.Queue.{Queue}
 use Rattle.net_model.specs.declared.wiring.End.TheVariants.{Leaf as AtLeaf}
 use Rattle.net_model.specs.declared.wiring.Link.{Link}
-use Rattle.net_model.specs.Network.{is_input}
 use Rattle.net_state.specs.declared.filling.Filled.{Filled}
 use Rattle.net_state.specs.Held.{seen}
 use Rattle.network_runner.proofs.Begun.{map_at}

@@ -1,4 +1,4 @@
-use Rattle.std.proofs.Common.{◌≡◌, ◌≤◌, ◌+◌, true, false, [], length, min, subst, sym, ap, ◌∙◌, arith}
+use Rattle.std.proofs.Common.{◌≡◌, true, false, length, min, subst, sym, ap, ◌∙◌, arith}
 use Rattle.net_model.specs.Network.{is_input}
 use Rattle.net_state.specs.Filling.{IsInputLink}
 use Rattle.net_state.specs.Held.{seen}

@@ -8,5 +8,5 @@ use Rattle.variable_check.proofs.variables.add_alone.Goals as goal
 pub returns-clause-declares : goal.returns-clause-declares
 returns-clause-declares c =
     declares_alone c.calls_alone_need_functions.ensures.types c.calls_alone_need_functions.ensures.starts c.add_over.result c.args.so_far.now c.add_over.new.so_far
-    (var_decl c.args.x) (all_given c.args.told.given.now) (spot_of c.args.told.owner) (fun_decls c.args.told.funs.now) (names_in c.args.alone.now)
-    c.requires.whole c.requires.alone (sym c.needs_functions.ensures ∙ c.if-needs_functions.false) c.add_over.ensures.declares
+    (var_decl c.args.x) (all_given c.args.told.given.now) (spot_of c.args.told.owner) (fun_decls c.args.told.funs.now) (names_in c.alone.result.now)
+    c.requires.whole (c.alone.ensures ∙ c.requires.names.alone) (sym c.needs_functions.ensures ∙ c.if-needs_functions.false) c.add_over.ensures.declares

@@ -18,7 +18,7 @@ loop-x-preserved c =
       added = λ xs vs h.
           added_more (var_decl c.x-item.result) (var_decls left) (var_decls c.args.vars.now) gs owner fs c.loop-x.so_far c.add_variable.new.so_far xs vs
           (subst (λ ys. AreAdded (var_decls ys) (var_decls c.args.vars.now) gs owner fs c.loop-x.so_far xs vs) parts (c.loop-x.invariant.added xs vs h)) c.in_ok-add_variable.ensures.declares;
-      alone = c.in_ok-add_variable.ensures.alone;
+      names = c.in_ok-add_variable.ensures.names;
     }
 
 pub returns-in_err-add_variable : goal.returns-in_err-add_variable

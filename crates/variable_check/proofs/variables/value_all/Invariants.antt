@@ -1,9 +1,8 @@
 use Rattle.std.proofs.Common.{List, drop}
 use Rattle.cal_check.specs.Variables.{VarDecl, Valued}
-use Rattle.const_eval.specs.Held.{names_in}
 use Rattle.seen_names.specs.Known.{fun_decls}
 use Rattle.variable_check.specs.Views.{all_given, spot_of, var_decls}
-use Rattle.variable_check.specs.Valuing.{AreAlone, IsValued}
+use Rattle.variable_check.specs.Valuing.{AreSeen, IsValued}
 use Rattle.variable_check.proofs.Adding.{AreAdded}
 use Rattle.variable_check.proofs.variables.value_all.Given as goal
 
@@ -11,5 +10,5 @@ abbrev pub invariant-loop-x : goal.invariant-loop-x
 invariant-loop-x l = record {
   added : (xs : List VarDecl) (vs : Valued) → IsValued xs l.initial.so_far vs
       → AreAdded (var_decls (drop l.x-index l.vars)) (var_decls l.vars) (all_given l.told.given.now) (spot_of l.told.owner) (fun_decls l.told.funs.now) l.so_far xs vs;
-  alone : AreAlone (names_in l.alone) l.so_far;
+  names : AreSeen l.names (fun_decls l.told.funs.now) l.so_far;
 }

@@ -3,7 +3,6 @@ use Rattle.std.specs.Prelude.{slice_set}
 use Rattle.std.proofs.lemmas.Int.{to_z-of_z}
 use Rattle.std.proofs.lemmas.List.{get_or_default}
 use Rattle.rvc_base.specs.Width.{num_width}
-use Rattle.token_ring.specs.Queue.{Queue}
 use Rattle.net_model.specs.Cell.{Accepts}
 use Rattle.actor_cell.specs.Queues.{no_queue, queue_on}
 use Rattle.actor_cell.specs.View.{core_of}

@@ -1,9 +1,9 @@
-use Rattle.std.proofs.Common.{◌≡◌, ◌<◌, ◌∙◌, ℕ, List, All, length, subst, sym, ap, Some}
+use Rattle.std.proofs.Common.{◌≡◌, ◌<◌, ◌∙◌, ℕ, List, All, length, subst, sym}
 use Rattle.std.specs.Prelude.{slice_index_or, is_some}
 use Rattle.std.proofs.lemmas.List.Elements.{All-filter}
 use Rattle.schedule_fsm.specs.Automaton.{target}
 use Rattle.lowered_actor.specs.Actor.{Actor, actor_of}
-use Rattle.lowered_actor.specs.Candidates.{eligible_among, AreRows}
+use Rattle.lowered_actor.specs.Candidates.{eligible_among}
 use Rattle.lowered_actor.proofs.Rows.{row-at}
 use Rattle.lowered_actor.proofs.lowered.Lowered.candidates.Goals as goal
 use Rattle.lowered_actor.proofs.lowered.Lowered.candidates.Goals.{After-deref}

@@ -1,4 +1,4 @@
-use Rattle.std.proofs.Common.{◌≡◌, Bool, true, map, sym, ap, ◌∙◌, rules, Option, Some, None}
+use Rattle.std.proofs.Common.{◌≡◌, true, sym, ap, ◌∙◌, rules, Option, Some, None}
 use Rattle.std.specs.Prelude.{ℕ, IsSome, is_some, string_bytes}
 use Rattle.std.specs.Str.{bytes_eq}
 use Rattle.cal_model.specs.Tags.{is_seen, number_of_name}

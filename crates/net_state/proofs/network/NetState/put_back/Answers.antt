@@ -1,4 +1,4 @@
-use Rattle.std.proofs.Common.{◌+◌, FitsSigned, to_z, of_z, rules, ℤ, ◌∙◌, ◌≡◌, ◌++◌, ◌<◌, ◌≤◌, ◌∷◌, [], ℕ, true, arith, ap, sym, subst, refl, length, map, take, drop}
+use Rattle.std.proofs.Common.{◌+◌, FitsSigned, to_z, of_z, rules, ◌≡◌, ◌++◌, ◌<◌, ◌∷◌, [], ℕ, true, arith, ap, sym, subst, refl, length, map, take, drop}
 use Rattle.std.specs.Prelude.{slice_get, slice_index_or, vec_items, Some}
 use Rattle.std.proofs.lemmas.Int.{to_z-of_z}
 use Rattle.rvc_base.specs.Width.{num_width}

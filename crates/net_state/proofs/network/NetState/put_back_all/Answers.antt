@@ -1,11 +1,11 @@
-use Rattle.std.proofs.Common.{FitsSigned, rules, ◌≡◌, ◌<◌, ◌≤◌, ◌+◌, ◌++◌, ◌∷◌, [], ℕ, to_z, of_z, arith, ap, sym, subst, refl, ◌∙◌, length, map}
+use Rattle.std.proofs.Common.{FitsSigned, rules, ◌≡◌, ◌≤◌, ℕ, to_z, of_z, arith, ap, sym, subst, refl, ◌∙◌, length}
 use Rattle.std.specs.Prelude.{slice_get, slice_index_or}
 use Rattle.std.proofs.lemmas.Int.{to_z-of_z}
 use Rattle.rvc_base.specs.Width.{num_width}
 use Rattle.net_state.specs.Filling.{IsInputLink}
 use Rattle.net_state.specs.Held.{seen}
-use Rattle.net_state.specs.TakingBack.{PutsBack, waits_on}
-use Rattle.net_state.proofs.Stacked.{IsPuttingBack, none_of, puts_all, putting_back_more, putting_back_starts}
+use Rattle.net_state.specs.TakingBack.{PutsBack}
+use Rattle.net_state.proofs.Stacked.{none_of, puts_all, putting_back_more, putting_back_starts}
 use Rattle.net_state.proofs.network.NetState.put_back_all.Goals as goal
 
 all_put : (k n : ℕ) → k ≤ n → n ≤ k → k ≡ n

@@ -1,10 +1,9 @@
-use Rattle.std.proofs.Common.{FitsSigned, rules, ◌≡◌, ◌<◌, ◌≤◌, ◌+◌, ◌++◌, ◌∷◌, [], ℕ, to_z, of_z, arith, ap, sym, subst, refl, ◌∙◌, length, map}
+use Rattle.std.proofs.Common.{FitsSigned, rules, ◌≡◌, ◌≤◌, ◌+◌, ◌++◌, ◌∷◌, [], ℕ, arith, ap, sym, subst, refl, ◌∙◌}
 use Rattle.std.specs.Prelude.{slice_get}
 use Rattle.std.proofs.lemmas.Int.{to_z-of_z}
 use Rattle.rvc_base.specs.Width.{num_width}
 use Rattle.net_state.specs.Filling.{IsInputLink}
 use Rattle.net_state.specs.Held.{seen}
-use Rattle.net_state.specs.TakingBack.{waits_on}
 use Rattle.net_state.proofs.Stacked.{IsTakingBack, taking_back_more, taking_back_starts}
 use Rattle.net_state.proofs.network.NetState.take_back_all.Goals as goal
 

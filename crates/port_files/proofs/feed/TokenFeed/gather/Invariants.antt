@@ -1,4 +1,4 @@
-use Rattle.std.proofs.Common.{◌≡◌, ℕ, ◌+◌, ◌-◌, ◌≤◌, true, List, length, if◌then◌else◌}
+use Rattle.std.proofs.Common.{◌≡◌, ◌+◌, ◌-◌, true, length, if◌then◌else◌}
 use Rattle.rvc_io.specs.Feeds.{PullsOnly}
 use Rattle.net_model.specs.PortFile.{token_bytes}
 use Rattle.port_files.specs.Coming.{coming, EndIsTrue}

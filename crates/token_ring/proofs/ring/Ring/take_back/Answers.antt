@@ -1,5 +1,4 @@
 use Rattle.std.proofs.Common.{◌≡◌, ◌-◌, ◌++◌, ◌∷◌, [], FitsSigned, List, ℕ, ℤ, rules, to_z, of_z, ap, sym, ◌∙◌, length, take}
-use Rattle.std.specs.Prelude.{Some, slice_get}
 use Rattle.std.proofs.lemmas.Int.{to_z-of_z}
 use Rattle.rvc_base.specs.Width.{num_width}
 use Rattle.token_ring.specs.Queue.{Queue}

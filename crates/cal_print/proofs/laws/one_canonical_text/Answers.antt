@@ -1,5 +1,0 @@
-use Rattle.cal_print.proofs.ReadAgain.{one_text}
-use Rattle.cal_print.proofs.laws.one_canonical_text.Goals as goal
-
-pub returns : goal.returns
-returns c = one_text c.one_list.ensures c.one_tree.ensures

@@ -1,0 +1,248 @@
+-- What must be constant in a part calls no function, and says only such names.
+use Rattle.std.proofs.Common.{◌≡◌, ℕ, Bool, true, false, ◌||◌, List, [], ◌∷◌, ◌++◌, refl, sym, ap, ◌∙◌}
+use Rattle.std.specs.Prelude.{if◌then◌else◌}
+use Rattle.std.specs.Str.{bytes_eq}
+use Rattle.cal_ast.specs.Tree as tree
+use Rattle.cal_ast.specs.Tree.{Tree}
+use Rattle.cal_check.specs.Routines.{FunDecl}
+use Rattle.cal_model.specs.Tags.{is_seen, with_seen}
+use Rattle.cal_model.proofs.KindNames.{text-same}
+use Rattle.seen_names.specs.Calls.{calls_any}
+use Rattle.seen_names.specs.Needs.{Needed, needs_of, nothing, with_call, with_funs_needs, with_name, with_needs}
+
+abbrev pub If : Bool → Type 0 → Type 0
+If true A = A
+If false A = Unit {0}
+
+-- all of the part must be constant, or only the sizes and the bounds in it
+abbrev pub SaysOnly : (P : List ℕ → Type 0) → Bool → Tree → Type 0
+SaysOnly P constant (tree.variable text at) = If constant (P text)
+SaysOnly P constant (tree.call text args at) = If constant ⊥ × SaysOnly P constant args
+SaysOnly P constant (tree.cons t ts) = SaysOnly P constant t × SaysOnly P constant ts
+SaysOnly P constant (tree.present t) = SaysOnly P constant t
+SaysOnly P constant (tree.paren e at) = SaysOnly P constant e
+SaysOnly P constant (tree.if_expr test first other at) =
+    SaysOnly P constant test × SaysOnly P constant first × SaysOnly P constant other
+SaysOnly P constant (tree.list items at) = SaysOnly P constant items
+SaysOnly P constant (tree.comp item gens at) = SaysOnly P constant item × SaysOnly P true gens
+SaysOnly P constant (tree.gen shape x from to at) =
+    SaysOnly P true shape × SaysOnly P true from × SaysOnly P true to
+SaysOnly P constant (tree.index base place at) =
+    SaysOnly P constant base × SaysOnly P constant place
+SaysOnly P constant (tree.prefix op e at) = SaysOnly P constant e
+SaysOnly P constant (tree.binary op l r at) = SaysOnly P constant l × SaysOnly P constant r
+SaysOnly P constant (tree.type_of x args at) = SaysOnly P true args
+SaysOnly P constant (tree.shape_arg x shape) = SaysOnly P true shape
+SaysOnly P constant (tree.value_arg x value) = SaysOnly P true value
+SaysOnly P constant (tree.port shape x at) = SaysOnly P true shape
+SaysOnly P constant (tree.var shape x start changes at) = SaysOnly P true shape × SaysOnly P false start
+SaysOnly P constant (tree.function x formals result vars body at) =
+    SaysOnly P false formals × SaysOnly P true result × SaysOnly P false vars × SaysOnly P false body
+SaysOnly P constant other = Unit {0}
+
+abbrev pub AllSay : (P : List ℕ → Type 0) → List FunDecl → Type 0
+AllSay P [] = Unit {0}
+AllSay P (f ∷ fs) = SaysOnly P false f.decl × AllSay P fs
+
+abbrev pub Any : List ℕ → Type 0
+Any name = Unit {0}
+
+-- ---- parts that call no function
+
+or_left : (a b : Bool) → (a || b) ≡ false → a ≡ false
+or_left true b h = h
+or_left false b h = refl
+
+or_right : (a b : Bool) → (a || b) ≡ false → b ≡ false
+or_right true b h = cc
+or_right false b h = h
+
+pub none_called : (t : Tree) → calls_any t ≡ false → SaysOnly Any true t
+none_called (tree.number n at) h = tt
+none_called (tree.truth b at) h = tt
+none_called (tree.variable name at) h = tt
+none_called tree.nil h = tt
+none_called tree.absent h = tt
+none_called (tree.call name args at) h = cc
+none_called (tree.cons t ts) h = (none_called t (or_left (calls_any t) (calls_any ts) h), none_called ts (or_right (calls_any t) (calls_any ts) h))
+none_called (tree.present t) h = none_called t h
+none_called (tree.paren e at) h = none_called e h
+none_called (tree.if_expr test first other at) h =
+    let rest = or_right (calls_any test) (calls_any first || calls_any other) h in (
+      none_called test (or_left (calls_any test) (calls_any first || calls_any other) h),
+      none_called first (or_left (calls_any first) (calls_any other) rest),
+      none_called other (or_right (calls_any first) (calls_any other) rest),
+    )
+none_called (tree.list items at) h = none_called items h
+none_called (tree.comp item gens at) h = (none_called item (or_left (calls_any item) (calls_any gens) h), none_called gens (or_right (calls_any item) (calls_any gens) h))
+none_called (tree.gen shape name from to at) h =
+    let rest = or_right (calls_any shape) (calls_any from || calls_any to) h in (
+      none_called shape (or_left (calls_any shape) (calls_any from || calls_any to) h),
+      none_called from (or_left (calls_any from) (calls_any to) rest),
+      none_called to (or_right (calls_any from) (calls_any to) rest),
+    )
+none_called (tree.index base place at) h = (none_called base (or_left (calls_any base) (calls_any place) h), none_called place (or_right (calls_any base) (calls_any place) h))
+none_called (tree.prefix op e at) h = none_called e h
+none_called (tree.binary op l r at) h = (none_called l (or_left (calls_any l) (calls_any r) h), none_called r (or_right (calls_any l) (calls_any r) h))
+none_called (tree.type_of name args at) h = none_called args h
+none_called (tree.shape_arg name shape) h = none_called shape h
+none_called (tree.value_arg name value) h = none_called value h
+none_called other h = cc
+
+-- ---- what is needed is said
+
+-- what was needed before is needed now
+record Grows (n m : Needed) : Type 0 where
+  names : (x : List ℕ) → is_seen x n.names ≡ true → is_seen x m.names ≡ true
+  calls : m.calls ≡ false → n.calls ≡ false
+
+same : (n : Needed) → Grows n n
+same n = record { names = λ x h. h; calls = λ h. h }
+
+and_then : (n m o : Needed) → Grows n m → Grows m o → Grows n o
+and_then n m o g h = record { names = λ x i. h.names x (g.names x i); calls = λ i. g.calls (h.calls i) }
+
+seen_before : (x : List ℕ) (names more : List (List ℕ)) → is_seen x names ≡ true → is_seen x (names ++ more) ≡ true
+seen_before x [] more h = cc
+seen_before x (y ∷ names) more h = go (bytes_eq y x) h (λ i. seen_before x names more i)
+  where
+    go : (b : Bool) → (b || is_seen x names) ≡ true → (is_seen x names ≡ true → is_seen x (names ++ more) ≡ true) → (b || is_seen x (names ++ more)) ≡ true
+    go true h i = refl
+    go false h i = i h
+
+seen_last : (x : List ℕ) (names : List (List ℕ)) → is_seen x (names ++ x ∷ []) ≡ true
+seen_last x [] = ap (λ b. b || false) (text-same x)
+seen_last x (y ∷ names) = go (bytes_eq y x) (seen_last x names)
+  where
+    go : (b : Bool) → is_seen x (names ++ x ∷ []) ≡ true → (b || is_seen x (names ++ x ∷ [])) ≡ true
+    go true h = refl
+    go false h = h
+
+still_seen : (x name : List ℕ) (names : List (List ℕ)) → is_seen x names ≡ true → is_seen x (with_seen names name) ≡ true
+still_seen x name names h = go (is_seen name names)
+  where
+    go : (b : Bool) → is_seen x (if b then names else names ++ name ∷ []) ≡ true
+    go true = h
+    go false = seen_before x names (name ∷ []) h
+
+now_seen : (name : List ℕ) (names : List (List ℕ)) → is_seen name (with_seen names name) ≡ true
+now_seen name names = go (is_seen name names) refl
+  where
+    go : (b : Bool) → is_seen name names ≡ b → is_seen name (if b then names else names ++ name ∷ []) ≡ true
+    go true h = h
+    go false h = seen_last name names
+
+grows_name : (constant : Bool) (name : List ℕ) (n : Needed) → Grows n (with_name constant name n)
+grows_name true name n = record { names = λ x h. still_seen x name n.names h; calls = λ h. h }
+grows_name false name n = same n
+
+grows_call : (constant : Bool) (n : Needed) → Grows n (with_call constant n)
+grows_call true n = record { names = λ x h. h; calls = λ h. cc }
+grows_call false n = same n
+
+grows : (constant : Bool) (t : Tree) (n : Needed) → Grows n (with_needs constant t n)
+grows constant (tree.variable text at) n = grows_name constant text n
+grows constant (tree.call text args at) n =
+    and_then n (with_call constant n) (with_needs constant args (with_call constant n)) (grows_call constant n) (grows constant args (with_call constant n))
+grows constant (tree.cons t ts) n = and_then n (with_needs constant t n) (with_needs constant ts (with_needs constant t n)) (grows constant t n) (grows constant ts (with_needs constant t n))
+grows constant (tree.present t) n = grows constant t n
+grows constant (tree.paren e at) n = grows constant e n
+grows constant (tree.if_expr test first other at) n =
+    let m = with_needs constant test n in
+    let o = with_needs constant first m in
+    and_then n m (with_needs constant other o) (grows constant test n) (and_then m o (with_needs constant other o) (grows constant first m) (grows constant other o))
+grows constant (tree.list items at) n = grows constant items n
+grows constant (tree.comp item gens at) n = and_then n (with_needs constant item n) (with_needs true gens (with_needs constant item n)) (grows constant item n) (grows true gens (with_needs constant item n))
+grows constant (tree.gen shape x from to at) n =
+    let m = with_needs true shape n in
+    let o = with_needs true from m in
+    and_then n m (with_needs true to o) (grows true shape n) (and_then m o (with_needs true to o) (grows true from m) (grows true to o))
+grows constant (tree.index base place at) n = and_then n (with_needs constant base n) (with_needs constant place (with_needs constant base n)) (grows constant base n) (grows constant place (with_needs constant base n))
+grows constant (tree.prefix op e at) n = grows constant e n
+grows constant (tree.binary op l r at) n = and_then n (with_needs constant l n) (with_needs constant r (with_needs constant l n)) (grows constant l n) (grows constant r (with_needs constant l n))
+grows constant (tree.type_of x args at) n = grows true args n
+grows constant (tree.shape_arg x shape) n = grows true shape n
+grows constant (tree.value_arg x value) n = grows true value n
+grows constant (tree.port shape x at) n = grows true shape n
+grows constant (tree.var shape x start changes at) n = and_then n (with_needs true shape n) (with_needs false start (with_needs true shape n)) (grows true shape n) (grows false start (with_needs true shape n))
+grows constant (tree.function x formals result vars body at) n =
+    let m = with_needs false formals n in
+    let o = with_needs true result m in
+    let p = with_needs false vars o in
+    and_then n m (with_needs false body p) (grows false formals n)
+    (and_then m o (with_needs false body p) (grows true result m) (and_then o p (with_needs false body p) (grows false vars o) (grows false body p)))
+grows constant other n = same n
+
+module _ (P : List ℕ → Type 0) where
+  -- of these needs P holds, and they have no call
+  record Allows (n : Needed) : Type 0 where
+    names : (x : List ℕ) → is_seen x n.names ≡ true → P x
+    calls : n.calls ≡ false
+
+  before : (n m : Needed) → Grows n m → Allows m → Allows n
+  before n m g a = record { names = λ x h. a.names x (g.names x h); calls = g.calls a.calls }
+
+  name_said : (constant : Bool) (name : List ℕ) (n : Needed) → Allows (with_name constant name n) → If constant (P name)
+  name_said true name n a = a.names name (now_seen name n.names)
+  name_said false name n a = tt
+
+  none_made : (constant : Bool) (n : Needed) → Allows (with_call constant n) → If constant ⊥
+  none_made true n a = let h = a.calls in cc
+  none_made false n a = tt
+
+  -- two parts in a row
+  both : (b c : Bool) (t u : Tree) (n : Needed) → (Allows (with_needs b t n) → SaysOnly P b t) → (Allows (with_needs c u (with_needs b t n)) → SaysOnly P c u)
+      → Allows (with_needs c u (with_needs b t n)) → SaysOnly P b t × SaysOnly P c u
+  both b c t u n f g a = (f (before (with_needs b t n) (with_needs c u (with_needs b t n)) (grows c u (with_needs b t n)) a), g a)
+
+  says : (constant : Bool) (t : Tree) (n : Needed) → Allows (with_needs constant t n) → SaysOnly P constant t
+  says constant (tree.variable text at) n a = name_said constant text n a
+  says constant (tree.call text args at) n a = (
+    none_made constant n (before (with_call constant n) (with_needs constant args (with_call constant n)) (grows constant args (with_call constant n)) a),
+    says constant args (with_call constant n) a,
+  )
+  says constant (tree.cons t ts) n a = both constant constant t ts n (λ x. says constant t n x) (λ x. says constant ts (with_needs constant t n) x) a
+  says constant (tree.present t) n a = says constant t n a
+  says constant (tree.paren e at) n a = says constant e n a
+  says constant (tree.if_expr test first other at) n a =
+      let m = with_needs constant test n in
+      let o = with_needs constant first m in
+      let b = before o (with_needs constant other o) (grows constant other o) a in
+      (says constant test n (before m o (grows constant first m) b), says constant first m b, says constant other o a)
+  says constant (tree.list items at) n a = says constant items n a
+  says constant (tree.comp item gens at) n a = both constant true item gens n (λ x. says constant item n x) (λ x. says true gens (with_needs constant item n) x) a
+  says constant (tree.gen shape x from to at) n a =
+      let m = with_needs true shape n in
+      let o = with_needs true from m in
+      let b = before o (with_needs true to o) (grows true to o) a in
+      (says true shape n (before m o (grows true from m) b), says true from m b, says true to o a)
+  says constant (tree.index base place at) n a = both constant constant base place n (λ x. says constant base n x) (λ x. says constant place (with_needs constant base n) x) a
+  says constant (tree.prefix op e at) n a = says constant e n a
+  says constant (tree.binary op l r at) n a = both constant constant l r n (λ x. says constant l n x) (λ x. says constant r (with_needs constant l n) x) a
+  says constant (tree.type_of x args at) n a = says true args n a
+  says constant (tree.shape_arg x shape) n a = says true shape n a
+  says constant (tree.value_arg x value) n a = says true value n a
+  says constant (tree.port shape x at) n a = says true shape n a
+  says constant (tree.var shape x start changes at) n a = both true false shape start n (λ x. says true shape n x) (λ x. says false start (with_needs true shape n) x) a
+  says constant (tree.function x formals result vars body at) n a =
+      let m = with_needs false formals n in
+      let o = with_needs true result m in
+      let p = with_needs false vars o in
+      let c = before p (with_needs false body p) (grows false body p) a in
+      let b = before o p (grows false vars o) c in
+      (says false formals n (before m o (grows true result m) b), says true result m b, says false vars o c, says false body p a)
+  says constant other n a = tt
+
+  grow_all : (fs : List FunDecl) (n : Needed) → Grows n (with_funs_needs fs n)
+  grow_all [] n = same n
+  grow_all (f ∷ fs) n = and_then n (with_needs false f.decl n) (with_funs_needs fs (with_needs false f.decl n)) (grows false f.decl n) (grow_all fs (with_needs false f.decl n))
+
+  all_say : (fs : List FunDecl) (n : Needed) → Allows (with_funs_needs fs n) → AllSay P fs
+  all_say [] n a = tt
+  all_say (f ∷ fs) n a =
+      let m = with_needs false f.decl n in
+      (says false f.decl n (before m (with_funs_needs fs m) (grow_all fs m) a), all_say fs m a)
+
+-- functions say only what they need, if they call nothing there
+pub need_all : (P : List ℕ → Type 0) (fs : List FunDecl) → ((x : List ℕ) → is_seen x (needs_of fs).names ≡ true → P x) → (needs_of fs).calls ≡ false → AllSay P fs
+need_all P fs h i = all_say P fs nothing (record { names = h; calls = i })

@@ -1,0 +1,169 @@
+-- What functions need where they stand: the names that are said in what must be constant in them, the sizes of types and
+-- the bounds of generators, and whether a function is called there.
+-- Not trusted: no promise is read with it.
+use Rattle.std.specs.Prelude.{◌≡◌, ℕ, Bool, true, false, ◌||◌, List, [], ◌∷◌, OnOk, length, map, option_map, if◌then◌else◌, Option, None, Some}
+use Rattle.std.specs.declared.result.Result.{Result}
+use Rattle.rvc_base.specs.declared.memory.Memory.{Memory}
+use Rattle.cal_ast.specs.Tree as tree
+use Rattle.cal_ast.specs.Tree.{Tree, listed}
+use Rattle.cal_ast.specs.View.{expr_tree, gen_tree, port_tree, type_arg_tree, var_tree}
+use Rattle.cal_ast.specs.declared.expr.Expr.{Expr}
+use Rattle.cal_ast.specs.declared.expr.Gen.{Gen}
+use Rattle.cal_ast.specs.declared.expr.TypeArg.{TypeArg}
+use Rattle.cal_ast.specs.declared.member.PortDecl.{PortDecl}
+use Rattle.cal_ast.specs.declared.member.VarDecl.{VarDecl}
+use Rattle.cal_model.specs.Kinding.{Known, Names}
+use Rattle.cal_model.specs.Tags.{is_seen, with_seen}
+use Rattle.cal_check.specs.Routines.{FunDecl, funs_after}
+use Rattle.cal_check.specs.Variables.{seen}
+use Rattle.const_eval.specs.Held.{Kept as Environment, names_in}
+use Rattle.seen_names.specs.Known.{names_alone}
+
+-- names in order of first appearance, and whether something is called
+pub record Needed : Type 0 where
+  pub names : List (List ℕ)
+  pub calls : Bool
+
+abbrev pub nothing : Needed
+nothing = record { names = []; calls = false }
+
+-- a name is said, or a function is called, in what must be constant or elsewhere
+
+abbrev pub with_name : Bool → List ℕ → Needed → Needed
+with_name constant name n =
+    if constant then record { names = with_seen n.names name; calls = n.calls } else n
+
+abbrev pub with_call : Bool → Needed → Needed
+with_call constant n = if constant then record { names = n.names; calls = true } else n
+
+-- what a part needs besides, all of which must be constant or not
+abbrev pub with_needs : Bool → Tree → Needed → Needed
+with_needs constant (tree.variable text at) n = with_name constant text n
+with_needs constant (tree.call text args at) n = with_needs constant args (with_call constant n)
+with_needs constant (tree.cons t ts) n = with_needs constant ts (with_needs constant t n)
+with_needs constant (tree.present t) n = with_needs constant t n
+with_needs constant (tree.paren e at) n = with_needs constant e n
+with_needs constant (tree.if_expr test first other at) n =
+    with_needs constant other (with_needs constant first (with_needs constant test n))
+with_needs constant (tree.list items at) n = with_needs constant items n
+with_needs constant (tree.comp item gens at) n = with_needs true gens (with_needs constant item n)
+with_needs constant (tree.gen shape x from to at) n =
+    with_needs true to (with_needs true from (with_needs true shape n))
+with_needs constant (tree.index base place at) n =
+    with_needs constant place (with_needs constant base n)
+with_needs constant (tree.prefix op e at) n = with_needs constant e n
+with_needs constant (tree.binary op l r at) n = with_needs constant r (with_needs constant l n)
+with_needs constant (tree.type_of x args at) n = with_needs true args n
+with_needs constant (tree.shape_arg x shape) n = with_needs true shape n
+with_needs constant (tree.value_arg x value) n = with_needs true value n
+with_needs constant (tree.port shape x at) n = with_needs true shape n
+with_needs constant (tree.var shape x start changes at) n =
+    with_needs false start (with_needs true shape n)
+with_needs constant (tree.function x formals result vars body at) n =
+    with_needs false body
+    (with_needs false vars (with_needs true result (with_needs false formals n)))
+with_needs constant other n = n
+
+-- .. of several functions
+abbrev pub with_funs_needs : List FunDecl → Needed → Needed
+with_funs_needs [] n = n
+with_funs_needs (f ∷ fs) n = with_funs_needs fs (with_needs false f.decl n)
+
+abbrev pub needs_of : List FunDecl → Needed
+needs_of fs = with_funs_needs fs nothing
+
+-- ---- what calls answer
+
+abbrev pub AddsTo : Result (Unit {0}) Memory → (Needed → Needed) → (old new : Needed) → Type 0
+AddsTo result adding old new = OnOk result (new ≡ adding old)
+
+-- what this part needs was added
+abbrev pub AddsNeeds : Result (Unit {0}) Memory → Bool → Tree → (old new : Needed) → Type 0
+AddsNeeds result constant part old new = OnOk result (new ≡ with_needs constant part old)
+
+-- .. with what two or three parts need
+
+abbrev pub with_both : Bool → (first second : Tree) → Needed → Needed
+with_both constant first second n = with_needs constant second (with_needs constant first n)
+
+abbrev pub with_three : Bool → (first second third : Tree) → Needed → Needed
+with_three constant first second third n =
+    with_needs constant third (with_both constant first second n)
+
+abbrev pub with_comp : Bool → (item gens : Tree) → Needed → Needed
+with_comp constant item gens n = with_needs true gens (with_needs constant item n)
+
+-- ---- lists of parts as trees
+
+abbrev pub exprs_tree : List Expr → Tree
+exprs_tree exprs = listed (map expr_tree exprs)
+
+abbrev pub gens_tree : List Gen → Tree
+gens_tree gens = listed (map gen_tree gens)
+
+abbrev pub type_args_tree : List TypeArg → Tree
+type_args_tree args = listed (map type_arg_tree args)
+
+abbrev pub formals_tree : List PortDecl → Tree
+formals_tree formals = listed (map port_tree formals)
+
+abbrev pub vars_tree : List VarDecl → Tree
+vars_tree vars = listed (map var_tree vars)
+
+-- ---- rounds
+
+-- so many rounds find all functions
+abbrev pub AreEnough : ℕ → List FunDecl → Type 0
+AreEnough n fs = (names : Names) → funs_after n fs names ≡ funs_after (length fs) fs names
+
+-- ---- names that become known
+
+-- what is kept of names: without functions, what the functions need, and the names with the functions, if they were made
+pub record Kept : Type 0 where
+  pub alone : Names
+  pub needs : Needed
+  pub seen : Option Names
+
+abbrev pub AreThose : Option Names → Names → Type 0
+AreThose None names = Unit {0}
+AreThose (Some found) names = found ≡ names
+
+-- .. as it lies in memory
+pub record Growing : Type 0 where
+  pub alone : Environment
+  pub needs : Needed
+  pub seen : Option Environment
+
+abbrev pub kept_in : Growing → Kept
+kept_in names = record {
+  alone = names_in names.alone;
+  needs = names.needs;
+  seen = option_map names_in names.seen;
+}
+
+-- it is kept of these functions over names that are known
+pub record IsKept (kept : Kept) (fs : List FunDecl) (known : List Known) : Type 0 where
+  pub alone : kept.alone ≡ names_alone known
+  pub needs : kept.needs ≡ needs_of fs
+  pub seen : AreThose kept.seen (seen fs known)
+
+-- a function may be another once a name is known
+abbrev pub may_change : Needed → List ℕ → Bool
+may_change needs name = needs.calls || is_seen name needs.names
+
+abbrev pub with_global : Known → Names → Names
+with_global x names = record names { globals = x ∷ names.globals }
+
+-- the names with the functions, once one name more is known
+abbrev pub grown : Known → Needed → Option Names → Option Names
+grown x needs names = if may_change needs x.name then None else option_map (with_global x) names
+
+-- one name more is known alone, and with the functions
+
+abbrev pub with_alone : Known → Kept → Kept
+with_alone x kept =
+    record { alone = with_global x kept.alone; needs = kept.needs; seen = kept.seen }
+
+abbrev pub with_grown : Known → Kept → Kept
+with_grown x kept =
+    record { alone = kept.alone; needs = kept.needs; seen = grown x kept.needs kept.seen }
