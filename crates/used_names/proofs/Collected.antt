@@ -4,7 +4,7 @@ use Rattle.std.specs.Prelude.{if◌then◌else◌}
 use Rattle.std.specs.Str.{bytes_eq}
 use Rattle.cal_ast.specs.Tree as tree
 use Rattle.cal_ast.specs.Tree.{Tree}
-use Rattle.cal_model.proofs.KindNames.{same-text, text-same}
+use Rattle.cal_model.proofs.KindNames.{same-text}
 use Rattle.cal_model.specs.Tags.{is_seen, with_seen}
 use Rattle.cal_check.specs.Actors.{uses}
 use Rattle.used_names.proofs.Keys.{eq_turned}

@@ -1,7 +1,7 @@
-use Rattle.std.proofs.Common.{◌≡◌, ◌≤◌, [], length, map, reverse, sym, subst, arith, rules}
+use Rattle.std.proofs.Common.{◌≡◌, ◌∙◌, [], length, map, reverse, sym, subst, arith, rules}
 use Rattle.cal_ast.specs.View.{actor_tree}
 use Rattle.used_names.specs.Naming.{with_names}
-use Rattle.used_names.specs.Using.{IsFound, IsSettled, outer_view, round_left, round_names}
+use Rattle.used_names.specs.Using.{IsFound, outer_view}
 use Rattle.used_names.proofs.Found.{round_done, round_few, round_is, start_found, turned_found, turned_length}
 use Rattle.used_names.proofs.used.found_names.Goals as goal
 
@@ -19,16 +19,14 @@ rounds-init c =
 pub rounds-preserved : goal.rounds-preserved
 rounds-preserved c =
     let items = c.rounds.left.items in
-    let turned = c.reverse-in-rounds.new.items in
+    let turned = c.deref.result.now in
     let found = c.in_ok-left-2.left.items in
-    let other_way : turned ≡ reverse items = search rules in
-    let left : map outer_view found ≡ round_left (map outer_view turned) c.rounds.names = search rules in
-    let names : c.round-in-rounds.new.names ≡ round_names (map outer_view turned) c.rounds.names = search rules in
+    let other_way : turned ≡ reverse items = c.deref.ensures.value ∙ c.reverse.ensures.items in
     let as_many : length turned ≡ length items = turned_length items turned other_way in (
-      λ s is. round_is s c.rounds.names c.round-in-rounds.new.names (map outer_view turned) (map outer_view found) names left
+      λ s is. round_is s c.rounds.names c.round-in-rounds.new.names (map outer_view turned) (map outer_view found) c.in_ok-left-2.ensures.names c.in_ok-left-2.ensures.left
           (turned_found outer_view s c.rounds.names items turned other_way (c.rounds.invariant.0 s is)),
-      (let few = round_few outer_view c.rounds.names turned found left in omega arith),
-      λ e. round_done outer_view c.rounds.names turned found left c.round-in-rounds.new.names names (omega arith),
+      (let few = round_few outer_view c.rounds.names turned found c.in_ok-left-2.ensures.left in omega arith),
+      λ e. round_done outer_view c.rounds.names turned found c.in_ok-left-2.ensures.left c.round-in-rounds.new.names c.in_ok-left-2.ensures.names (omega arith),
     )
 
 pub returns : goal.returns
