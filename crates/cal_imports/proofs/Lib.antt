@@ -5,7 +5,6 @@ mod Walks
 mod Stacks
 mod Sizes
 mod FoundNodes
-mod FoundUnits
 mod Behind
 mod Rows
 mod Ordered
