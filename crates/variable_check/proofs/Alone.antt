@@ -1,18 +1,19 @@
 -- Variables that call no function are judged over the names alone, and others over the names with the functions.
 use Rattle.std.proofs.Common.{◌≡◌, Bool, true, false, List, [], ◌∷◌, ◌++◌, map, refl, sym, ap, subst, ◌∙◌}
-use Rattle.std.specs.Prelude.{◌||◌, Option, Some, if◌then◌else◌}
+use Rattle.std.specs.Prelude.{◌||◌, Some, option_map, if◌then◌else◌}
 use Rattle.std.specs.declared.result.Result.{Result}
 use Rattle.rvc_base.specs.declared.refusal.Front.{Front}
 use Rattle.cal_model.specs.Value.{Shape}
 use Rattle.cal_model.specs.Kinding.{Judged, Fine, Broken, Known, Names}
+use Rattle.const_eval.specs.Held.{Kept as Environment, names_in}
 use Rattle.cal_check.specs.Constants.{early_type}
 use Rattle.cal_check.specs.Routines.{FunDecl}
 use Rattle.cal_check.specs.Variables.{Given, Spot, VarDecl, Valued, come, seen, with_come, with_type, with_var}
 use Rattle.seen_names.specs.Calls.{StartsAreSame, TypesAreSame, calls_any}
 use Rattle.seen_names.specs.Known.{all_known, known_view, names_alone}
-use Rattle.seen_names.specs.Needs.{IsKept, Kept as Growing}
+use Rattle.seen_names.specs.Needs.{AreThose, Growing, IsKept, kept_in}
 use Rattle.seen_names.specs.declared.known.KnownName.{KnownName}
-use Rattle.variable_check.specs.Valuing.{Declares, Values}
+use Rattle.variable_check.specs.Valuing.{AreSeen, Declares, Values}
 use Rattle.variable_check.specs.declared.valued.Valued.{Valued as Kept}
 use Rattle.variable_check.proofs.Adding.{last_behind}
 
@@ -46,8 +47,12 @@ declares_alone types starts r old new x gs owner fs names w e none d xs vs h =
 
 -- ---- over the names with the functions
 
-pub some_same : {A : Type 0} (a b : A) (o : Option A) → Some a ≡ o → o ≡ Some b → a ≡ b
-some_same a b o h i = cc
+pub seen_is : (names : Growing) (env : Environment) (fs : List FunDecl) (known : List Known) → Some env ≡ names.seen → IsKept (kept_in names) fs known → names_in env ≡ seen fs known
+seen_is names env fs known e kept = subst (λ o. AreThose (option_map names_in o) (seen fs known)) (sym e) kept.seen
+
+-- it is kept of the same names
+pub kept_same : (names : Growing) (fs : List FunDecl) (old new : Kept) → new.known.items ≡ old.known.items → AreSeen names fs old → AreSeen names fs new
+kept_same names fs old new e kept = subst (λ ks. IsKept (kept_in names) fs (all_known ks)) (sym e) kept
 
 pub declares_seen : (r : Result (Unit {0}) Front) (old new : Kept) (x : VarDecl) (gs : List Given) (owner : Spot) (fs : List FunDecl) (names : Names) → old.whole ≡ true
     → names ≡ seen fs (all_known old.known.items) → Declares r (x ∷ []) (with_type (early_type x.shape names) x gs owner names) old new → Declares r (x ∷ []) (with_var x gs owner fs) old new
@@ -64,10 +69,10 @@ same_head x y xs ys h = cc
 
 -- the last of the names became known
 pub last_kept : (old new : Growing) (fs : List FunDecl) (known front before : List KnownName) (last x : KnownName) → known ≡ front ++ last ∷ []
-    → ((gs : List FunDecl) (ks : List Known) → IsKept old gs ks → IsKept new gs (known_view last ∷ ks)) → known ≡ before ++ x ∷ [] → IsKept old fs (all_known before)
-    → IsKept new fs (all_known known)
+    → ((gs : List FunDecl) (ks : List Known) → IsKept (kept_in old) gs ks → IsKept (kept_in new) gs (known_view last ∷ ks)) → known ≡ before ++ x ∷ [] → IsKept (kept_in old) fs (all_known before)
+    → IsKept (kept_in new) fs (all_known known)
 last_kept old new fs known front before last x split adds parts kept =
     let own : all_known known ≡ known_view x ∷ all_known before = ap all_known parts ∙ last_behind known_view before x [] in
     let other : all_known known ≡ known_view last ∷ all_known front = ap all_known split ∙ last_behind known_view front last [] in
     let same : known_view last ≡ known_view x = same_head (known_view last) (known_view x) (all_known front) (all_known before) (sym other ∙ own) in
-    subst (IsKept new fs) (ap (λ k. k ∷ all_known before) same ∙ sym own) (adds fs (all_known before) kept)
+    subst (IsKept (kept_in new) fs) (ap (λ k. k ∷ all_known before) same ∙ sym own) (adds fs (all_known before) kept)

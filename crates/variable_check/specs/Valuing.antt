@@ -21,7 +21,7 @@ use Rattle.cal_check.specs.Violations.{Violation, said, violation}
 use Rattle.cal_check.specs.Variables.{Come, Found, Given, Spot, VarDecl, Valued, found_in, is_none, param_broken, value_of}
 use Rattle.cal_check.specs.Routines.{FunDecl}
 use Rattle.seen_names.specs.Known.{all_known}
-use Rattle.seen_names.specs.Needs.{IsKept, Kept as Growing}
+use Rattle.seen_names.specs.Needs.{Growing, IsKept, kept_in}
 use Rattle.seen_names.specs.declared.known.KnownName.{KnownName}
 use Rattle.variable_check.specs.Causes.{IsCause, IsSaid, SaysRule, inconstant}
 use Rattle.variable_check.specs.declared.starting.Started.{Started}
@@ -187,4 +187,4 @@ Grows old new = grows_if new.whole old new
 
 -- what is kept of names is of those that are known, and of these functions
 abbrev pub AreSeen : Growing → List FunDecl → Kept → Type 0
-AreSeen names fs v = IsKept names fs (all_known v.known.items)
+AreSeen names fs v = IsKept (kept_in names) fs (all_known v.known.items)

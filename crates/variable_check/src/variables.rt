@@ -12,7 +12,7 @@ ghost use Rattle.const_eval.specs.Judging.{Breaks};
 ghost use Rattle.seen_names.specs.Calls.{calls_any};
 ghost use Rattle.cal_check.specs.Routines.{FunDecl};
 ghost use Rattle.seen_names.specs.Known.{all_known, fun_decls, names_differ};
-ghost use Rattle.seen_names.specs.Needs.{IsKept};
+ghost use Rattle.seen_names.specs.Needs.{IsKept, kept_in};
 ghost use Rattle.variable_check.specs.Views.{all_given, spot_of, var_decl, var_decls};
 ghost use Rattle.variable_check.specs.Valuing.{AreSeen, Declares, Grows, Settles, Untypes, said_of};
 
@@ -182,8 +182,8 @@ fn add_alone(
 /// The last of the names that are known becomes known.
 fn add_last(names: &mut GrowingNames, known: &[KnownName]) -> Result<(), Memory>
     ensures { OnOk result ((fs : List FunDecl) (before : List KnownName) (x : KnownName)
-        → known.now ≡ before ++ x ∷ [] → IsKept names.old fs (all_known before)
-        → IsKept names.new fs (all_known known.now)) }
+        → known.now ≡ before ++ x ∷ [] → IsKept (kept_in names.old) fs (all_known before)
+        → IsKept (kept_in names.new) fs (all_known known.now)) }
 {
     let Some((last, _)) = known.split_last() else {
         return Ok(());
