@@ -1,8 +1,8 @@
 #!/usr/bin/env bash
 # Checks sources of many like parts by `rvc` from the command line, and prints processor seconds: of some 100,000 and some
-# 1,000,000 bytes, and how many times as long ten times as many parts take. What takes ten times as long goes with the text,
-# what takes a hundred times as long with the square of the parts. It writes nothing into the checkout but the program.
-# The words behind the seconds choose the shapes whose names have all of them.
+# 1,000,000 bytes, or of 100 and of 1,000 files or instances, and how many times as long ten times as many parts take. What
+# takes ten times as long goes with the text, what takes a hundred times as long with the square of the parts. It writes
+# nothing into the checkout but the program.
 set -eu
 here=$(cd -- "$(dirname -- "${BASH_SOURCE[0]}")" && pwd)
 top=$(cd -- "$here/../.." && pwd)

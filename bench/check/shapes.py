@@ -1,4 +1,7 @@
-"""Sources of many like parts, of about a given size: each shape gives files by their names, and how many parts there are."""
+"""Sources of many like parts, of about a given size, or of so many files or instances.
+
+Each shape gives files by their names, and how many parts there are.
+"""
 
 HEAD = "actor B() int In ==> int Out : "
 ACTIONS = " ".join("t%d: action In:[a] ==> end" % k for k in range(256))

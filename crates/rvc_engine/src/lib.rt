@@ -5,8 +5,8 @@
 //!
 //! [`build`] goes on to an [`Image`]: each distinct actor is lowered, and it is told whether it is certified.
 //!
-//! `specs/` says which top the words name (`Top`), what was checked (`Checked`) and what refuses a top (`Refused`), what an
-//! image is (`Built`) and why there is none (`NoImage`).
+//! `specs/` says which top the words name (`Top`), what was checked (`Checked`) and what refuses a top, and why nothing
+//! is given (`Refused`), and what an image is (`Built`).
 #![tactic(auto)]
 
 mod building;

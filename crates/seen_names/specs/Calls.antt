@@ -1,5 +1,5 @@
 -- Parts that call no function: over any functions they are what they are over the names alone.
--- Trusted but for `calls_any`: part of what a promise means.
+-- Trusted: part of what a promise means.
 use Rattle.std.specs.Prelude.{◌≡◌, Bool, true, false, ◌||◌, List}
 use Rattle.cal_ast.specs.Tree as tree
 use Rattle.cal_ast.specs.Tree.{Tree}

@@ -1,5 +1,5 @@
 -- Names that are known, and functions as they are declared, without where they lie in memory.
--- Trusted but for `value_seen`, `known_at`, `names_alone`, `is_named_in` and `AreNew`: part of what a promise means.
+-- Trusted but for `value_seen`, `known_at` and `AreNew`: part of what a promise means.
 use Rattle.std.specs.Prelude.{◌≡◌, ℕ, Bool, true, false, not, ◌&&◌, ◌||◌, List, [], ◌∷◌, map, string_bytes, Option, None, Some, if◌then◌else◌}
 use Rattle.std.specs.Str.{bytes_eq}
 use Rattle.cal_ast.specs.View.{function_tree}

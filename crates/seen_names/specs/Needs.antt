@@ -1,6 +1,7 @@
 -- What functions need where they stand: the names that are said in what must be constant in them, the sizes of types and
 -- the bounds of generators, and whether a function is called there.
--- Not trusted: no promise is read with it.
+-- Trusted but for `AddsTo`, `AddsNeeds`, `AreEnough`, `may_change`, `with_global`, `grown`, `with_alone`, `with_grown`,
+-- `with_both`, `with_three`, `with_comp` and the lists of parts as trees: part of what a promise means.
 use Rattle.std.specs.Prelude.{◌≡◌, ℕ, Bool, true, false, ◌||◌, List, [], ◌∷◌, OnOk, length, map, option_map, if◌then◌else◌, Option, None, Some}
 use Rattle.std.specs.declared.result.Result.{Result}
 use Rattle.rvc_base.specs.declared.memory.Memory.{Memory}
