@@ -8,4 +8,4 @@ pub returns-clause-declares : goal.returns-clause-declares
 returns-clause-declares c =
     let fs = fun_decls c.args.told.funs.now in
     declares_seen c.add_over.result c.args.so_far.now c.add_over.new.so_far (var_decl c.args.x) (all_given c.args.told.given.now) (spot_of c.args.told.owner) fs (names_in c.seen.result.now)
-    c.requires.whole (seen_is c.make.new.self c.seen.result.now fs (all_known c.args.so_far.now.known.items) c.seen.ensures c.in-Ok-make.ensures.kept) c.add_over.ensures.declares
+    c.requires.whole (seen_is c.make.new.self c.seen.result.now fs (all_known c.args.so_far.now.known.items) c.seen.ensures c.in-Ok.ensures.kept) c.add_over.ensures.declares
