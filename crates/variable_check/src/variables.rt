@@ -218,6 +218,25 @@ fn add_variable(
     }
 }
 
+/// Adds variables in their order.
+fn add_all(
+    told: Told<'_>,
+    so_far: &mut Valued,
+    names: &mut GrowingNames,
+    vars: &[DeclaredVar],
+) -> Result<(), Front>
+    requires differ { names_differ (fun_decls told.funs.now) ≡ true }
+    requires names { AreSeen names.old (fun_decls told.funs.now) so_far.old }
+    ensures { Declares result (var_decls vars.now) (valued (var_decls vars.now)
+        (all_given told.entry.given.now) (spot_of told.entry.owner) (fun_decls told.entry.funs.now))
+        so_far.old so_far.new }
+{
+    for x in vars {
+        add_variable(told, so_far, names, *x)?;
+    }
+    Ok(())
+}
+
 /// What variables come to behind others: each sees those before it and all functions (ISO/IEC 23001-4, RVC-CAL: state
 /// variables and parameters). The names of the functions differ, which [`names_differ`](seen_names::names_differ) tests.
 ///
@@ -241,8 +260,5 @@ pub fn value_all(told: Told<'_>, so_far: &mut Valued, vars: &[DeclaredVar]) -> R
     let Ok(mut names) = GrowingNames::new(told.alloc, &so_far.known, told.funs) else {
         return Err(Front::Memory);
     };
-    for x in vars {
-        add_variable(told, so_far, &mut names, *x)?;
-    }
-    Ok(())
+    add_all(told, so_far, &mut names, vars)
 }

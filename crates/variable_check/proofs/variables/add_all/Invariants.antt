@@ -4,7 +4,7 @@ use Rattle.seen_names.specs.Known.{fun_decls}
 use Rattle.variable_check.specs.Views.{all_given, spot_of, var_decls}
 use Rattle.variable_check.specs.Valuing.{AreSeen, IsValued}
 use Rattle.variable_check.proofs.Adding.{AreAdded}
-use Rattle.variable_check.proofs.variables.value_all.Given as goal
+use Rattle.variable_check.proofs.variables.add_all.Given as goal
 
 abbrev pub invariant-loop-x : goal.invariant-loop-x
 invariant-loop-x l = record {

@@ -5,7 +5,7 @@ use Rattle.cal_check.specs.Variables.{valued}
 use Rattle.variable_check.specs.Valuing.{Values}
 use Rattle.variable_check.specs.Views.{all_given, spot_of, var_decl, var_decls}
 use Rattle.variable_check.proofs.Adding.{AreAdded, added_all, added_more, added_refused, opened}
-use Rattle.variable_check.proofs.variables.value_all.Goals as goal
+use Rattle.variable_check.proofs.variables.add_all.Goals as goal
 
 pub loop-x-preserved : goal.loop-x-preserved
 loop-x-preserved c =
