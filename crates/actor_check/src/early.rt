@@ -1,11 +1,11 @@
 //! What the variables of an actor come to, and what its header sees.
 
 ghost use Rattle.std.specs.Prelude.{◌≡◌, IfErr, true};
-ghost use Rattle.cal_check.specs.Actors.{all_funs, before_members};
+ghost use Rattle.cal_check.specs.Actors.{all_funs, all_valued, before_members, declared_vars};
 ghost use Rattle.const_eval.specs.Held.{names_in};
 ghost use Rattle.seen_names.specs.Known.{fun_decls, names_differ};
 ghost use Rattle.variable_check.specs.Causes.{SaysRule};
-ghost use Rattle.variable_check.specs.Valuing.{Finds, IsValued};
+ghost use Rattle.variable_check.specs.Valuing.{Finds, IsValued, Values};
 ghost use Rattle.variable_check.specs.Views.{all_given, spot_of};
 ghost use Rattle.actor_check.specs.Early.{FindsEarly, vars_before, wrongly_given};
 ghost use Rattle.actor_check.specs.Parts.{header_names};
@@ -26,6 +26,21 @@ pub(crate) struct Early {
     pub values: Valued,
 }
 
+/// Adds the actor's own variables behind those of other files and the parameters.
+fn add_own(told: Told<'_>, scope: &Scope, values: &mut Valued) -> Result<(), Front>
+    requires funs { fun_decls told.funs.now ≡ all_funs (source_in scope.now) }
+    requires differ { names_differ (fun_decls told.funs.now) ≡ true }
+    requires before { IsValued (vars_before (source_in scope.now)) values.old
+        (before_members (source_in scope.now) (all_given told.given.now) (spot_of told.owner)) }
+    ensures { Values result (declared_vars (source_in scope.now)) values.new
+        (all_valued (source_in scope.now) (all_given told.entry.given.now) (spot_of told.entry.owner)) }
+{
+    let Ok(own) = declared_own(told.alloc, scope) else {
+        return Err(Front::Memory);
+    };
+    value_all(told, values, &own)
+}
+
 /// The same, with the actor's own variables behind those of other files and the parameters.
 fn with_own(told: Told<'_>, scope: &Scope, header: Env, before: Valued) -> Result<Early, Front>
     requires funs { fun_decls told.funs.now ≡ all_funs (source_in scope.now) }
@@ -36,12 +51,11 @@ fn with_own(told: Told<'_>, scope: &Scope, header: Env, before: Valued) -> Resul
         (before_members (source_in scope.now) (all_given told.given.now) (spot_of told.owner)) }
     ensures { FindsEarly result (source_in scope.now) (all_given told.entry.given.now) (spot_of told.entry.owner) }
 {
-    let Ok(own) = declared_own(told.alloc, scope) else {
-        return Err(Front::Memory);
-    };
     let mut values = before;
-    value_all(told, &mut values, &own)?;
-    Ok(Early { header, values })
+    match add_own(told, scope, &mut values) {
+        Ok(()) => Ok(Early { header, values }),
+        Err(fault) => Err(fault),
+    }
 }
 
 /// What the variables of an actor come to, and what its header sees: what other files declare, and the parameters.
