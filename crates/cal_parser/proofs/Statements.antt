@@ -1,5 +1,5 @@
 -- Statements: what the functions that read them do, exit by exit.
-use Rattle.std.proofs.Common.{◌≡◌, ℕ, ◌-◌, ◌≤◌, true, false, nat_le, Result, List, [], ◌∷◌, map, Option, Some, Vec, Global, string_bytes, Ok, Err, refl, sym, ap, ◌∙◌, arith}
+use Rattle.std.proofs.Common.{◌≡◌, ℕ, ◌-◌, ◌≤◌, true, false, nat_le, Result, List, [], ◌∷◌, map, Option, Some, Vec, Box, Global, string_bytes, Ok, Err, refl, sym, ap, ◌∙◌, arith}
 use Rattle.std.proofs.lemmas.Bool.{le-leb}
 use Rattle.look_ahead.specs.Program.{Gave, Refused, TooHigh, give, enter, take, fail, invoke, ahead, exec}
 use Rattle.cal_ast.specs.Tree.{Tree, nil, cons, present, absent, listed, if_stmt, while_stmt, foreach_stmt, block, assign, call_stmt}
@@ -16,11 +16,11 @@ use Rattle.cal_grammar.specs.Operators.{ends}
 use Rattle.cal_parser.specs.Pieces.{expr_then, body_then, vars_then, range_then, call_rest, assign_rest, else_rest, Does, DoesIf, Leads, LeadsRange}
 use Rattle.cal_grammar.specs.Rules.{part, read, Step, on, expect, named, finish, first, starts_stmt, stmt_body, named_stmt_body, if_stmt_body, while_body, foreach_body, block_body, ident_of}
 use Rattle.cal_grammar.specs.Spells.{Part, comma, separated, any, repeated, a_type, a_var, a_place, a_stmt, an_expr, otherwise}
-use Rattle.cal_expr.specs.Tells.{Tells, TellsFault, each}
+use Rattle.cal_expr.specs.Tells.{Tells, TellsFault, boxed, each}
 use Rattle.cal_grammar.specs.Token.{here, names, same_word}
 use Rattle.cal_expr.specs.declared.fault.Fault.{Fault}
 use Rattle.cal_expr.specs.declared.fault.Fault.TheVariants as faults
-use Rattle.cal_parser.specs.declared.stmts.Bounds.{Bounds}
+use Rattle.cal_parser.specs.declared.built.Bounds.{Bounds}
 use Rattle.cal_grammar.proofs.Reading.{read_is}
 use Rattle.cal_parser.proofs.Steps.{fault_on, on_yes, on_no, expect_yes, expect_no, expect_fails, named_yes, named_fails, finish_yes, finish_no, invoke_yes, invoke_fails, enter_yes, enter_fails, end_yes, end_no, first_no, first_yes}
 
@@ -211,7 +211,7 @@ pub tells_on : {A : Type 0} (view : A → Tree) (m : ℕ) (p : Part) (n : Step) 
 tells_on view m p n old mid new (Ok x) e h = e ∙ h
 tells_on view m p n old mid new (Err fault) e h = fault_on fault new _ _ e h
 
-pub does_if : (m q : ℕ) (r : Result Stmt Fault) (old new : List Token) → DoesIf m q r old new → Does stmt_tree m (if_stmt_body (λ x. x) (placed Lexeme.If q)) r old new
+pub does_if : (m q : ℕ) (r : Result (Box Stmt Global) Fault) (old new : List Token) → DoesIf m q r old new → Does (boxed stmt_tree) m (if_stmt_body (λ x. x) (placed Lexeme.If q)) r old new
 does_if m q (Ok x) old new h = h (λ y. y) Lexeme.If
 does_if m q (Err fault) old new h = h (λ y. y) Lexeme.If
 
@@ -371,7 +371,7 @@ module _ (m : ℕ) (old a : List Token) (no_end : Stays (ends Lexeme.If) old a) 
         pub elsif_fails : (new : List Token) (fault : Fault) → DoesIf m q (Err fault) b new → Tells body_tree m (part otherwise) (Err fault) old new
         elsif_fails new fault h = fault_on fault new _ _ behind_elsif (h (λ x. present (cons x nil)) Lexeme.Elsif)
 
-        pub elsif_read : (x : Stmt) (ys : Vec Stmt Global) (new : List Token) → ys.items ≡ x ∷ [] → DoesIf m q (Ok x) b new → Tells body_tree m (part otherwise) (Ok (Some ys)) old new
+        pub elsif_read : (x : Box Stmt Global) (ys : Vec Stmt Global) (new : List Token) → ys.items ≡ x.value ∷ [] → DoesIf m q (Ok x) b new → Tells body_tree m (part otherwise) (Ok (Some ys)) old new
         elsif_read x ys new e h = behind_elsif ∙ h (λ y. present (cons y nil)) Lexeme.Elsif ∙ ap (λ l. Gave (present (listed (map stmt_tree l))) (plain_tokens new)) (sym e)
 
 -- the other statements behind their first words
@@ -395,10 +395,10 @@ pub foreach_no_range : (m q : ℕ) (old new : List Token) (fault : Fault) → Le
 foreach_no_range m q old new fault h = h (foreach_next q)
 
 pub foreach_no_body : (m q : ℕ) (r : Bounds) (old a new : List Token) (fault : Fault) → LeadsRange m (Ok r) old a → Leads (each stmt_tree) m (body_then Lexeme.Foreach) (Err fault) a new → Does stmt_tree m (foreach_body (placed Lexeme.Foreach q)) (Err fault) old new
-foreach_no_body m q r old a new fault h k = fault_on fault new _ _ (h (foreach_next q)) (k (λ zs. give (foreach_stmt (type_tree r.shape) (ident_tree r.name) (expr_tree r.from) (expr_tree r.to) zs q)))
+foreach_no_body m q r old a new fault h k = fault_on fault new _ _ (h (foreach_next q)) (k (λ zs. give (foreach_stmt (type_tree r.shape) (ident_tree r.name) (expr_tree r.from.value) (expr_tree r.to.value) zs q)))
 
-pub foreach_read : (m q : ℕ) (r : Bounds) (zs : Vec Stmt Global) (old a new : List Token) → LeadsRange m (Ok r) old a → Leads (each stmt_tree) m (body_then Lexeme.Foreach) (Ok zs) a new → exec read m (foreach_body (placed Lexeme.Foreach q)) (plain_tokens old) ≡ Gave (foreach_stmt (type_tree r.shape) (ident_tree r.name) (expr_tree r.from) (expr_tree r.to) (each stmt_tree zs) q) (plain_tokens new)
-foreach_read m q r zs old a new h k = h (foreach_next q) ∙ k (λ ts. give (foreach_stmt (type_tree r.shape) (ident_tree r.name) (expr_tree r.from) (expr_tree r.to) ts q))
+pub foreach_read : (m q : ℕ) (r : Bounds) (zs : Vec Stmt Global) (old a new : List Token) → LeadsRange m (Ok r) old a → Leads (each stmt_tree) m (body_then Lexeme.Foreach) (Ok zs) a new → exec read m (foreach_body (placed Lexeme.Foreach q)) (plain_tokens old) ≡ Gave (foreach_stmt (type_tree r.shape) (ident_tree r.name) (expr_tree r.from.value) (expr_tree r.to.value) (each stmt_tree zs) q) (plain_tokens new)
+foreach_read m q r zs old a new h k = h (foreach_next q) ∙ k (λ ts. give (foreach_stmt (type_tree r.shape) (ident_tree r.name) (expr_tree r.from.value) (expr_tree r.to.value) ts q))
 
 abbrev block_next : ℕ → Tree → Step
 block_next q xs = body_then Lexeme.Begin (λ ys. give (block xs ys q))

@@ -1,6 +1,7 @@
 -- Pieces of the rules that functions of their own read: the rest of a rule, or its front.
 -- Not trusted: no promise is read with it.
-use Rattle.std.specs.Prelude.{◌≡◌, ℕ, List, Result, Ok, Err}
+use Rattle.std.specs.Prelude.{◌≡◌, ℕ, List, Result, Ok, Err, Box}
+use Rattle.std.specs.declared.alloc.Global.{Global}
 use Rattle.look_ahead.specs.Program.{Gave, exec, give, invoke, enter}
 use Rattle.cal_ast.specs.Tree.{Tree, nil, present, assign, call_stmt}
 use Rattle.cal_ast.specs.View.{ident_tree, type_tree, expr_tree, stmt_tree}
@@ -8,10 +9,10 @@ use Rattle.cal_ast.specs.declared.stmt.Stmt.{Stmt}
 use Rattle.cal_lexer.specs.Lexeme.{Lexeme, placed, plain_tokens}
 use Rattle.cal_lexer.specs.declared.token.Token.{Token}
 use Rattle.cal_expr.specs.declared.fault.Fault.{Fault}
-use Rattle.cal_parser.specs.declared.stmts.Bounds.{Bounds}
+use Rattle.cal_parser.specs.declared.built.Bounds.{Bounds}
 use Rattle.cal_grammar.specs.Spells.{comma, separated, any, repeated, a_type, a_var, a_place, a_stmt, an_expr}
 use Rattle.cal_grammar.specs.Rules.{part, Step, read, on, expect, named, finish, ident_of, if_stmt_body}
-use Rattle.cal_expr.specs.Tells.{TellsFault}
+use Rattle.cal_expr.specs.Tells.{TellsFault, boxed}
 
 -- an expression, and what is made of it
 abbrev pub value_then : (Tree → Tree) → Step
@@ -63,7 +64,8 @@ Leads view m p (Err fault) old new = (next : Tree → Step)
 abbrev pub LeadsRange : ℕ → Result Bounds Fault → List Token → List Token → Type 0
 LeadsRange m (Ok r) old new = (next : Tree → Tree → Tree → Tree → Step)
     → exec read m (range_then next) (plain_tokens old)
-    ≡ exec read m (next (type_tree r.shape) (ident_tree r.name) (expr_tree r.from) (expr_tree r.to))
+    ≡ exec read m (next (type_tree r.shape) (ident_tree r.name) (boxed expr_tree r.from)
+    (boxed expr_tree r.to))
     (plain_tokens new)
 LeadsRange m (Err fault) old new = (next : Tree → Tree → Tree → Tree → Step)
     → TellsFault fault new (exec read m (range_then next) (plain_tokens old))
@@ -75,9 +77,9 @@ Does view m p (Ok x) old new = exec read m p (plain_tokens old) ≡ Gave (view x
 Does view m p (Err fault) old new = TellsFault fault new (exec read m p (plain_tokens old))
 
 -- the same of an `if` behind its first word, which stood at q, whatever is made of it
-abbrev pub DoesIf : ℕ → ℕ → Result Stmt Fault → List Token → List Token → Type 0
+abbrev pub DoesIf : ℕ → ℕ → Result (Box Stmt Global) Fault → List Token → List Token → Type 0
 DoesIf m q (Ok x) old new = (make : Tree → Tree) (w : Lexeme)
     → exec read m (if_stmt_body make (placed w q)) (plain_tokens old)
-    ≡ Gave (make (stmt_tree x)) (plain_tokens new)
+    ≡ Gave (make (boxed stmt_tree x)) (plain_tokens new)
 DoesIf m q (Err fault) old new = (make : Tree → Tree) (w : Lexeme)
     → TellsFault fault new (exec read m (if_stmt_body make (placed w q)) (plain_tokens old))

@@ -5,6 +5,7 @@
 #![tactic(auto)]
 
 mod actions;
+mod built;
 mod decls;
 mod files;
 mod lists;

@@ -9,26 +9,21 @@ ghost use Rattle.cal_parser.specs.Pieces.{Does, DoesIf, Leads, LeadsRange};
 ghost use Rattle.cal_grammar.specs.Rules.{block_body, foreach_body, named, named_stmt_body, part, starts_stmt, while_body};
 ghost use Rattle.cal_grammar.specs.Spells as spells;
 ghost use Rattle.cal_grammar.specs.Spells.{a_place, a_stmt, repeated};
-ghost use Rattle.cal_expr.specs.Tells.{Tells, each};
+ghost use Rattle.cal_expr.specs.Tells.{Tells, boxed, each};
 ghost use Rattle.cal_lexer.specs.Words.{lexeme_of};
 
+use crate::built::{
+    Bounds, built_assign, built_block, built_call, built_foreach, built_if, built_while,
+};
 use crate::lists::separated;
 use crate::names::Separator;
-use cal_ast::{Expr, Ident, Stmt, StmtForm, TypeExpr, VarDecl};
+use cal_ast::{Expr, Ident, Stmt, VarDecl};
 use cal_expr::cursor::{expect, finish, is_name, is_word, name, take_word};
-use cal_expr::expr::{args, expr, type_expr};
+use cal_expr::expr::{args, boxed_expr, expr, type_expr};
 use cal_expr::fault::Fault;
+use cal_expr::parts::with_part;
 use cal_lexer::{Token, Word};
 use std::alloc::Global;
-
-/// What a `foreach` runs over: `shape name in from .. to`.
-#[derive(Drop)]
-struct Bounds {
-    shape: TypeExpr,
-    name: Ident,
-    from: Expr,
-    to: Expr,
-}
 
 /// Whether a statement begins at the front.
 fn is_stmt(tokens: &[Token]) -> bool
@@ -53,16 +48,17 @@ pub fn stmts(alloc: Global, tokens: &mut &[Token], room: u32) -> Result<Vec<Stmt
             return Err(Fault::TooHigh);
         }
         let next = stmt(alloc, tokens, room)?;
-        found.push(next)?;
+        let more = with_part(found, next)?;
+        found = more;
     }
     Ok(found)
 }
 
 /// A statement, if there is room for one.
 #[cycle(stmt)]
-fn stmt(alloc: Global, tokens: &mut &[Token], room: u32) -> Result<Stmt, Fault>
+fn stmt(alloc: Global, tokens: &mut &[Token], room: u32) -> Result<Box<Stmt>, Fault>
     requires { 1 ≤ room }
-    ensures { Tells stmt_tree room (part a_stmt) result tokens.old.now tokens.new.now }
+    ensures { Tells (boxed stmt_tree) room (part a_stmt) result tokens.old.now tokens.new.now }
 {
     if is_name(tokens) {
         return named_stmt(alloc, tokens, room);
@@ -88,17 +84,15 @@ fn stmt(alloc: Global, tokens: &mut &[Token], room: u32) -> Result<Stmt, Fault>
 
 /// An `if` behind its first word.
 #[cycle(stmt)]
-fn if_rest(alloc: Global, tokens: &mut &[Token], room: u32, at: u32) -> Result<Stmt, Fault>
+fn if_rest(alloc: Global, tokens: &mut &[Token], room: u32, at: u32) -> Result<Box<Stmt>, Fault>
     requires { 1 ≤ room }
     ensures { DoesIf room at result tokens.old.now tokens.new.now }
 {
     let test = expr_before(alloc, tokens, room, Word::Then)?;
     let yes = stmts(alloc, tokens, room - 1)?;
     let no = otherwise(alloc, tokens, room - 1)?;
-    Ok(Stmt {
-        form: StmtForm::If { test, yes, no },
-        at,
-    })
+    let built = built_if(alloc, at, test, yes, no)?;
+    Ok(built)
 }
 
 /// What is done if the test of an `if` fails, up to the end of the `if`.
@@ -121,8 +115,7 @@ fn otherwise(alloc: Global, tokens: &mut &[Token], room: u32) -> Result<Option<V
     }
     let at = take_word(tokens, Word::Elsif);
     let test = if_rest(alloc, tokens, room, at)?;
-    let mut no = Vec::new(alloc);
-    no.push(test)?;
+    let no = with_part(Vec::new(alloc), test)?;
     Ok(Some(no))
 }
 
@@ -140,53 +133,46 @@ fn else_rest(alloc: Global, tokens: &mut &[Token], room: u32) -> Result<Option<V
 
 /// A `while` behind its first word.
 #[cycle(stmt)]
-fn while_rest(alloc: Global, tokens: &mut &[Token], room: u32, at: u32) -> Result<Stmt, Fault>
+fn while_rest(alloc: Global, tokens: &mut &[Token], room: u32, at: u32) -> Result<Box<Stmt>, Fault>
     requires { 1 ≤ room }
-    ensures { Does stmt_tree room (while_body (placed Lexeme.While at)) result tokens.old.now
-        tokens.new.now }
+    ensures { Does (boxed stmt_tree) room
+        (while_body (placed Lexeme.While at)) result tokens.old.now tokens.new.now }
 {
     let test = expr_before(alloc, tokens, room, Word::Do)?;
     let body = body_before(alloc, tokens, room, Word::While)?;
-    Ok(Stmt {
-        form: StmtForm::While { test, body },
-        at,
-    })
+    let built = built_while(alloc, at, test, body)?;
+    Ok(built)
 }
 
 /// A `foreach` behind its first word.
 #[cycle(stmt)]
-fn foreach_rest(alloc: Global, tokens: &mut &[Token], room: u32, at: u32) -> Result<Stmt, Fault>
+fn foreach_rest(
+    alloc: Global,
+    tokens: &mut &[Token],
+    room: u32,
+    at: u32,
+) -> Result<Box<Stmt>, Fault>
     requires { 1 ≤ room }
-    ensures { Does stmt_tree room (foreach_body (placed Lexeme.Foreach at)) result tokens.old.now
-        tokens.new.now }
+    ensures { Does (boxed stmt_tree) room
+        (foreach_body (placed Lexeme.Foreach at)) result tokens.old.now tokens.new.now }
 {
     let over = range(alloc, tokens, room)?;
     let body = body_before(alloc, tokens, room, Word::Foreach)?;
-    Ok(Stmt {
-        form: StmtForm::Foreach {
-            shape: over.shape,
-            name: over.name,
-            from: over.from,
-            to: over.to,
-            body,
-        },
-        at,
-    })
+    let built = built_foreach(alloc, at, over, body)?;
+    Ok(built)
 }
 
 /// A block behind its first word.
 #[cycle(stmt)]
-fn block_rest(alloc: Global, tokens: &mut &[Token], room: u32, at: u32) -> Result<Stmt, Fault>
+fn block_rest(alloc: Global, tokens: &mut &[Token], room: u32, at: u32) -> Result<Box<Stmt>, Fault>
     requires { 1 ≤ room }
-    ensures { Does stmt_tree room (block_body (placed Lexeme.Begin at)) result tokens.old.now
-        tokens.new.now }
+    ensures { Does (boxed stmt_tree) room
+        (block_body (placed Lexeme.Begin at)) result tokens.old.now tokens.new.now }
 {
     let vars = block_vars(alloc, tokens, room)?;
     let body = body_before(alloc, tokens, room, Word::Begin)?;
-    Ok(Stmt {
-        form: StmtForm::Block { vars, body },
-        at,
-    })
+    let built = built_block(alloc, at, vars, body)?;
+    Ok(built)
 }
 
 /// The statements inside of another one, and the end of what begins with this word.
@@ -209,12 +195,17 @@ fn body_before(
 }
 
 /// An expression inside a statement, and the word behind it.
-fn expr_before(alloc: Global, tokens: &mut &[Token], room: u32, word: Word) -> Result<Expr, Fault>
+fn expr_before(
+    alloc: Global,
+    tokens: &mut &[Token],
+    room: u32,
+    word: Word,
+) -> Result<Box<Expr>, Fault>
     requires { 1 ≤ room }
-    ensures { Leads expr_tree room
+    ensures { Leads (boxed expr_tree) room
         (pieces.expr_then (lexeme_of word)) result tokens.old.now tokens.new.now }
 {
-    let found = expr(alloc, tokens, room - 1)?;
+    let found = boxed_expr(alloc, tokens, room - 1)?;
     if !is_word(tokens, word) {
         return Err(Fault::Refused);
     }
@@ -255,9 +246,10 @@ fn block_vars(alloc: Global, tokens: &mut &[Token], room: u32) -> Result<Vec<Var
 }
 
 /// A statement that begins with a name: a call or an assignment.
-fn named_stmt(alloc: Global, tokens: &mut &[Token], room: u32) -> Result<Stmt, Fault>
+fn named_stmt(alloc: Global, tokens: &mut &[Token], room: u32) -> Result<Box<Stmt>, Fault>
     requires { 1 ≤ room }
-    ensures { Does stmt_tree room (named named_stmt_body) result tokens.old.now tokens.new.now }
+    ensures { Does (boxed stmt_tree) room
+        (named named_stmt_body) result tokens.old.now tokens.new.now }
 {
     let name = name(alloc, tokens)?;
     if is_word(tokens, Word::LeftParen) {
@@ -268,39 +260,39 @@ fn named_stmt(alloc: Global, tokens: &mut &[Token], room: u32) -> Result<Stmt, F
 }
 
 /// A call behind its name and a parenthesis.
-fn call_rest(alloc: Global, tokens: &mut &[Token], room: u32, name: Ident) -> Result<Stmt, Fault>
+fn call_rest(
+    alloc: Global,
+    tokens: &mut &[Token],
+    room: u32,
+    name: Ident,
+) -> Result<Box<Stmt>, Fault>
     requires { 1 ≤ room }
-    ensures { Does stmt_tree room (pieces.call_rest (ident_tree name) name.at) result tokens.old.now
-        tokens.new.now }
+    ensures { Does (boxed stmt_tree) room
+        (pieces.call_rest (ident_tree name) name.at) result tokens.old.now tokens.new.now }
 {
     let given = args(alloc, tokens, room - 1)?;
     expect(tokens, Word::RightParen)?;
     expect(tokens, Word::Semicolon)?;
-    let at = name.at;
-    Ok(Stmt {
-        form: StmtForm::Call { name, args: given },
-        at,
-    })
+    let built = built_call(alloc, name, given)?;
+    Ok(built)
 }
 
 /// An assignment behind its name.
-fn assign_rest(alloc: Global, tokens: &mut &[Token], room: u32, name: Ident) -> Result<Stmt, Fault>
+fn assign_rest(
+    alloc: Global,
+    tokens: &mut &[Token],
+    room: u32,
+    name: Ident,
+) -> Result<Box<Stmt>, Fault>
     requires { 1 ≤ room }
-    ensures { Does stmt_tree room (pieces.assign_rest (ident_tree name) name.at) result
-        tokens.old.now tokens.new.now }
+    ensures { Does (boxed stmt_tree) room
+        (pieces.assign_rest (ident_tree name) name.at) result tokens.old.now tokens.new.now }
 {
     let found = places(alloc, tokens, room - 1)?;
     expect(tokens, Word::Assign)?;
     let value = expr_before(alloc, tokens, room, Word::Semicolon)?;
-    let at = name.at;
-    Ok(Stmt {
-        form: StmtForm::Assign {
-            name,
-            places: found,
-            value,
-        },
-        at,
-    })
+    let built = built_assign(alloc, name, found, value)?;
+    Ok(built)
 }
 
 /// The indices behind the name of what is assigned.

@@ -2,7 +2,6 @@ use Rattle.std.proofs.Common.{◌≡◌, Err, rules, sym, ap, ◌∙◌}
 use Rattle.look_ahead.specs.Program.{Gave}
 use Rattle.cal_lexer.specs.Lexeme.{plain_tokens}
 use Rattle.cal_parser.proofs.Statements.{assign_fails, assign_no_sign, assign_no_value, assign_read}
-use Rattle.cal_parser.proofs.StmtTrees.{tree_assign}
 use Rattle.cal_parser.proofs.stmts.assign_rest.Goals as goal
 
 pub returns-in_err-found : goal.returns-in_err-found
@@ -22,5 +21,5 @@ returns-in_err-value c =
 
 pub returns : goal.returns
 returns c =
-    assign_read c.args.room c.args.name c.in_ok-found.found c.args.tokens.now.now c.places.new.tokens.now c.in_ok-found.ensures c.in_ok-expect.field-0 c.expect.new.tokens.now c.in_ok-expect.ensures c.in_ok-value.value c.expr_before.new.tokens.now c.in_ok-value.ensures
-    ∙ ap (λ t. Gave t (plain_tokens c.expr_before.new.tokens.now)) (sym (tree_assign c.args.name c.in_ok-found.found c.in_ok-value.value c.args.name.at))
+    assign_read c.args.room c.args.name c.in_ok-found.found c.args.tokens.now.now c.places.new.tokens.now c.in_ok-found.ensures c.in_ok-expect.field-0 c.expect.new.tokens.now c.in_ok-expect.ensures c.in_ok-value.value.value c.expr_before.new.tokens.now c.in_ok-value.ensures
+    ∙ ap (λ t. Gave t (plain_tokens c.expr_before.new.tokens.now)) (sym c.in_ok-built.ensures)

@@ -2,7 +2,6 @@ use Rattle.std.proofs.Common.{◌≡◌, Err, rules, sym, ap, ◌∙◌}
 use Rattle.look_ahead.specs.Program.{Gave}
 use Rattle.cal_lexer.specs.Lexeme.{plain_tokens}
 use Rattle.cal_parser.proofs.Statements.{call_fails, call_open, call_endless, call_read}
-use Rattle.cal_parser.proofs.StmtTrees.{tree_call}
 use Rattle.cal_parser.proofs.stmts.call_rest.Goals as goal
 
 pub returns-in_err-given : goal.returns-in_err-given
@@ -23,4 +22,4 @@ returns-in_err-expect-2 c =
 pub returns : goal.returns
 returns c =
     call_read c.args.room c.args.name c.in_ok-given.given c.args.tokens.now.now c.args-2.new.tokens.now c.in_ok-given.ensures c.in_ok-expect.field-0 c.expect.new.tokens.now c.in_ok-expect.ensures c.expect-2.new.tokens.now c.in_ok-expect-2.field-0 c.in_ok-expect-2.ensures
-    ∙ ap (λ t. Gave t (plain_tokens c.expect-2.new.tokens.now)) (sym (tree_call c.args.name c.in_ok-given.given c.args.name.at))
+    ∙ ap (λ t. Gave t (plain_tokens c.expect-2.new.tokens.now)) (sym c.in_ok-built.ensures)

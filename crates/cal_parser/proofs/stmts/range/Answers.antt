@@ -25,8 +25,8 @@ returns-in_err-from c =
 pub returns-in_err-to : goal.returns-in_err-to
 returns-in_err-to c =
     let same : c.from_residual-in_err-to.result ≡ Err c.in_err-to.field-0.0 = search rules in
-    rw same (range_no_to c.args.room c.in_ok-shape.shape c.args.tokens.now.now c.type_expr.new.tokens.now c.in_ok-shape.ensures c.in_ok-name.name c.name.new.tokens.now c.in_ok-name.ensures c.in_ok-expect.field-0 c.expect.new.tokens.now c.in_ok-expect.ensures c.in_ok-from.from c.expr_before.new.tokens.now c.in_ok-from.ensures c.expr_before-2.new.tokens.now c.in_err-to.field-0.0 c.in_err-to.ensures)
+    rw same (range_no_to c.args.room c.in_ok-shape.shape c.args.tokens.now.now c.type_expr.new.tokens.now c.in_ok-shape.ensures c.in_ok-name.name c.name.new.tokens.now c.in_ok-name.ensures c.in_ok-expect.field-0 c.expect.new.tokens.now c.in_ok-expect.ensures c.in_ok-from.from.value c.expr_before.new.tokens.now c.in_ok-from.ensures c.expr_before-2.new.tokens.now c.in_err-to.field-0.0 c.in_err-to.ensures)
 
 pub returns : goal.returns
 returns c =
-    range_read c.args.room c.in_ok-shape.shape c.args.tokens.now.now c.type_expr.new.tokens.now c.in_ok-shape.ensures c.in_ok-name.name c.name.new.tokens.now c.in_ok-name.ensures c.in_ok-expect.field-0 c.expect.new.tokens.now c.in_ok-expect.ensures c.in_ok-from.from c.expr_before.new.tokens.now c.in_ok-from.ensures c.in_ok-to.to c.expr_before-2.new.tokens.now c.in_ok-to.ensures
+    range_read c.args.room c.in_ok-shape.shape c.args.tokens.now.now c.type_expr.new.tokens.now c.in_ok-shape.ensures c.in_ok-name.name c.name.new.tokens.now c.in_ok-name.ensures c.in_ok-expect.field-0 c.expect.new.tokens.now c.in_ok-expect.ensures c.in_ok-from.from.value c.expr_before.new.tokens.now c.in_ok-from.ensures c.in_ok-to.to.value c.expr_before-2.new.tokens.now c.in_ok-to.ensures
