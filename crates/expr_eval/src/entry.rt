@@ -16,7 +16,7 @@ use const_env::value::stored;
 use rvc_base::{MAX_TURNS, Trap};
 use std::alloc::Global;
 
-/// The turns of one evaluation.
+/// The turns that one evaluation has, all its calls together.
 pub fn all_turns() -> u32
     ensures { result ≡ max_turns }
 {

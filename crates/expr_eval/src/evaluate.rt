@@ -27,7 +27,13 @@ use const_env::types::{Counting, Given, counted, number, type_named};
 use const_env::value::{list_of, stored, stored_single, zero_of};
 use rvc_base::{MAX_TURNS, Num, Scalar};
 
-/// The value of an expression, with so many turns left.
+/// The value of an expression over what its scope sees, with so many turns left (ISO/IEC 23001-4, RVC-CAL: expressions).
+/// The turns that it made are taken off.
+///
+/// # Errors
+///
+/// `Trap` if it traps, `Lacks` if it reaches a name that means nothing, and `Clashes` if it reaches a part that is of
+/// another kind than its form asks, whichever comes first. `Memory` if memory runs out.
 #[cycle(eval)]
 pub fn eval(scope: &Scope, e: &Expr, left: &mut u32) -> Result<Value, Stop>
     ensures { Evaluates value_view result left.new

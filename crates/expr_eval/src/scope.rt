@@ -19,7 +19,8 @@ use const_env::value::copy;
 use const_env::{Env, Inside, Stop};
 use std::alloc::Global;
 
-/// What an expression sees while it is evaluated.
+/// What an expression sees while it is evaluated: locals, the arguments of the function that it stands in, and constants,
+/// of which the former hide the latter; and the functions that it may call.
 #[derive(Drop)]
 pub struct Scope<'a> {
     pub alloc: Global,
@@ -30,6 +31,7 @@ pub struct Scope<'a> {
     pub formals: &'a [BoundLocal],
     /// Its arguments, each stored in its formal's type.
     pub arguments: &'a [Value],
+    /// The locals, from the innermost outwards.
     pub innermost: Option<&'a Local<'a>>,
     /// The names that are declared round a constant expression, which hide constants.
     pub hidden: Option<&'a Inside<'a>>,
@@ -46,6 +48,7 @@ pub struct Local<'a> {
 /// What declares a local.
 #[derive(Clone, Copy)]
 pub enum Declared<'a> {
+    /// A local of a function.
     Local(&'a BoundLocal),
     /// A generator of a comprehension, by its name.
     Counter(&'a Ident),
