@@ -11,7 +11,7 @@ use Rattle.cal_model.specs.Actor.{Action, Pattern}
 use Rattle.cal_model.specs.Kinding.{Names}
 use Rattle.cal_model.specs.View.{action_view}
 use Rattle.cal_model.specs.declared.bound.BoundAction.{BoundAction}
-use Rattle.const_eval.specs.declared.fault.KindFault.{KindFault}
+use Rattle.const_env.specs.declared.fault.KindFault.{KindFault}
 use Rattle.cal_check.specs.Violations.{Violation}
 use Rattle.cal_check.specs.Actions.{Around, action_broken, action_if, action_of, behind_patterns, guard_allowed, or_none, patterns_broken, patterns_fine, with_all_patterns}
 use Rattle.cal_check.specs.Actors.{actions_broken, actions_in, actions_of}

@@ -8,7 +8,7 @@ use Rattle.cal_ast.specs.declared.action.Action.{Action as DeclaredAction}
 use Rattle.cal_model.specs.Actor.{Local, Output, Pattern}
 use Rattle.cal_model.specs.Kinding.{Judged, Fine, Broken, Names, and_so}
 use Rattle.cal_model.specs.Value.{Shape}
-use Rattle.const_eval.specs.declared.fault.KindFault.{KindFault}
+use Rattle.const_env.specs.declared.fault.KindFault.{KindFault}
 use Rattle.cal_check.specs.Violations.{all_broken, if_fine}
 use Rattle.cal_check.specs.Actions.{Around, body_of, each_guard, guards_written, or_none, outputs_fine, tag_parts}
 use Rattle.cal_check.specs.Routines.{locals_of}

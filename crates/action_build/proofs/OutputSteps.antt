@@ -5,7 +5,7 @@ use Rattle.cal_model.specs.Actor.{Output, Port}
 use Rattle.cal_model.specs.Kinding.{Judged, Fine, Broken, Names}
 use Rattle.cal_model.specs.View.{output_view}
 use Rattle.cal_model.specs.declared.bound.BoundOutput.{BoundOutput}
-use Rattle.const_eval.specs.declared.fault.KindFault.{KindFault}
+use Rattle.const_env.specs.declared.fault.KindFault.{KindFault}
 use Rattle.cal_check.specs.Violations.{Violation, all_broken, all_fine, if_fine}
 use Rattle.cal_check.specs.Actions.{outputs_broken, outputs_fine, outputs_if, outputs_on}
 use Rattle.cal_check.specs.Ports.{Asked, each_asked, numbers_twice, ports_asked}

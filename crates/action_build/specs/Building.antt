@@ -14,7 +14,7 @@ use Rattle.cal_model.specs.Kinding.{Names}
 use Rattle.cal_model.specs.View.{action_view, output_view}
 use Rattle.cal_model.specs.declared.bound.BoundAction.{BoundAction}
 use Rattle.cal_model.specs.declared.bound.BoundOutput.{BoundOutput}
-use Rattle.const_eval.specs.declared.fault.KindFault.{KindFault}
+use Rattle.const_env.specs.declared.fault.KindFault.{KindFault}
 use Rattle.cal_check.specs.Violations.{Violation, broken}
 use Rattle.cal_check.specs.Written.{statement_written}
 use Rattle.cal_check.specs.Statements.{names_behind, starts_broken}

@@ -10,7 +10,7 @@ ghost use Rattle.cal_check.specs.Statements.{names_behind};
 ghost use Rattle.cal_check.specs.Written.{statement_written};
 ghost use Rattle.cal_model.specs.Kinding.{Fine};
 ghost use Rattle.cal_model.specs.View.{local_view, pattern_view};
-ghost use Rattle.const_eval.specs.Counting.{names_view};
+ghost use Rattle.const_env.specs.Counting.{names_view};
 ghost use Rattle.member_check.specs.Parts.{exprs_tree, idents_tree};
 ghost use Rattle.stmt_check.specs.Declaring.{seen_behind};
 ghost use Rattle.stmt_check.specs.Judging.{Refuses};

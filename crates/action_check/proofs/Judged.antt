@@ -5,9 +5,9 @@ use Rattle.rvc_base.specs.Rules.{wrong_repeat}
 use Rattle.cal_model.specs.Kinding.{Judged, Fine, Broken, and_so}
 use Rattle.cal_model.specs.Rates.{parts_times}
 use Rattle.cal_model.specs.Sound.{max_rate}
-use Rattle.const_eval.specs.Judging.{Breaks}
-use Rattle.const_eval.specs.declared.fault.KindFault.{KindFault}
-use Rattle.const_eval.specs.declared.fault.KindFault.TheVariants as fault
+use Rattle.const_env.specs.Judging.{Breaks}
+use Rattle.const_env.specs.declared.fault.KindFault.{KindFault}
+use Rattle.const_env.specs.declared.fault.KindFault.TheVariants as fault
 use Rattle.member_check.specs.Judging.{Breaks as MemberBreaks, Refuses as MemberRefuses}
 use Rattle.member_check.specs.declared.fault.MemberFault.{MemberFault}
 use Rattle.member_check.specs.declared.fault.MemberFault.TheVariants as member

@@ -10,8 +10,8 @@ use Rattle.cal_model.specs.Kinding.{Judged, Fine, Broken, Names, and_so}
 use Rattle.cal_model.specs.Sound.{Each}
 use Rattle.cal_model.specs.View.{pattern_view}
 use Rattle.cal_model.specs.declared.bound.BoundPattern.{BoundPattern}
-use Rattle.const_eval.specs.declared.fault.KindFault.{KindFault}
-use Rattle.const_eval.specs.declared.fault.KindFault.TheVariants as fault
+use Rattle.const_env.specs.declared.fault.KindFault.{KindFault}
+use Rattle.const_env.specs.declared.fault.KindFault.TheVariants as fault
 use Rattle.cal_check.specs.Violations.{Keyed, Violation, all_broken, all_fine, and_all, if_fine, is_met, said, twice, unless, violation, without_constants}
 use Rattle.cal_check.specs.Actions.{behind_patterns, guard_allowed, is_without, outputs_broken, outputs_on, patterns_if, patterns_on}
 use Rattle.cal_check.specs.Ports.{Asked, each_asked, keyed_numbers, named_port, number_from, numbers_twice, port_of, ports_asked, ports_from}

@@ -8,10 +8,10 @@ use Rattle.cal_model.specs.Sound.{with_pattern}
 use Rattle.cal_model.specs.View.{pattern_view}
 use Rattle.cal_model.specs.declared.bound.BoundPattern.{BoundPattern}
 use Rattle.cal_model.specs.Value.{Kind}
-use Rattle.const_eval.specs.Counting.{known_variable, variable_view}
-use Rattle.const_eval.specs.declared.fault.KindFault.{KindFault}
-use Rattle.const_eval.specs.declared.inside.Variable.{Variable}
-use Rattle.const_eval.specs.declared.names.Names.{Names as DeclaredNames}
+use Rattle.const_env.specs.Counting.{known_variable, variable_view}
+use Rattle.const_env.specs.declared.fault.KindFault.{KindFault}
+use Rattle.const_env.specs.declared.inside.Variable.{Variable}
+use Rattle.const_env.specs.declared.names.Names.{Names as DeclaredNames}
 use Rattle.cal_check.specs.Violations.{Violation, all_broken, all_fine, if_fine}
 use Rattle.cal_check.specs.Actions.{outputs_broken, outputs_on, patterns_broken, patterns_fine, patterns_if, patterns_on}
 use Rattle.cal_check.specs.Ports.{Asked, each_asked, numbers_twice, ports_asked}

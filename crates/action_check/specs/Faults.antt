@@ -1,7 +1,7 @@
 -- Faults of members, as those of kinds.
 -- Not trusted: no promise is read with it.
-use Rattle.const_eval.specs.declared.fault.KindFault.{KindFault}
-use Rattle.const_eval.specs.declared.fault.KindFault.TheVariants as fault
+use Rattle.const_env.specs.declared.fault.KindFault.{KindFault}
+use Rattle.const_env.specs.declared.fault.KindFault.TheVariants as fault
 use Rattle.member_check.specs.declared.fault.MemberFault.{MemberFault}
 use Rattle.member_check.specs.declared.fault.MemberFault.TheVariants as member
 

@@ -13,9 +13,9 @@ use Rattle.cal_model.specs.Kinding.{Judged, Fine, Names}
 use Rattle.cal_model.specs.Sound.{max_ports}
 use Rattle.cal_model.specs.View.{pattern_view, proc_view}
 use Rattle.cal_model.specs.declared.bound.BoundPattern.{BoundPattern}
-use Rattle.const_eval.specs.Counting.{names_view}
-use Rattle.const_eval.specs.declared.fault.KindFault.{KindFault}
-use Rattle.const_eval.specs.declared.names.Names.{Names as DeclaredNames}
+use Rattle.const_env.specs.Counting.{names_view}
+use Rattle.const_env.specs.declared.fault.KindFault.{KindFault}
+use Rattle.const_env.specs.declared.names.Names.{Names as DeclaredNames}
 use Rattle.cal_check.specs.Violations.{Violation, all_broken, all_fine, if_fine, said}
 use Rattle.cal_check.specs.Written.{written}
 use Rattle.cal_check.specs.Statements.{names_behind, starts_broken, statement_broken}

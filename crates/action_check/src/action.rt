@@ -2,7 +2,7 @@
 #![tactic(auto, using(stmt_check::proofs::Said::said_none, stmt_check::proofs::Said::said_on, stmt_check::proofs::Said::said_behind, stmt_check::proofs::Said::said_next))]
 
 ghost use Rattle.cal_ast.specs.View.{action_tree};
-ghost use Rattle.const_eval.specs.Counting.{names_view};
+ghost use Rattle.const_env.specs.Counting.{names_view};
 ghost use Rattle.cal_check.specs.Actions.{action_broken};
 ghost use Rattle.cal_check.specs.Actors.{actions_broken, actions_in};
 ghost use Rattle.member_check.specs.Parts.{members_tree};

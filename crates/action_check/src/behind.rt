@@ -3,8 +3,8 @@
 ghost use Rattle.std.specs.Prelude.{◌≡◌, false, IfOk, OnOk, map, string_bytes};
 ghost use Rattle.cal_model.specs.Sound.{kind_of_tokens, with_pattern};
 ghost use Rattle.cal_model.specs.View.{pattern_view};
-ghost use Rattle.const_eval.specs.Counting.{names_view, variable_view};
-ghost use Rattle.const_eval.specs.declared.names.Names.{Names as DeclaredNames};
+ghost use Rattle.const_env.specs.Counting.{names_view, variable_view};
+ghost use Rattle.const_env.specs.declared.names.Names.{Names as DeclaredNames};
 ghost use Rattle.cal_check.specs.Actions.{with_all_patterns};
 ghost use Rattle.member_check.specs.Asking.{port_views};
 ghost use Rattle.stmt_check.specs.Declaring.{seen_behind};

@@ -2,7 +2,7 @@
 #![tactic(auto, using(stmt_check::proofs::Said::said_none, stmt_check::proofs::Said::said_on, stmt_check::proofs::Said::said_next))]
 
 ghost use Rattle.std.specs.Prelude.{◌≡◌};
-ghost use Rattle.const_eval.specs.Counting.{names_view};
+ghost use Rattle.const_env.specs.Counting.{names_view};
 ghost use Rattle.cal_check.specs.Actions.{each_guard, guard_allowed};
 ghost use Rattle.cal_check.specs.Violations.{all_broken, said};
 ghost use Rattle.member_check.specs.Parts.{exprs_tree};

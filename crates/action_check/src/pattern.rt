@@ -5,8 +5,8 @@ ghost use Rattle.std.specs.Prelude.{◌≡◌, ◌≤◌, IfOk, length, map, str
 ghost use Rattle.cal_ast.specs.View.{pattern_tree};
 ghost use Rattle.cal_model.specs.Sound.{max_ports};
 ghost use Rattle.cal_model.specs.View.{pattern_view};
-ghost use Rattle.const_eval.specs.Counting.{names_view};
-ghost use Rattle.const_eval.specs.Judging.{Judges};
+ghost use Rattle.const_env.specs.Counting.{names_view};
+ghost use Rattle.const_env.specs.Judging.{Judges};
 ghost use Rattle.cal_check.specs.Actions.{names_listed, pattern_judged, patterns_on};
 ghost use Rattle.member_check.specs.Asking.{patterns_tree, port_views};
 ghost use Rattle.member_check.specs.Parts.{idents_tree};

@@ -4,8 +4,8 @@
 ghost use Rattle.std.specs.Prelude.{Some};
 ghost use Rattle.cal_ast.specs.View.{expr_tree, optional_expr};
 ghost use Rattle.cal_model.specs.Kinding.{and_so, constant_number, kind};
-ghost use Rattle.const_eval.specs.Counting.{names_view};
-ghost use Rattle.const_eval.specs.Judging.{Judges};
+ghost use Rattle.const_env.specs.Counting.{names_view};
+ghost use Rattle.const_env.specs.Judging.{Judges};
 ghost use Rattle.cal_check.specs.Actions.{rate_judged, repeat_judged, repeat_of};
 
 use crate::fault::as_kind_fault;

@@ -15,8 +15,8 @@ use Rattle.cal_model.specs.Tags.{moves_of}
 use Rattle.cal_model.specs.View.{action_view}
 use Rattle.cal_model.specs.declared.bound.BoundAction.{BoundAction}
 use Rattle.member_check.specs.Parts.{action_views}
-use Rattle.const_eval.specs.declared.fault.KindFault.{KindFault}
-use Rattle.const_eval.specs.declared.fault.KindFault.TheVariants as fault
+use Rattle.const_env.specs.declared.fault.KindFault.{KindFault}
+use Rattle.const_env.specs.declared.fault.KindFault.TheVariants as fault
 use Rattle.cal_check.specs.Actions.{Around, action_of, tag_parts}
 use Rattle.cal_check.specs.Actors.{actions_broken, actions_in, actions_of, initialized_twice, is_initialize, place_of_action}
 use Rattle.cal_check.specs.Schedules.{chains_broken, moves_broken, pairs_in, priorities_broken, schedule_broken, schedule_in, some_departs, stands_somewhere, tags_broken, transition_of}

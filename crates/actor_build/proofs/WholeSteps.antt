@@ -13,7 +13,7 @@ use Rattle.cal_model.specs.Kinding.{Names}
 use Rattle.cal_model.specs.Sound.{max_actions}
 use Rattle.cal_model.specs.View.{action_view, fun_view, move_view, proc_view, var_view}
 use Rattle.cal_model.specs.declared.bound.BoundAction.{BoundAction}
-use Rattle.const_eval.specs.declared.fault.KindFault.{KindFault}
+use Rattle.const_env.specs.declared.fault.KindFault.{KindFault}
 use Rattle.cal_check.specs.Violations.{all_fine, unless}
 use Rattle.cal_check.specs.Variables.{Given, Spot}
 use Rattle.cal_check.specs.Actions.{Around, or_none}

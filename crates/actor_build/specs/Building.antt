@@ -13,8 +13,8 @@ use Rattle.cal_model.specs.Kinding.{Names}
 use Rattle.cal_model.specs.Sound.{max_actions, max_states}
 use Rattle.cal_model.specs.View.{fun_view, move_view, proc_view, var_view}
 use Rattle.cal_model.specs.declared.bound.BoundAction.{BoundAction}
-use Rattle.const_eval.specs.declared.fault.KindFault.{KindFault}
-use Rattle.const_eval.specs.declared.fault.KindFault.TheVariants as fault
+use Rattle.const_env.specs.declared.fault.KindFault.{KindFault}
+use Rattle.const_env.specs.declared.fault.KindFault.TheVariants as fault
 use Rattle.cal_check.specs.Violations.{Violation, all_fine, said, unless}
 use Rattle.cal_check.specs.Variables.{Given, Spot}
 use Rattle.cal_check.specs.Actions.{Around, or_none}

@@ -8,7 +8,7 @@ ghost use Rattle.cal_check.specs.Actions.{Around, action_of};
 ghost use Rattle.cal_check.specs.Actors.{actions_in, actions_of};
 ghost use Rattle.cal_model.specs.Actor.{Actor as Meaning};
 ghost use Rattle.cal_model.specs.Sound.{max_actions, max_ports};
-ghost use Rattle.const_eval.specs.Counting.{names_view};
+ghost use Rattle.const_env.specs.Counting.{names_view};
 ghost use Rattle.member_check.specs.Parts.{action_views, members_tree};
 ghost use Rattle.action_check.specs.Parts.{HasFewPorts, around_view};
 ghost use Rattle.actor_build.specs.Building.{BreaksMembers, FindsOrderOf, FindsOthers, HasActions, IsMembersFault, around_bare, heads_of};

@@ -10,7 +10,7 @@ ghost use Rattle.cal_check.specs.Violations.{unless};
 ghost use Rattle.cal_model.specs.Actor.{Actor as Meaning};
 ghost use Rattle.cal_model.specs.Sound.{max_actions, max_ports};
 ghost use Rattle.cal_model.specs.View.{actor_of};
-ghost use Rattle.const_eval.specs.Counting.{names_view};
+ghost use Rattle.const_env.specs.Counting.{names_view};
 ghost use Rattle.member_check.specs.Judging.{Checks as MemberChecks};
 ghost use Rattle.member_check.specs.Parts.{action_views, members_tree};
 ghost use Rattle.stmt_check.specs.Judging.{Checks};

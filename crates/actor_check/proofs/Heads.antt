@@ -10,8 +10,8 @@ use Rattle.cal_ast.specs.declared.member.Function.{Function}
 use Rattle.cal_ast.specs.declared.member.Procedure.{Procedure}
 use Rattle.cal_model.specs.Actor.{Fun, Proc}
 use Rattle.cal_model.specs.Kinding.{Judged, Fine, Broken, Names, and_so}
-use Rattle.const_eval.specs.Judging.{Breaks}
-use Rattle.const_eval.specs.declared.fault.KindFault.{KindFault}
+use Rattle.const_env.specs.Judging.{Breaks}
+use Rattle.const_env.specs.declared.fault.KindFault.{KindFault}
 use Rattle.cal_check.specs.Actors.{formals_broken, funs_of, heads_broken, procs_in, procs_of}
 use Rattle.cal_check.specs.Routines.{FunDecl, formals_judged, fun_judged, head_judged, proc_judged}
 use Rattle.cal_check.specs.Variables.{found_in}

@@ -11,8 +11,8 @@ use Rattle.cal_model.specs.Kinding.{Names}
 use Rattle.cal_model.specs.View.{actor_of, port_view, proc_view, var_view}
 use Rattle.cal_model.specs.declared.bound.Bound.{Bound}
 use Rattle.cal_model.specs.declared.bound.BoundVar.{BoundVar}
-use Rattle.const_eval.specs.declared.fault.KindFault.{KindFault}
-use Rattle.const_eval.specs.declared.fault.KindFault.TheVariants as fault
+use Rattle.const_env.specs.declared.fault.KindFault.{KindFault}
+use Rattle.const_env.specs.declared.fault.KindFault.TheVariants as fault
 use Rattle.cal_check.specs.Actions.{Around, or_none}
 use Rattle.cal_check.specs.Actors.{IsAboveItself, Source, actions_in, actions_of, actor_given, all_valued, around_of, bare_actor, kept_funs, kept_vars, members_of, place_of, procs_in, procs_of}
 use Rattle.cal_check.specs.Schedules.{moves_in, pairs_in, schedule_in}

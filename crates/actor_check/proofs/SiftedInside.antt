@@ -13,8 +13,8 @@ use Rattle.cal_model.specs.Sound.{Each, max_variable_scalars}
 use Rattle.cal_model.specs.View.{proc_view, var_view}
 use Rattle.cal_model.specs.declared.bound.Bound.{Bound}
 use Rattle.cal_model.specs.declared.bound.BoundVar.{BoundVar}
-use Rattle.const_eval.specs.declared.fault.KindFault.{KindFault}
-use Rattle.const_eval.specs.declared.fault.KindFault.TheVariants as fault
+use Rattle.const_env.specs.declared.fault.KindFault.{KindFault}
+use Rattle.const_env.specs.declared.fault.KindFault.TheVariants as fault
 use Rattle.cal_check.proofs.Lists.{each-of, head-or-rest, in-none}
 use Rattle.cal_check.specs.Actions.{Around}
 use Rattle.cal_check.specs.Actors.{Source, actions_in, actions_of, actor_given, all_valued, around_of, bare_actor, inside_found, kept_vars, members_of, place_of, scalars_of}

@@ -12,7 +12,7 @@ use Rattle.cal_model.specs.Kinding.{Fine, Names}
 use Rattle.cal_model.specs.View.{fun_view, proc_view}
 use Rattle.cal_model.specs.declared.bound.BoundFun.{BoundFun}
 use Rattle.cal_model.specs.declared.bound.BoundProc.{BoundProc}
-use Rattle.const_eval.specs.declared.fault.KindFault.{KindFault}
+use Rattle.const_env.specs.declared.fault.KindFault.{KindFault}
 use Rattle.cal_check.specs.Actors.{formals_broken, funs_of, heads_broken, procs_of}
 use Rattle.cal_check.specs.Routines.{FunDecl, fun_judged, head_judged, proc_judged}
 use Rattle.cal_check.specs.Variables.{VarDecl, Valued, found_in}

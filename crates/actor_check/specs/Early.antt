@@ -4,7 +4,7 @@ use Rattle.std.specs.Prelude.{◌≡◌, List, [], ◌++◌}
 use Rattle.std.specs.declared.result.Result.{Result}
 use Rattle.std.specs.declared.result.Result.TheVariants.{Ok, Err}
 use Rattle.rvc_base.specs.declared.refusal.Front.{Front}
-use Rattle.const_eval.specs.Held.{names_in}
+use Rattle.const_env.specs.Held.{names_in}
 use Rattle.cal_check.specs.Actors.{Source, all_valued, declared_vars, given_wrongly, params_in, params_of}
 use Rattle.cal_check.specs.Variables.{Found, Given, Spot, VarDecl}
 use Rattle.variable_check.specs.Causes.{IsCause, SaysRule}

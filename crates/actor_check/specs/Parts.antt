@@ -16,8 +16,8 @@ use Rattle.cal_model.specs.declared.bound.Bound.{Bound}
 use Rattle.cal_model.specs.declared.bound.BoundVar.{BoundVar}
 use Rattle.std.specs.Prelude.{Vec}
 use Rattle.std.specs.declared.alloc.Global.{Global}
-use Rattle.const_eval.specs.declared.fault.KindFault.{KindFault}
-use Rattle.const_eval.specs.declared.fault.KindFault.TheVariants as fault
+use Rattle.const_env.specs.declared.fault.KindFault.{KindFault}
+use Rattle.const_env.specs.declared.fault.KindFault.TheVariants as fault
 use Rattle.cal_check.specs.Actors.{IsAboveItself, Source, actor_given, all_funs, all_valued, around_of, before_members, inside_found, kept_funs, kept_vars, members_of}
 use Rattle.cal_check.specs.Schedules.{first_priority}
 use Rattle.cal_check.specs.Variables.{Found, Given, Spot, found_in, seen}

@@ -6,7 +6,7 @@ ghost use Rattle.cal_ast.specs.View.{function_tree};
 ghost use Rattle.cal_check.specs.Actors.{funs_broken};
 ghost use Rattle.cal_check.specs.Routines.{fun_broken};
 ghost use Rattle.cal_check.specs.Variables.{found_in};
-ghost use Rattle.const_eval.specs.Counting.{names_view};
+ghost use Rattle.const_env.specs.Counting.{names_view};
 ghost use Rattle.seen_names.specs.Known.{fun_decls};
 ghost use Rattle.variable_check.specs.Valuing.{Finds};
 

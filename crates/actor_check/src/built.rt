@@ -8,7 +8,7 @@ ghost use Rattle.cal_ast.specs.View.{member_tree, procedure_tree};
 ghost use Rattle.cal_check.specs.Actors.{formals_broken, procs_in, procs_of};
 ghost use Rattle.cal_check.specs.Violations.{all_fine};
 ghost use Rattle.cal_model.specs.View.{fun_view, proc_view};
-ghost use Rattle.const_eval.specs.Counting.{names_view};
+ghost use Rattle.const_env.specs.Counting.{names_view};
 ghost use Rattle.member_check.specs.Parts.{members_tree};
 ghost use Rattle.stmt_check.specs.Judging.{Refuses};
 ghost use Rattle.variable_check.specs.Faults.{behind};

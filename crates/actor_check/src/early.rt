@@ -2,7 +2,7 @@
 
 ghost use Rattle.std.specs.Prelude.{◌≡◌, IfErr, true};
 ghost use Rattle.cal_check.specs.Actors.{all_funs, all_valued, before_members, declared_vars};
-ghost use Rattle.const_eval.specs.Held.{names_in};
+ghost use Rattle.const_env.specs.Held.{names_in};
 ghost use Rattle.seen_names.specs.Known.{fun_decls, names_differ};
 ghost use Rattle.variable_check.specs.Causes.{SaysRule};
 ghost use Rattle.variable_check.specs.Valuing.{Finds, IsValued, Values};

@@ -1,8 +1,8 @@
 //! The header of an actor.
 
 ghost use Rattle.std.specs.Prelude.{◌≡◌};
-ghost use Rattle.const_eval.specs.Counting.{names_view};
-ghost use Rattle.const_eval.specs.Held.{names_in};
+ghost use Rattle.const_env.specs.Counting.{names_view};
+ghost use Rattle.const_env.specs.Held.{names_in};
 ghost use Rattle.actor_check.specs.Members.{TellsHeader};
 ghost use Rattle.actor_check.specs.Phases.{FindsHeader};
 ghost use Rattle.actor_check.specs.Sifting.{SiftsHeader};

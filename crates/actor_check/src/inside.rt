@@ -5,7 +5,7 @@ ghost use Rattle.cal_check.specs.Actors.{all_funs, all_valued};
 ghost use Rattle.cal_check.specs.Variables.{Given, Spot};
 ghost use Rattle.cal_model.specs.Sound.{max_ports};
 ghost use Rattle.cal_model.specs.View.{var_view};
-ghost use Rattle.const_eval.specs.Counting.{names_view};
+ghost use Rattle.const_env.specs.Counting.{names_view};
 ghost use Rattle.seen_names.specs.Known.{fun_decls};
 ghost use Rattle.actor_check.specs.Parts.{AreKept, ArePartsIn, BuildsActor, FindsInside, FindsKept, TellsFault};
 ghost use Rattle.actor_check.specs.Sources.{source_in};

@@ -7,7 +7,7 @@ ghost use Rattle.cal_check.specs.Routines.{fun_broken};
 ghost use Rattle.cal_check.specs.Variables.{found_in};
 ghost use Rattle.cal_model.specs.Sound.{max_ports};
 ghost use Rattle.cal_model.specs.View.{proc_view};
-ghost use Rattle.const_eval.specs.Counting.{names_view};
+ghost use Rattle.const_env.specs.Counting.{names_view};
 ghost use Rattle.seen_names.specs.Known.{fun_decls};
 ghost use Rattle.actor_check.specs.Parts.{SiftsMembers, SiftsParts};
 ghost use Rattle.actor_check.specs.Phases.{procs_found, routines_found};

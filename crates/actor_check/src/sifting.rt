@@ -9,7 +9,7 @@ ghost use Rattle.cal_check.specs.Ports.{each_port, port_judged};
 ghost use Rattle.cal_check.specs.Routines.{head_judged};
 ghost use Rattle.cal_check.specs.Variables.{found_in};
 ghost use Rattle.cal_check.specs.Violations.{Violation, all_broken, broken};
-ghost use Rattle.const_eval.specs.Counting.{names_view};
+ghost use Rattle.const_env.specs.Counting.{names_view};
 ghost use Rattle.member_check.specs.Parts.{members_tree};
 ghost use Rattle.seen_names.specs.Known.{fun_decls};
 ghost use Rattle.stmt_check.specs.Judging.{Checks, Refuses};

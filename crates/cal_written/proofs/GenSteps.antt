@@ -9,10 +9,10 @@ use Rattle.cal_ast.specs.declared.expr.Expr.{Expr}
 use Rattle.cal_ast.specs.declared.expr.Gen.{Gen, out-Gen}
 use Rattle.cal_ast.specs.declared.expr.Gen as forms
 use Rattle.cal_model.specs.Kinding.{with_counters}
-use Rattle.const_eval.specs.Counting.{Variable, counter_variable, inner_variables, named_by, names_inside, names_view}
-use Rattle.const_eval.specs.Held.{Kept}
-use Rattle.const_eval.specs.Meant.{name_of}
-use Rattle.const_eval.specs.declared.names.Names.{Names as DeclaredNames}
+use Rattle.const_env.specs.Counting.{Variable, counter_variable, inner_variables, named_by, names_inside, names_view}
+use Rattle.const_env.specs.Held.{Kept}
+use Rattle.const_env.specs.Meant.{name_of}
+use Rattle.const_env.specs.declared.names.Names.{Names as DeclaredNames}
 use Rattle.cal_check.specs.Written.{gens_written, written}
 use Rattle.cal_written.specs.Seeing.{seen_among}
 use Rattle.cal_written.specs.Writing.{gen_written}

@@ -4,10 +4,10 @@ use Rattle.cal_ast.specs.Tree.{listed, cons}
 use Rattle.cal_ast.specs.View.{var_tree}
 use Rattle.cal_ast.specs.declared.member.VarDecl.{VarDecl}
 use Rattle.cal_model.specs.Kinding.{Names, with_known}
-use Rattle.const_eval.specs.Counting.{inner_variables, known_variable, names_inside, variable_view}
-use Rattle.const_eval.specs.Held.{last_first}
-use Rattle.const_eval.specs.declared.inside.Variable.{Variable}
-use Rattle.const_eval.specs.declared.names.Names.{Names as DeclaredNames}
+use Rattle.const_env.specs.Counting.{inner_variables, known_variable, names_inside, variable_view}
+use Rattle.const_env.specs.Held.{last_first}
+use Rattle.const_env.specs.declared.inside.Variable.{Variable}
+use Rattle.const_env.specs.declared.names.Names.{Names as DeclaredNames}
 use Rattle.cal_check.specs.Written.{behind_vars, var_written, vars_written, with_inner}
 use Rattle.cal_written.specs.Seeing.{seen_behind}
 use Rattle.cal_written.proofs.Onto.{onto, onto_all, onto_next}

@@ -3,9 +3,9 @@
 use Rattle.std.specs.Prelude.{List}
 use Rattle.cal_ast.specs.declared.expr.Gen.{Gen}
 use Rattle.cal_model.specs.Kinding.{Names}
-use Rattle.const_eval.specs.Counting.{declared_by, inner_variables, named_by, names_inside}
-use Rattle.const_eval.specs.declared.inside.Variable.{Variable}
-use Rattle.const_eval.specs.declared.names.Names.{Names as DeclaredNames}
+use Rattle.const_env.specs.Counting.{declared_by, inner_variables, named_by, names_inside}
+use Rattle.const_env.specs.declared.inside.Variable.{Variable}
+use Rattle.const_env.specs.declared.names.Names.{Names as DeclaredNames}
 
 -- what is seen behind variables, of which a later one stands inside
 abbrev pub seen_behind : List Variable → DeclaredNames → Names

@@ -14,8 +14,8 @@ use Rattle.cal_ast.specs.declared.expr.TypeExpr.{TypeExpr}
 use Rattle.cal_ast.specs.declared.member.VarDecl.{VarDecl}
 use Rattle.cal_ast.specs.declared.stmt.Stmt.{Stmt}
 use Rattle.cal_model.specs.Kinding.{Names, with_known}
-use Rattle.const_eval.specs.Counting.{known_variable, variable_view}
-use Rattle.const_eval.specs.declared.inside.Variable.{Variable}
+use Rattle.const_env.specs.Counting.{known_variable, variable_view}
+use Rattle.const_env.specs.declared.inside.Variable.{Variable}
 use Rattle.cal_check.specs.Written.{constant_written, gens_written, statement_written, var_written, with_inner, written}
 
 -- ---- expressions

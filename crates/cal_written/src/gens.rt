@@ -3,7 +3,7 @@
 ghost use Rattle.std.specs.Prelude.{map};
 ghost use Rattle.cal_ast.specs.Tree.{listed};
 ghost use Rattle.cal_ast.specs.View.{gen_tree};
-ghost use Rattle.const_eval.specs.Counting.{names_view};
+ghost use Rattle.const_env.specs.Counting.{names_view};
 ghost use Rattle.cal_written.specs.Seeing.{seen_among};
 ghost use Rattle.cal_written.specs.Writing.{WritesGen, WritesGens};
 

@@ -6,7 +6,7 @@ ghost use Rattle.cal_ast.specs.Tree.{listed};
 ghost use Rattle.cal_ast.specs.View.{body_tree, expr_tree, ident_tree, stmt_tree, type_tree, var_tree};
 ghost use Rattle.cal_check.specs.Written.{written};
 ghost use Rattle.cal_model.specs.Kinding.{counter, with_known};
-ghost use Rattle.const_eval.specs.Counting.{names_view};
+ghost use Rattle.const_env.specs.Counting.{names_view};
 ghost use Rattle.cal_written.specs.Seeing.{seen_behind};
 ghost use Rattle.cal_written.specs.Writing.{MakesStmt, WritesBody, WritesStmt, WritesStmts};
 

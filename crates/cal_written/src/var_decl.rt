@@ -6,7 +6,7 @@ ghost use Rattle.cal_ast.specs.View.{optional_expr, type_tree, var_tree};
 ghost use Rattle.cal_model.specs.Kinding.{type_judged};
 ghost use Rattle.cal_model.specs.Sound.{kind_of_judged};
 ghost use Rattle.cal_model.specs.View.{kind_view};
-ghost use Rattle.const_eval.specs.Counting.{names_view};
+ghost use Rattle.const_env.specs.Counting.{names_view};
 ghost use Rattle.cal_check.specs.Written.{behind_vars, vars_written};
 ghost use Rattle.cal_written.specs.Seeing.{seen_behind};
 ghost use Rattle.cal_written.specs.Writing.{Declares, WritesOptional, WritesVar};

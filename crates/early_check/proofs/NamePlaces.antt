@@ -8,8 +8,8 @@ use Rattle.cal_ast.specs.Places.{begins}
 use Rattle.cal_ast.specs.Tree as tree
 use Rattle.cal_ast.specs.Tree.{Tree}
 use Rattle.cal_model.specs.Kinding.{Judged, Broken}
-use Rattle.const_eval.specs.Judging.{Breaks}
-use Rattle.const_eval.specs.declared.fault.KindFault.TheVariants as fault
+use Rattle.const_env.specs.Judging.{Breaks}
+use Rattle.const_env.specs.declared.fault.KindFault.TheVariants as fault
 use Rattle.cal_check.specs.Constants.{constant_place, constants_in, last_using, not_yet, uses_at}
 use Rattle.early_check.specs.Finding.{Finds, FindsIn, not_yet_at, or_at}
 use Rattle.early_check.specs.declared.places.Found.{Found}

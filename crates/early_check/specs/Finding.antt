@@ -4,8 +4,8 @@ use Rattle.std.specs.Prelude.{◌≡◌, ◌==◌, ℕ, Bool, List, Option, None
 use Rattle.rvc_base.specs.declared.refusal.Rule.{Rule}
 use Rattle.rvc_base.specs.Rules.{not_constant, unknown_name}
 use Rattle.cal_ast.specs.Tree.{Tree}
-use Rattle.const_eval.specs.declared.fault.KindFault.{KindFault}
-use Rattle.const_eval.specs.declared.fault.KindFault.TheVariants.{Broken}
+use Rattle.const_env.specs.declared.fault.KindFault.{KindFault}
+use Rattle.const_env.specs.declared.fault.KindFault.TheVariants.{Broken}
 use Rattle.cal_check.specs.Constants.{constants_in, last_using, uses_at}
 use Rattle.early_check.specs.declared.places.Found.{Found}
 

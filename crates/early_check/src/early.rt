@@ -5,8 +5,8 @@ ghost use Rattle.std.specs.Prelude.{◌≡◌};
 ghost use Rattle.cal_model.specs.Value.{Kind as KindOf, Shape as ShapeOf};
 ghost use Rattle.cal_model.specs.Kinding.{Judged};
 ghost use Rattle.cal_model.specs.View.{kind_view, shape_view};
-ghost use Rattle.const_eval.specs.Counting.{names_view};
-ghost use Rattle.const_eval.specs.Judging.{Breaks, Judges};
+ghost use Rattle.const_env.specs.Counting.{names_view};
+ghost use Rattle.const_env.specs.Judging.{Breaks, Judges};
 ghost use Rattle.cal_check.specs.Constants.{early_kind, early_type, not_yet};
 ghost use Rattle.early_check.specs.Finding.{not_yet_at};
 

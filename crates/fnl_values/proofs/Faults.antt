@@ -6,9 +6,9 @@ use Rattle.std.proofs.lemmas.List.{append_assoc, append-nil}
 use Rattle.rvc_base.specs.declared.refusal.Front.{Front}
 use Rattle.rvc_base.specs.declared.refusal.Front.TheVariants as front
 use Rattle.cal_model.specs.Kinding.{Judged, Fine, Broken}
-use Rattle.const_eval.specs.Judging.{Breaks}
-use Rattle.const_eval.specs.declared.fault.KindFault.{KindFault}
-use Rattle.const_eval.specs.declared.fault.KindFault.TheVariants as fault
+use Rattle.const_env.specs.Judging.{Breaks}
+use Rattle.const_env.specs.declared.fault.KindFault.{KindFault}
+use Rattle.const_env.specs.declared.fault.KindFault.TheVariants as fault
 use Rattle.cal_check.specs.Violations.{Violation, broken, all_broken, fine, all_fine, and_all}
 use Rattle.cal_check.specs.Variables.{Found, found_in}
 use Rattle.fnl_values.specs.Causes.{IsCause, Refuses}

@@ -11,10 +11,10 @@ use Rattle.cal_model.specs.Actor.{Held}
 use Rattle.cal_model.specs.declared.value.Value.{Value as DeclaredValue}
 use Rattle.cal_model.specs.Kinding.{Judged, Fine, Broken, Known, Names}
 use Rattle.cal_model.specs.Sound.{Each}
-use Rattle.const_eval.specs.Held.{Kept, globals_of, held, names_in}
-use Rattle.const_eval.specs.Judging.{Breaks}
-use Rattle.const_eval.specs.declared.fault.KindFault.{KindFault}
-use Rattle.const_eval.specs.declared.fault.KindFault.TheVariants as fault
+use Rattle.const_env.specs.Held.{Kept, globals_of, held, names_in}
+use Rattle.const_env.specs.Judging.{Breaks}
+use Rattle.const_env.specs.declared.fault.KindFault.{KindFault}
+use Rattle.const_env.specs.declared.fault.KindFault.TheVariants as fault
 use Rattle.cal_check.specs.Constants.{early_type}
 use Rattle.cal_check.specs.Violations.{Violation, said, violation}
 use Rattle.cal_check.specs.Variables.{Spot, Found, found_in, Come, Given, VarDecl, Valued, come, value_of, param_broken, held_if, is_none, value_or, seen, with_var, with_type, with_come, valued}

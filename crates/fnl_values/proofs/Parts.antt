@@ -9,10 +9,10 @@ use Rattle.cal_model.specs.Outcome.{Out, Gives, Traps, Lacks, Clashes}
 use Rattle.cal_model.specs.Keeping.{GivesOnly}
 use Rattle.cal_model.specs.Kinding.{Judged, Fine, Broken, and_so, Names, kind, constant}
 use Rattle.cal_model.specs.Laws.{ConstantIsValue}
-use Rattle.const_eval.specs.Held.{Kept, names_in}
-use Rattle.const_eval.specs.Judging.{Breaks}
-use Rattle.const_eval.specs.declared.fault.KindFault.{KindFault}
-use Rattle.const_eval.specs.declared.fault.KindFault.TheVariants as fault
+use Rattle.const_env.specs.Held.{Kept, names_in}
+use Rattle.const_env.specs.Judging.{Breaks}
+use Rattle.const_env.specs.declared.fault.KindFault.{KindFault}
+use Rattle.const_env.specs.declared.fault.KindFault.TheVariants as fault
 use Rattle.cal_check.specs.Violations.{all_fine, and_all}
 use Rattle.cal_check.specs.Variables.{Given}
 use Rattle.fnl_read.specs.Net.{Port, a_port, Parameter, Instance, Size, a_size}

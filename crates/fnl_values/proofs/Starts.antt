@@ -14,10 +14,10 @@ use Rattle.cal_model.specs.Outcome.{Out, Gives, Traps, Lacks, Clashes}
 use Rattle.cal_model.specs.Kinding.{Judged, Fine, Broken, Names, kind, one_kind, constant}
 use Rattle.cal_model.specs.Laws.{ConstantIsValue}
 use Rattle.cal_model.proofs.KindValues.{split, one-kind, not-fine, fine-is}
-use Rattle.const_eval.specs.Held.{Kept, names_in}
-use Rattle.const_eval.specs.Judging.{Breaks}
-use Rattle.const_eval.specs.declared.fault.KindFault.{KindFault}
-use Rattle.const_eval.specs.declared.fault.KindFault.TheVariants as fault
+use Rattle.const_env.specs.Held.{Kept, names_in}
+use Rattle.const_env.specs.Judging.{Breaks}
+use Rattle.const_env.specs.declared.fault.KindFault.{KindFault}
+use Rattle.const_env.specs.declared.fault.KindFault.TheVariants as fault
 use Rattle.cal_check.specs.Constants.{constant_place, early_kind, has_kind, not_yet, stored_kind, value_given}
 use Rattle.cal_check.specs.Violations.{violation}
 use Rattle.cal_check.specs.Variables.{Come, come, come_of, come_if}

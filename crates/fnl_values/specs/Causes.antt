@@ -3,8 +3,8 @@
 use Rattle.std.specs.Prelude.{List, Contains}
 use Rattle.rvc_base.specs.declared.refusal.Front.{Front}
 use Rattle.rvc_base.specs.declared.refusal.Front.TheVariants as front
-use Rattle.const_eval.specs.declared.fault.KindFault.{KindFault}
-use Rattle.const_eval.specs.declared.fault.KindFault.TheVariants as fault
+use Rattle.const_env.specs.declared.fault.KindFault.{KindFault}
+use Rattle.const_env.specs.declared.fault.KindFault.TheVariants as fault
 use Rattle.cal_check.specs.Violations.{Violation}
 use Rattle.cal_check.specs.Variables.{Found}
 

@@ -15,7 +15,7 @@ use Rattle.cal_model.specs.Value.{Value}
 use Rattle.cal_model.specs.View.{shape_view, value_view}
 use Rattle.cal_model.specs.declared.kind.Shape.{Shape}
 use Rattle.cal_model.specs.declared.value.Value.{Value as DeclaredValue}
-use Rattle.const_eval.specs.Held.{Kept, globals_of, names_in}
+use Rattle.const_env.specs.Held.{Kept, globals_of, names_in}
 use Rattle.fnl_bind.specs.Library.{params_of, ports_of, var_decl, var_decls}
 use Rattle.fnl_bind.specs.Values.{ends_judged, instances_broken, values_broken}
 use Rattle.fnl_frames.specs.Views.{decl_of, instance_of, net_of, port_of}

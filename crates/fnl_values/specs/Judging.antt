@@ -13,10 +13,10 @@ use Rattle.cal_model.specs.Actor.{Held}
 use Rattle.cal_model.specs.Kinding.{Judged, Fine, Broken, Known, Names}
 use Rattle.cal_model.specs.View.{value_view}
 use Rattle.cal_model.specs.declared.value.Value.{Value as DeclaredValue}
-use Rattle.const_eval.specs.declared.fault.KindFault.{KindFault}
-use Rattle.const_eval.specs.declared.fault.KindFault.TheVariants as fault
-use Rattle.const_eval.specs.Held.{Kept, globals_of}
-use Rattle.const_eval.specs.Judging.{Breaks}
+use Rattle.const_env.specs.declared.fault.KindFault.{KindFault}
+use Rattle.const_env.specs.declared.fault.KindFault.TheVariants as fault
+use Rattle.const_env.specs.Held.{Kept, globals_of}
+use Rattle.const_env.specs.Judging.{Breaks}
 use Rattle.cal_check.specs.Constants.{not_yet}
 use Rattle.cal_check.specs.Actors.{is_declared, is_given}
 use Rattle.cal_check.specs.Violations.{violation, all_broken, all_fine}

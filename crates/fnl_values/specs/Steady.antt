@@ -4,7 +4,7 @@ use Rattle.std.specs.Prelude.{◌≡◌, List, [], ◌∷◌, Option, None, Some
 use Rattle.cal_model.specs.Value.{HasKind, Value}
 use Rattle.cal_model.specs.Kinding.{Known, Names}
 use Rattle.cal_model.specs.Sound.{Each}
-use Rattle.const_eval.specs.Held.{Kept, globals_of, held}
+use Rattle.const_env.specs.Held.{Kept, globals_of, held}
 
 -- a constant, whose value is of its kind
 pub record IsConstant (x : Known) : Type 0 where

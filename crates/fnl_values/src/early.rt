@@ -4,8 +4,8 @@ ghost use Rattle.std.specs.Prelude.{◌≡◌, IfOk};
 ghost use Rattle.cal_ast.specs.View.{expr_tree, type_tree};
 ghost use Rattle.cal_model.specs.Value.{IsType};
 ghost use Rattle.cal_model.specs.View.{kind_view, shape_view};
-ghost use Rattle.const_eval.specs.Held.{names_in};
-ghost use Rattle.const_eval.specs.Judging.{Judges};
+ghost use Rattle.const_env.specs.Held.{names_in};
+ghost use Rattle.const_env.specs.Judging.{Judges};
 ghost use Rattle.fnl_values.specs.Judging.{IsLateInExpr, IsLateInType};
 ghost use Rattle.cal_check.specs.Constants.{early_kind, early_type, stored_kind};
 

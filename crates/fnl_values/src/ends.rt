@@ -4,8 +4,8 @@
 ghost use Rattle.std.specs.Prelude.{◌≡◌, [], Some, IfErr, IfOk, OnOk, false, true};
 ghost use Rattle.cal_ast.specs.View.{type_tree};
 ghost use Rattle.cal_check.specs.Routines.{single_type};
-ghost use Rattle.const_eval.specs.Held.{names_in};
-ghost use Rattle.const_eval.specs.Judging.{Judges};
+ghost use Rattle.const_env.specs.Held.{names_in};
+ghost use Rattle.const_env.specs.Judging.{Judges};
 ghost use Rattle.fnl_bind.specs.Values.{end_judged};
 ghost use Rattle.fnl_frames.specs.Views.{port_of};
 ghost use Rattle.fnl_tree.specs.View.{own_of};

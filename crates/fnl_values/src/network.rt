@@ -2,7 +2,7 @@
 #![tactic(auto, using(crate::proofs::Faults::refuses_in_first, crate::proofs::Faults::refuses_in_others, crate::proofs::Faults::cause_in_first, crate::proofs::Faults::cause_in_others))]
 
 ghost use Rattle.std.specs.Prelude.{◌≡◌, [], IfErr, IfOk};
-ghost use Rattle.const_eval.specs.Held.{names_in};
+ghost use Rattle.const_env.specs.Held.{names_in};
 ghost use Rattle.fnl_frames.specs.Views.{net_of};
 ghost use Rattle.fnl_values.specs.Evaluated.{Evaluates, HasParts, alone};
 ghost use Rattle.fnl_values.specs.Given.{all_given_of, spot_of};

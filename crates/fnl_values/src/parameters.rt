@@ -2,8 +2,8 @@
 #![tactic(auto, using(crate::proofs::Faults::breaks_first, crate::proofs::Faults::fine_first, crate::proofs::Faults::behind_all, crate::proofs::Faults::behind_more, crate::proofs::Parts::given_first))]
 
 ghost use Rattle.std.specs.Prelude.{◌≡◌, IfOk, Some, map};
-ghost use Rattle.const_eval.specs.Held.{names_in};
-ghost use Rattle.const_eval.specs.Judging.{Judges};
+ghost use Rattle.const_env.specs.Held.{names_in};
+ghost use Rattle.const_env.specs.Judging.{Judges};
 ghost use Rattle.fnl_bind.specs.Values.{given_as, parameter_judged};
 ghost use Rattle.fnl_frames.specs.Views.{parameter_of};
 ghost use Rattle.fnl_values.specs.Given.{given_of};

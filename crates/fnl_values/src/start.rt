@@ -6,7 +6,7 @@ ghost use Rattle.cal_ast.specs.View.{expr_tree, optional_expr};
 ghost use Rattle.cal_check.specs.Variables.{come};
 ghost use Rattle.cal_model.specs.Value.{HasKind, IsType, kind_of_type};
 ghost use Rattle.cal_model.specs.View.{kind_view, shape_view, value_view};
-ghost use Rattle.const_eval.specs.Held.{names_in};
+ghost use Rattle.const_env.specs.Held.{names_in};
 ghost use Rattle.fnl_values.specs.Judging.{Starts};
 ghost use Rattle.fnl_values.specs.Steady.{IsSteady};
 

@@ -9,11 +9,11 @@ use Rattle.cal_model.specs.Kinding.{Fine, Names, and_so, with_known}
 use Rattle.cal_model.specs.Sound.{known_local, with_locals}
 use Rattle.cal_model.specs.View.{local_view}
 use Rattle.cal_model.specs.declared.bound.BoundLocal.{BoundLocal}
-use Rattle.const_eval.specs.Counting.{known_variable, variable_view}
-use Rattle.const_eval.specs.Judging.{Breaks}
-use Rattle.const_eval.specs.declared.fault.KindFault.{KindFault}
-use Rattle.const_eval.specs.declared.inside.Variable.{Variable}
-use Rattle.const_eval.specs.declared.names.Names.{Names as DeclaredNames}
+use Rattle.const_env.specs.Counting.{known_variable, variable_view}
+use Rattle.const_env.specs.Judging.{Breaks}
+use Rattle.const_env.specs.declared.fault.KindFault.{KindFault}
+use Rattle.const_env.specs.declared.inside.Variable.{Variable}
+use Rattle.const_env.specs.declared.names.Names.{Names as DeclaredNames}
 use Rattle.cal_check.specs.Routines.{formal_judged, formals_judged}
 use Rattle.cal_written.specs.Seeing.{seen_behind}
 use Rattle.cal_written.proofs.VarSteps.{seen_next}

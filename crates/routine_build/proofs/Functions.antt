@@ -8,8 +8,8 @@ use Rattle.cal_ast.specs.declared.member.Procedure.{Procedure}
 use Rattle.cal_model.specs.Actor.{Local, Proc}
 use Rattle.cal_model.specs.Kinding.{Judged, Fine, Broken, Names, and_so}
 use Rattle.cal_model.specs.Sound.{with_locals}
-use Rattle.const_eval.specs.Judging.{Breaks}
-use Rattle.const_eval.specs.declared.fault.KindFault.{KindFault}
+use Rattle.const_env.specs.Judging.{Breaks}
+use Rattle.const_env.specs.declared.fault.KindFault.{KindFault}
 use Rattle.cal_check.specs.Routines.{Head, formals_judged, fun_if, fun_judged, locals_of, proc_judged, result_judged, single_type}
 use Rattle.cal_check.specs.Statements.{names_behind}
 use Rattle.cal_check.specs.Written.{behind_vars, statement_written}

@@ -1,9 +1,9 @@
 -- How judging goes on after a part, and how it ends.
 use Rattle.std.proofs.Common.{◌≡◌, refl, ap}
 use Rattle.cal_model.specs.Kinding.{Judged, Fine, Broken, and_so}
-use Rattle.const_eval.specs.Judging.{Breaks}
-use Rattle.const_eval.specs.declared.fault.KindFault.{KindFault}
-use Rattle.const_eval.specs.declared.fault.KindFault.TheVariants as fault
+use Rattle.const_env.specs.Judging.{Breaks}
+use Rattle.const_env.specs.declared.fault.KindFault.{KindFault}
+use Rattle.const_env.specs.declared.fault.KindFault.TheVariants as fault
 
 -- a part that breaks a rule breaks it in the whole
 pub breaks_on : {A B : Type 0} (f : KindFault) (o : Judged A) (g : A → Judged B) → Breaks f o → Breaks f (and_so o g)

@@ -9,8 +9,8 @@ use Rattle.cal_model.specs.Kinding.{Judged, Fine, Broken, Names, and_so}
 use Rattle.cal_model.specs.Value.{Shape}
 use Rattle.cal_model.specs.View.{local_view}
 use Rattle.cal_model.specs.declared.bound.BoundLocal.{BoundLocal}
-use Rattle.const_eval.specs.declared.inside.Variable.{Variable}
-use Rattle.const_eval.specs.declared.names.Names.{Names as DeclaredNames}
+use Rattle.const_env.specs.declared.inside.Variable.{Variable}
+use Rattle.const_env.specs.declared.names.Names.{Names as DeclaredNames}
 use Rattle.cal_check.specs.Routines.{locals_of}
 use Rattle.cal_check.specs.Statements.{behind, names_behind, type_of_var}
 use Rattle.cal_check.specs.Written.{behind_vars, with_inner}

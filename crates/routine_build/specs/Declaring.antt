@@ -10,7 +10,7 @@ use Rattle.cal_model.specs.Kinding.{Judged, Fine, Broken, Names, and_so, with_kn
 use Rattle.cal_model.specs.Sound.{with_locals}
 use Rattle.cal_model.specs.Value.{Kind, NumKind, Shape, Single, kind_of_type}
 use Rattle.cal_model.specs.View.{local_view}
-use Rattle.const_eval.specs.Counting.{known_variable, variable_view}
+use Rattle.const_env.specs.Counting.{known_variable, variable_view}
 use Rattle.cal_check.specs.Routines.{fun_if, local_of, locals_of, proc_of, result_judged}
 use Rattle.cal_check.specs.Statements.{names_behind, type_of_var}
 use Rattle.cal_check.specs.Written.{behind_vars, with_inner, written}

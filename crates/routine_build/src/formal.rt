@@ -8,8 +8,8 @@ ghost use Rattle.cal_ast.specs.View.{port_tree, type_tree};
 ghost use Rattle.cal_check.specs.Routines.{formal_judged, formals_judged, single_type};
 ghost use Rattle.cal_model.specs.Sound.{known_local, with_locals};
 ghost use Rattle.cal_model.specs.View.{local_view};
-ghost use Rattle.const_eval.specs.Counting.{known_variable, names_view, variable_view};
-ghost use Rattle.const_eval.specs.Judging.{Judges};
+ghost use Rattle.const_env.specs.Counting.{known_variable, names_view, variable_view};
+ghost use Rattle.const_env.specs.Judging.{Judges};
 ghost use Rattle.cal_written.specs.Seeing.{seen_behind};
 
 use cal_ast::{PortDecl, TypeExpr};

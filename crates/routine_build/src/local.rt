@@ -9,7 +9,7 @@ ghost use Rattle.cal_check.specs.Violations.{fine};
 ghost use Rattle.cal_check.specs.Written.{behind_vars};
 ghost use Rattle.cal_model.specs.Kinding.{type_judged};
 ghost use Rattle.cal_model.specs.View.{kind_view, local_view, shape_view};
-ghost use Rattle.const_eval.specs.Counting.{names_view};
+ghost use Rattle.const_env.specs.Counting.{names_view};
 ghost use Rattle.cal_written.specs.Seeing.{seen_behind};
 ghost use Rattle.routine_build.specs.Declaring.{IsLocal, is_fine, kind_or_number, shape_or_bool};
 

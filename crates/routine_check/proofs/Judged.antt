@@ -2,9 +2,9 @@
 use Rattle.std.proofs.Common.{ℕ, ap}
 use Rattle.cal_model.specs.Value.{Shape}
 use Rattle.cal_model.specs.Kinding.{Judged, and_so}
-use Rattle.const_eval.specs.Judging.{Breaks}
-use Rattle.const_eval.specs.declared.fault.KindFault.{KindFault}
-use Rattle.const_eval.specs.declared.fault.KindFault.TheVariants as fault
+use Rattle.const_env.specs.Judging.{Breaks}
+use Rattle.const_env.specs.declared.fault.KindFault.{KindFault}
+use Rattle.const_env.specs.declared.fault.KindFault.TheVariants as fault
 use Rattle.cal_check.specs.Routines.{single}
 
 pub breaks_on : {A B : Type 0} (f : KindFault) (o : Judged A) (g : A → Judged B) → Breaks f o → Breaks f (and_so o g)

@@ -9,9 +9,9 @@ use Rattle.cal_model.specs.Kinding.{Judged, Fine, Broken, and_so, Names, with_kn
 use Rattle.cal_model.specs.Sound.{known_local, with_locals}
 use Rattle.cal_model.specs.View.{local_view}
 use Rattle.cal_model.specs.declared.bound.BoundLocal.{BoundLocal}
-use Rattle.const_eval.specs.Counting.{known_variable, names_view, variable_view}
-use Rattle.const_eval.specs.declared.inside.Variable.{Variable}
-use Rattle.const_eval.specs.declared.names.Names.{Names as DeclaredNames}
+use Rattle.const_env.specs.Counting.{known_variable, names_view, variable_view}
+use Rattle.const_env.specs.declared.inside.Variable.{Variable}
+use Rattle.const_env.specs.declared.names.Names.{Names as DeclaredNames}
 use Rattle.cal_check.specs.Routines.{formal_judged, formals_judged}
 use Rattle.stmt_check.specs.Declaring.{seen_behind}
 use Rattle.stmt_check.proofs.Walks.{seen_next}

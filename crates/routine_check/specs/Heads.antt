@@ -12,8 +12,8 @@ use Rattle.cal_model.specs.Actor.{Local}
 use Rattle.cal_model.specs.Kinding.{Names}
 use Rattle.cal_model.specs.Sound.{with_locals}
 use Rattle.cal_model.specs.View.{local_view}
-use Rattle.const_eval.specs.Counting.{names_view}
-use Rattle.const_eval.specs.declared.names.Names.{Names as DeclaredNames}
+use Rattle.const_env.specs.Counting.{names_view}
+use Rattle.const_env.specs.declared.names.Names.{Names as DeclaredNames}
 use Rattle.cal_check.specs.Violations.{Violation, broken, if_fine}
 use Rattle.cal_check.specs.Constants.{stored_kind}
 use Rattle.cal_check.specs.Statements.{names_behind, starts_broken}

@@ -3,7 +3,7 @@
 ghost use Rattle.std.specs.Prelude.{map};
 ghost use Rattle.cal_ast.specs.View.{procedure_tree};
 ghost use Rattle.cal_model.specs.View.{proc_view};
-ghost use Rattle.const_eval.specs.Counting.{names_view};
+ghost use Rattle.const_env.specs.Counting.{names_view};
 ghost use Rattle.cal_check.specs.Routines.{proc_broken, proc_inside};
 ghost use Rattle.cal_check.specs.Violations.{said};
 ghost use Rattle.stmt_check.specs.Judging.{Checks};

@@ -6,8 +6,8 @@ ghost use Rattle.cal_ast.specs.Places.{begins};
 ghost use Rattle.cal_ast.specs.View.{type_tree};
 ghost use Rattle.cal_model.specs.Kinding.{Fine};
 ghost use Rattle.cal_model.specs.View.{shape_view};
-ghost use Rattle.const_eval.specs.Counting.{names_view};
-ghost use Rattle.const_eval.specs.Judging.{Judges};
+ghost use Rattle.const_env.specs.Counting.{names_view};
+ghost use Rattle.const_env.specs.Judging.{Judges};
 ghost use Rattle.std.specs.Prelude.{◌≡◌};
 ghost use Rattle.cal_check.specs.Routines.{single, single_type};
 

@@ -2,7 +2,7 @@
 
 ghost use Rattle.std.specs.Prelude.{ℕ, map};
 ghost use Rattle.cal_model.specs.View.{proc_view};
-ghost use Rattle.const_eval.specs.Counting.{names_view};
+ghost use Rattle.const_env.specs.Counting.{names_view};
 ghost use Rattle.cal_check.specs.Actors.{formals_broken, funs_broken, funs_in, heads_broken, procs_broken, procs_in};
 ghost use Rattle.cal_check.specs.Violations.{said};
 ghost use Rattle.stmt_check.specs.Judging.{Checks};

@@ -9,8 +9,8 @@ use Rattle.cal_model.specs.View.{value_view}
 use Rattle.cal_model.specs.Actor.{Fun}
 use Rattle.cal_model.specs.Call.{fun_named}
 use Rattle.cal_model.specs.Kinding.{Judged, Fine, Broken, Known, Names}
-use Rattle.const_eval.specs.Constants.{has_fun}
-use Rattle.const_eval.specs.Held.{Kept, globals_of, held, last_first, names_in}
+use Rattle.const_env.specs.Constants.{has_fun}
+use Rattle.const_env.specs.Held.{Kept, globals_of, held, last_first, names_in}
 use Rattle.cal_check.specs.Actors.{at_rest}
 use Rattle.cal_check.specs.Routines.{FunDecl, fun_judged, funs_after, funs_over, with_fun}
 use Rattle.cal_check.specs.Variables.{seen}

@@ -15,7 +15,7 @@ use Rattle.cal_model.specs.Kinding.{Judged, Fine, Broken, Names, and_so, type_ju
 use Rattle.cal_model.specs.Laws.{JudgedIsType}
 use Rattle.cal_model.specs.Sound.{known_local, with_locals}
 use Rattle.cal_model.proofs.KindValues.{split, fine-is, not-fine}
-use Rattle.const_eval.specs.Sizes.{is_size, is_sized, are_sized, is_sized_fun}
+use Rattle.const_env.specs.Sizes.{is_size, is_sized, are_sized, is_sized_fun}
 use Rattle.cal_check.specs.Routines.{Head, formal_judged, formal_of, formals_judged, fun_if, fun_judged, head_judged, local_of, locals_of, result_judged, shape_of, single, single_type}
 use Rattle.cal_check.specs.Statements.{names_behind}
 use Rattle.cal_check.specs.Written.{with_inner}

@@ -7,8 +7,8 @@ use Rattle.cal_model.specs.Actor.{Fun}
 use Rattle.cal_model.specs.Kinding.{Known, Names}
 use Rattle.cal_model.specs.Value.{Value}
 use Rattle.cal_model.specs.View.{kind_view, value_view}
-use Rattle.const_eval.specs.Constants.{has_fun}
-use Rattle.const_eval.specs.Held.{last_first}
+use Rattle.const_env.specs.Constants.{has_fun}
+use Rattle.const_env.specs.Held.{last_first}
 use Rattle.cal_check.specs.Routines.{FunDecl}
 use Rattle.seen_names.specs.declared.known.KnownName.{KnownName}
 use Rattle.seen_names.specs.declared.declared.DeclaredFun.{DeclaredFun}

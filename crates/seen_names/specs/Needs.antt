@@ -17,7 +17,7 @@ use Rattle.cal_model.specs.Kinding.{Known, Names}
 use Rattle.cal_model.specs.Tags.{is_seen, with_seen}
 use Rattle.cal_check.specs.Routines.{FunDecl, funs_after}
 use Rattle.cal_check.specs.Variables.{seen}
-use Rattle.const_eval.specs.Held.{Kept as Environment, names_in}
+use Rattle.const_env.specs.Held.{Kept as Environment, names_in}
 use Rattle.seen_names.specs.Known.{names_alone}
 
 -- names in order of first appearance, and whether something is called

@@ -2,7 +2,7 @@
 
 ghost use Rattle.std.specs.Prelude.{◌≡◌, ◌∷◌, [], IfOk, OnOk, option_map};
 ghost use Rattle.cal_model.specs.View.{value_view};
-ghost use Rattle.const_eval.specs.Held.{globals_of, held, last_first, names_in};
+ghost use Rattle.const_env.specs.Held.{globals_of, held, last_first, names_in};
 ghost use Rattle.seen_names.specs.Known.{all_known, known_at, known_view, names_alone, value_seen};
 
 use cal_model::{Kind, Value};

@@ -5,9 +5,9 @@ ghost use Rattle.cal_ast.specs.View.{function_tree};
 ghost use Rattle.cal_check.specs.Actors.{at_rest};
 ghost use Rattle.cal_check.specs.Routines.{fun_judged, funs_over, with_fun};
 ghost use Rattle.cal_check.specs.Variables.{seen};
-ghost use Rattle.const_eval.specs.Constants.{has_fun};
-ghost use Rattle.const_eval.specs.Counting.{names_view};
-ghost use Rattle.const_eval.specs.Held.{globals_of, held, last_first, names_in};
+ghost use Rattle.const_env.specs.Constants.{has_fun};
+ghost use Rattle.const_env.specs.Counting.{names_view};
+ghost use Rattle.const_env.specs.Held.{globals_of, held, last_first, names_in};
 ghost use Rattle.seen_names.specs.Known.{all_known, fun_decls, known_at, names_differ};
 ghost use Rattle.seen_names.specs.Needs.{AreEnough, needs_of};
 

@@ -3,9 +3,9 @@ use Rattle.std.proofs.Common.{◌≡◌, Ok, Err, List, [], ◌++◌, Result, sy
 use Rattle.std.proofs.lemmas.List.Elements.{Contains-append_left, Contains-append_right, Contains-push}
 use Rattle.std.proofs.lemmas.List.{append-nil, append_assoc}
 use Rattle.cal_model.specs.Kinding.{Judged, Fine, Broken}
-use Rattle.const_eval.specs.Judging.{Breaks, Judges}
-use Rattle.const_eval.specs.declared.fault.KindFault.{KindFault}
-use Rattle.const_eval.specs.declared.fault.KindFault.TheVariants as fault
+use Rattle.const_env.specs.Judging.{Breaks, Judges}
+use Rattle.const_env.specs.declared.fault.KindFault.{KindFault}
+use Rattle.const_env.specs.declared.fault.KindFault.TheVariants as fault
 use Rattle.cal_check.specs.Violations.{Violation, broken, if_fine}
 use Rattle.stmt_check.specs.Judging.{Checks, Refuses}
 

@@ -1,9 +1,9 @@
 -- A part that breaks a rule breaks it in the whole.
 use Rattle.std.proofs.Common.{ap}
 use Rattle.cal_model.specs.Kinding.{Judged, and_so}
-use Rattle.const_eval.specs.Judging.{Breaks}
-use Rattle.const_eval.specs.declared.fault.KindFault.{KindFault}
-use Rattle.const_eval.specs.declared.fault.KindFault.TheVariants as fault
+use Rattle.const_env.specs.Judging.{Breaks}
+use Rattle.const_env.specs.declared.fault.KindFault.{KindFault}
+use Rattle.const_env.specs.declared.fault.KindFault.TheVariants as fault
 
 pub breaks_on : {A B : Type 0} (f : KindFault) (o : Judged A) (g : A → Judged B) → Breaks f o → Breaks f (and_so o g)
 breaks_on (fault.Broken rule at) o g h = ap (λ x. and_so x g) h

@@ -7,9 +7,9 @@ use Rattle.rvc_base.specs.Rules.{constant_assigned, not_constant}
 use Rattle.rvc_base.specs.declared.refusal.Rule.{Rule}
 use Rattle.cal_check.proofs.Lists.{at-head, head-or-rest, in-none, in-rest}
 use Rattle.cal_model.specs.Kinding.{Judged, Fine, Broken, Known}
-use Rattle.const_eval.specs.Judging.{Breaks}
-use Rattle.const_eval.specs.declared.fault.KindFault.{KindFault}
-use Rattle.const_eval.specs.declared.fault.KindFault.TheVariants as fault
+use Rattle.const_env.specs.Judging.{Breaks}
+use Rattle.const_env.specs.declared.fault.KindFault.{KindFault}
+use Rattle.const_env.specs.declared.fault.KindFault.TheVariants as fault
 use Rattle.cal_check.specs.Violations.{Violation, broken, if_fine, said, unless, without_constants}
 use Rattle.cal_check.specs.Statements.{may_be_assigned}
 use Rattle.stmt_check.specs.Declaring.{IsPassed}

@@ -7,11 +7,11 @@ use Rattle.cal_ast.specs.declared.member.VarDecl.{VarDecl}
 use Rattle.cal_model.specs.Value.{Kind}
 use Rattle.cal_model.specs.Kinding.{Judged, Fine, Broken, and_so, Names, kinds, with_known}
 use Rattle.rvc_base.specs.Rules.{not_constant}
-use Rattle.const_eval.specs.declared.fault.KindFault.{KindFault}
-use Rattle.const_eval.specs.Counting.{inner_variables, known_variable, names_inside, variable_view}
-use Rattle.const_eval.specs.Held.{last_first}
-use Rattle.const_eval.specs.declared.inside.Variable.{Variable}
-use Rattle.const_eval.specs.declared.names.Names.{Names as DeclaredNames}
+use Rattle.const_env.specs.declared.fault.KindFault.{KindFault}
+use Rattle.const_env.specs.Counting.{inner_variables, known_variable, names_inside, variable_view}
+use Rattle.const_env.specs.Held.{last_first}
+use Rattle.const_env.specs.declared.inside.Variable.{Variable}
+use Rattle.const_env.specs.declared.names.Names.{Names as DeclaredNames}
 use Rattle.cal_check.specs.Violations.{Violation, broken, said, violation, while_fine}
 use Rattle.cal_check.specs.Statements.{behind, names_behind, starts_broken, type_of_var, var_broken}
 use Rattle.stmt_check.specs.Declaring.{DeclaresAllSaid, DeclaresSaid, seen_behind}

@@ -10,10 +10,10 @@ use Rattle.cal_ast.specs.View.{var_tree}
 use Rattle.cal_ast.specs.declared.member.VarDecl.{VarDecl}
 use Rattle.rvc_base.specs.Rules.{not_constant}
 use Rattle.cal_model.specs.Kinding.{Judged, Fine, Broken, Names, with_known}
-use Rattle.const_eval.specs.Counting.{declared_by, inner_variables, known_variable, names_inside, variable_view}
-use Rattle.const_eval.specs.declared.fault.KindFault.{KindFault}
-use Rattle.const_eval.specs.declared.inside.Variable.{Variable}
-use Rattle.const_eval.specs.declared.names.Names.{Names as DeclaredNames}
+use Rattle.const_env.specs.Counting.{declared_by, inner_variables, known_variable, names_inside, variable_view}
+use Rattle.const_env.specs.declared.fault.KindFault.{KindFault}
+use Rattle.const_env.specs.declared.inside.Variable.{Variable}
+use Rattle.const_env.specs.declared.names.Names.{Names as DeclaredNames}
 use Rattle.cal_model.specs.Actor.{Proc}
 use Rattle.cal_model.specs.Value.{Kind, NumKind, Shape}
 use Rattle.cal_model.specs.View.{shape_view}

@@ -5,7 +5,7 @@ ghost use Rattle.std.specs.Prelude.{false};
 ghost use Rattle.cal_ast.specs.View.{optional_expr, type_tree, var_tree};
 ghost use Rattle.cal_model.specs.Kinding.{type_judged};
 ghost use Rattle.cal_model.specs.View.{kind_view};
-ghost use Rattle.const_eval.specs.Counting.{names_view};
+ghost use Rattle.const_env.specs.Counting.{names_view};
 ghost use Rattle.cal_check.specs.Violations.{said};
 ghost use Rattle.stmt_check.specs.Declaring.{DeclaresAll, DeclaresAllSaid, DeclaresSaid, TypesSaid, seen_behind, start_stored};
 ghost use Rattle.stmt_check.specs.Judging.{Checks};

@@ -6,7 +6,7 @@ ghost use Rattle.cal_ast.specs.Tree.{listed};
 ghost use Rattle.cal_ast.specs.View.{expr_tree};
 ghost use Rattle.cal_model.specs.Statement.{proc_named};
 ghost use Rattle.cal_model.specs.View.{proc_view};
-ghost use Rattle.const_eval.specs.Counting.{names_view};
+ghost use Rattle.const_env.specs.Counting.{names_view};
 ghost use Rattle.cal_check.specs.Statements.{call_judged};
 ghost use Rattle.cal_check.specs.Violations.{broken, said};
 ghost use Rattle.stmt_check.specs.Judging.{Checks};

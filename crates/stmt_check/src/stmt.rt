@@ -7,7 +7,7 @@ ghost use Rattle.cal_ast.specs.View.{body_tree, expr_tree, stmt_tree, type_tree,
 ghost use Rattle.cal_model.specs.Kinding.{counter, with_known};
 ghost use Rattle.cal_model.specs.Value.{NumKind};
 ghost use Rattle.cal_model.specs.View.{proc_view};
-ghost use Rattle.const_eval.specs.Counting.{names_view};
+ghost use Rattle.const_env.specs.Counting.{names_view};
 ghost use Rattle.cal_check.specs.Constants.{stored_kind};
 ghost use Rattle.cal_check.specs.Statements.{counter_judged, statement_broken, test_judged};
 ghost use Rattle.cal_check.specs.Violations.{broken, said};

@@ -12,7 +12,7 @@ use Rattle.rvc_base.specs.declared.refusal.Place.{Place}
 use Rattle.cal_model.specs.Value.{Shape, Value, kind_of_type}
 use Rattle.cal_model.specs.Kinding.{Judged, Fine, Broken, Names}
 use Rattle.cal_model.specs.View.{var_view}
-use Rattle.const_eval.specs.Held.{last_first}
+use Rattle.const_env.specs.Held.{last_first}
 use Rattle.cal_check.specs.Constants.{early_type}
 use Rattle.cal_check.specs.Violations.{said, violation}
 use Rattle.cal_check.specs.Routines.{FunDecl}

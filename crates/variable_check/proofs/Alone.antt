@@ -5,7 +5,7 @@ use Rattle.std.specs.declared.result.Result.{Result}
 use Rattle.rvc_base.specs.declared.refusal.Front.{Front}
 use Rattle.cal_model.specs.Value.{Shape}
 use Rattle.cal_model.specs.Kinding.{Judged, Fine, Broken, Known, Names}
-use Rattle.const_eval.specs.Held.{Kept as Environment, names_in}
+use Rattle.const_env.specs.Held.{Kept as Environment, names_in}
 use Rattle.cal_check.specs.Constants.{early_type}
 use Rattle.cal_check.specs.Routines.{FunDecl}
 use Rattle.cal_check.specs.Variables.{Given, Spot, VarDecl, Valued, come, seen, with_come, with_type, with_var}

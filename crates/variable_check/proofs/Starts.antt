@@ -12,11 +12,11 @@ use Rattle.cal_model.specs.Call.{calls_of}
 use Rattle.cal_model.specs.Kinding.{Judged, Fine, Broken, Known, Names, constant, constants}
 use Rattle.cal_model.specs.Kinding as kinding
 use Rattle.cal_model.specs.Laws.{ConstantIsValue}
-use Rattle.const_eval.specs.Constants.{Constant, constants_among, other_constants, var_of}
-use Rattle.const_eval.specs.Evaluable.{value_of}
-use Rattle.const_eval.specs.Held.{Kept, globals_of, held, names_in}
-use Rattle.const_eval.specs.declared.fault.KindFault.{KindFault}
-use Rattle.const_eval.specs.declared.fault.KindFault.TheVariants as fault
+use Rattle.const_env.specs.Constants.{Constant, constants_among, other_constants, var_of}
+use Rattle.expr_eval.specs.Evaluable.{value_of}
+use Rattle.const_env.specs.Held.{Kept, globals_of, held, names_in}
+use Rattle.const_env.specs.declared.fault.KindFault.{KindFault}
+use Rattle.const_env.specs.declared.fault.KindFault.TheVariants as fault
 use Rattle.stmt_check.specs.Judging.{Refuses}
 use Rattle.cal_check.specs.Constants.{start_value, value_given}
 use Rattle.cal_check.specs.Variables.{Come, come_of}

@@ -1,8 +1,8 @@
 -- Faults of members, as those of kinds.
 -- Not trusted: no promise is read with it.
 use Rattle.std.specs.Prelude.{List, ◌++◌, Option, None, Some}
-use Rattle.const_eval.specs.declared.fault.KindFault.{KindFault}
-use Rattle.const_eval.specs.declared.fault.KindFault.TheVariants as fault
+use Rattle.const_env.specs.declared.fault.KindFault.{KindFault}
+use Rattle.const_env.specs.declared.fault.KindFault.TheVariants as fault
 use Rattle.member_check.specs.declared.fault.MemberFault.{MemberFault}
 use Rattle.member_check.specs.declared.fault.MemberFault.TheVariants as member
 

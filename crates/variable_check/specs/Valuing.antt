@@ -14,8 +14,8 @@ use Rattle.cal_model.specs.Sound.{Each}
 use Rattle.cal_model.specs.Value.{Shape, Value}
 use Rattle.cal_model.specs.View.{value_view, var_view}
 use Rattle.cal_model.specs.declared.value.Value.{Value as DeclaredValue}
-use Rattle.const_eval.specs.declared.fault.KindFault.{KindFault}
-use Rattle.const_eval.specs.declared.fault.KindFault.TheVariants as fault
+use Rattle.const_env.specs.declared.fault.KindFault.{KindFault}
+use Rattle.const_env.specs.declared.fault.KindFault.TheVariants as fault
 use Rattle.cal_check.specs.Actors.{first_valueless, is_declared, is_given, said_or_all}
 use Rattle.cal_check.specs.Violations.{Violation, said, violation}
 use Rattle.cal_check.specs.Variables.{Come, Found, Given, Spot, VarDecl, Valued, found_in, is_none, param_broken, value_of}

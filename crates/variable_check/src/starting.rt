@@ -11,8 +11,8 @@ ghost use Rattle.cal_model.specs.Kinding.{Judged, Names as NamesOf};
 ghost use Rattle.cal_model.specs.Outcome.{Gives};
 ghost use Rattle.cal_model.specs.Value.{IsType, Kind as KindOf, Shape as ShapeOf, kind_of_type};
 ghost use Rattle.cal_model.specs.View.{kind_view, shape_view, value_view};
-ghost use Rattle.const_eval.specs.Held.{names_in};
-ghost use Rattle.const_eval.specs.Judging.{Breaks};
+ghost use Rattle.const_env.specs.Held.{names_in};
+ghost use Rattle.const_env.specs.Judging.{Breaks};
 ghost use Rattle.variable_check.specs.Valuing.{ComesTo, said_of};
 
 use crate::fault::is_not_constant;

@@ -7,8 +7,8 @@ ghost use Rattle.cal_check.specs.Variables.{Given, Spot, VarDecl as VarOf, come,
 ghost use Rattle.cal_model.specs.Kinding.{Judged, Names as NamesOf};
 ghost use Rattle.cal_model.specs.Value.{IsType, Shape as ShapeOf, kind_of_type};
 ghost use Rattle.cal_model.specs.View.{kind_view, shape_view};
-ghost use Rattle.const_eval.specs.Held.{names_in};
-ghost use Rattle.const_eval.specs.Judging.{Breaks};
+ghost use Rattle.const_env.specs.Held.{names_in};
+ghost use Rattle.const_env.specs.Judging.{Breaks};
 ghost use Rattle.seen_names.specs.Calls.{calls_any};
 ghost use Rattle.cal_check.specs.Routines.{FunDecl};
 ghost use Rattle.seen_names.specs.Known.{all_known, fun_decls, names_differ};

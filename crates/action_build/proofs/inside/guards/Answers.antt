@@ -1,7 +1,7 @@
 use Rattle.std.proofs.Common.{map}
 use Rattle.std.proofs.lemmas.Result.{IfOk-weaker}
 use Rattle.cal_ast.specs.View.{expr_tree}
-use Rattle.const_eval.specs.Counting.{names_view}
+use Rattle.const_env.specs.Counting.{names_view}
 use Rattle.action_build.proofs.InsideSteps.{guards_same}
 use Rattle.action_build.proofs.inside.guards.Goals as goal
 

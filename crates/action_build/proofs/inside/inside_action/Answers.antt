@@ -8,7 +8,7 @@ use Rattle.cal_check.specs.Actions.{body_of, guards_written, or_none, outputs_fi
 use Rattle.cal_check.specs.Routines.{locals_of}
 use Rattle.cal_check.specs.Statements.{names_behind}
 use Rattle.cal_check.specs.Written.{statement_written}
-use Rattle.const_eval.specs.Counting.{names_view}
+use Rattle.const_env.specs.Counting.{names_view}
 use Rattle.member_check.specs.Asking.{outputs_tree}
 use Rattle.member_check.specs.Parts.{exprs_tree}
 use Rattle.stmt_check.specs.Declaring.{seen_behind}

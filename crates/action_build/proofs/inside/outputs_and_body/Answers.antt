@@ -2,7 +2,7 @@ use Rattle.std.proofs.Common.{◌≡◌, Err, sym, subst, rules}
 use Rattle.cal_ast.specs.View.{body_tree}
 use Rattle.cal_check.specs.Actions.{outputs_broken}
 use Rattle.cal_check.specs.Statements.{statement_broken}
-use Rattle.const_eval.specs.Counting.{names_view}
+use Rattle.const_env.specs.Counting.{names_view}
 use Rattle.member_check.specs.Asking.{outputs_tree}
 use Rattle.stmt_check.proofs.Checked.{refuses_later}
 use Rattle.stmt_check.specs.Judging.{Refuses}

@@ -1,6 +1,6 @@
 use Rattle.std.proofs.Common.{◌≡◌, true, sym, ap, ◌∙◌, rules}
 use Rattle.cal_model.specs.Kinding.{Fine}
-use Rattle.const_eval.specs.Counting.{names_view}
+use Rattle.const_env.specs.Counting.{names_view}
 use Rattle.action_build.proofs.InsideSteps.{typed_behind}
 use Rattle.action_build.specs.Building.{vars_tree}
 use Rattle.action_build.proofs.inside.typed_locals.Goals as goal

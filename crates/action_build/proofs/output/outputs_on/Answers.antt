@@ -3,8 +3,8 @@ use Rattle.cal_ast.specs.View.{output_tree}
 use Rattle.cal_model.specs.Kinding.{Fine}
 use Rattle.cal_model.specs.Selection.{kind_of_port}
 use Rattle.cal_model.specs.View.{output_view}
-use Rattle.const_eval.specs.Counting.{names_view}
-use Rattle.const_eval.specs.Judging.{Breaks}
+use Rattle.const_env.specs.Counting.{names_view}
+use Rattle.const_env.specs.Judging.{Breaks}
 use Rattle.cal_check.specs.Actions.{output_judged, outputs_on}
 use Rattle.member_check.specs.Asking.{outputs_tree, port_views}
 use Rattle.action_check.specs.Parts.{JudgesAll}

@@ -1,7 +1,7 @@
 use Rattle.std.proofs.Common.{◌≡◌, ◌++◌, length, map}
 use Rattle.cal_model.specs.Kinding.{Fine}
 use Rattle.cal_model.specs.View.{output_view}
-use Rattle.const_eval.specs.Counting.{names_view}
+use Rattle.const_env.specs.Counting.{names_view}
 use Rattle.cal_check.specs.Actions.{outputs_on}
 use Rattle.member_check.specs.Asking.{outputs_tree, port_views}
 use Rattle.action_build.proofs.output.outputs_on.Given as goal

@@ -2,7 +2,7 @@ use Rattle.std.proofs.Common.{◌≡◌, List, ◌++◌, Err, map, sym, subst, r
 use Rattle.cal_ast.specs.Tree.{listed}
 use Rattle.cal_ast.specs.View.{body_tree, var_tree}
 use Rattle.cal_model.specs.Kinding.{Names}
-use Rattle.const_eval.specs.Counting.{names_view}
+use Rattle.const_env.specs.Counting.{names_view}
 use Rattle.cal_check.specs.Actions.{outputs_broken}
 use Rattle.cal_check.specs.Statements.{names_behind, starts_broken, statement_broken}
 use Rattle.cal_check.specs.Violations.{Violation, broken, said}

@@ -1,6 +1,6 @@
 use Rattle.std.proofs.Common.{◌≡◌, length, map, string_bytes}
 use Rattle.cal_model.specs.Sound.{kind_of_tokens, with_pattern}
-use Rattle.const_eval.specs.declared.names.Names.{Names as DeclaredNames}
+use Rattle.const_env.specs.declared.names.Names.{Names as DeclaredNames}
 use Rattle.stmt_check.specs.Declaring.{seen_behind}
 use Rattle.action_check.proofs.behind.add_names.Given as goal
 

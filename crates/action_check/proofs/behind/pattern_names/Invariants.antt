@@ -1,6 +1,6 @@
 use Rattle.std.proofs.Common.{◌≡◌, length, map}
 use Rattle.cal_model.specs.View.{pattern_view}
-use Rattle.const_eval.specs.Counting.{names_view}
+use Rattle.const_env.specs.Counting.{names_view}
 use Rattle.cal_check.specs.Actions.{with_all_patterns}
 use Rattle.member_check.specs.Asking.{port_views}
 use Rattle.stmt_check.specs.Declaring.{seen_behind}

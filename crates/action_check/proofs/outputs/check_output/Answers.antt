@@ -1,5 +1,5 @@
 use Rattle.cal_ast.specs.View.{output_tree}
-use Rattle.const_eval.specs.Counting.{names_view}
+use Rattle.const_env.specs.Counting.{names_view}
 use Rattle.cal_check.specs.Actions.{output_judged}
 use Rattle.stmt_check.proofs.Said.{fault_said}
 use Rattle.action_check.proofs.outputs.check_output.Goals as goal

@@ -1,5 +1,5 @@
 use Rattle.std.proofs.Common.{sym, subst}
-use Rattle.const_eval.specs.Counting.{names_view}
+use Rattle.const_env.specs.Counting.{names_view}
 use Rattle.cal_check.specs.Actions.{outputs_broken, outputs_on}
 use Rattle.cal_check.specs.Ports.{each_asked}
 use Rattle.cal_check.specs.Violations.{all_broken, said}

@@ -4,8 +4,8 @@ use Rattle.cal_model.specs.Kinding.{Fine, kinds}
 use Rattle.cal_model.specs.Rates.{parts}
 use Rattle.cal_model.specs.Sound.{kind_of_tokens}
 use Rattle.cal_model.specs.View.{kind_view}
-use Rattle.const_eval.specs.Counting.{names_view}
-use Rattle.const_eval.specs.Judging.{Breaks, Judges}
+use Rattle.const_env.specs.Counting.{names_view}
+use Rattle.const_env.specs.Judging.{Breaks, Judges}
 use Rattle.cal_check.specs.Actions.{output_judged, rate_judged, repeat_judged, values_judged}
 use Rattle.member_check.specs.Parts.{exprs_tree}
 use Rattle.action_check.specs.Parts.{output_on}

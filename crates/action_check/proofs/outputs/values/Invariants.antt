@@ -1,6 +1,6 @@
 use Rattle.std.proofs.Common.{◌≡◌, length}
 use Rattle.cal_model.specs.View.{kind_view}
-use Rattle.const_eval.specs.Counting.{names_view}
+use Rattle.const_env.specs.Counting.{names_view}
 use Rattle.cal_check.specs.Actions.{values_judged}
 use Rattle.member_check.specs.Parts.{exprs_tree}
 use Rattle.action_check.proofs.outputs.values.Given as goal

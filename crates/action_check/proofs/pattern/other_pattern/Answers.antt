@@ -1,5 +1,5 @@
 use Rattle.cal_ast.specs.View.{pattern_tree}
-use Rattle.const_eval.specs.Counting.{names_view}
+use Rattle.const_env.specs.Counting.{names_view}
 use Rattle.cal_check.specs.Actions.{pattern_judged}
 use Rattle.cal_check.specs.Violations.{broken}
 use Rattle.stmt_check.proofs.Said.{few_broken}

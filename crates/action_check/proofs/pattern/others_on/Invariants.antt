@@ -1,5 +1,5 @@
 use Rattle.std.proofs.Common.{◌≡◌, length}
-use Rattle.const_eval.specs.Counting.{names_view}
+use Rattle.const_env.specs.Counting.{names_view}
 use Rattle.cal_check.specs.Actions.{patterns_on}
 use Rattle.cal_check.specs.Violations.{all_broken, said}
 use Rattle.member_check.specs.Asking.{patterns_tree}

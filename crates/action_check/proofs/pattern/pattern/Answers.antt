@@ -3,8 +3,8 @@ use Rattle.cal_ast.specs.View.{ident_tree, optional_expr, pattern_tree}
 use Rattle.cal_model.specs.Kinding.{Fine}
 use Rattle.cal_model.specs.Rates.{parts}
 use Rattle.cal_model.specs.View.{pattern_view}
-use Rattle.const_eval.specs.Counting.{names_view}
-use Rattle.const_eval.specs.Judging.{Breaks, Judges}
+use Rattle.const_env.specs.Counting.{names_view}
+use Rattle.const_env.specs.Judging.{Breaks, Judges}
 use Rattle.cal_check.specs.Actions.{names_listed, pattern_judged, rate_judged, repeat_judged}
 use Rattle.member_check.specs.Parts.{idents_tree}
 use Rattle.action_check.proofs.Judged.{counted_breaks, counted_fine, opens_one}

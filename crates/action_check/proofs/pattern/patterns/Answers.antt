@@ -1,6 +1,6 @@
 use Rattle.std.proofs.Common.{subst}
 use Rattle.cal_model.specs.View.{pattern_view}
-use Rattle.const_eval.specs.Counting.{names_view}
+use Rattle.const_env.specs.Counting.{names_view}
 use Rattle.cal_check.specs.Actions.{patterns_on}
 use Rattle.member_check.specs.Asking.{patterns_tree, port_views}
 use Rattle.action_check.specs.Parts.{JudgesAll}

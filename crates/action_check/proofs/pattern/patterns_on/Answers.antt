@@ -2,7 +2,7 @@ use Rattle.std.proofs.Common.{◌≡◌, Err, ◌∷◌, ◌++◌, map, sym, ap,
 use Rattle.cal_ast.specs.View.{pattern_tree}
 use Rattle.cal_model.specs.Kinding.{Fine}
 use Rattle.cal_model.specs.View.{pattern_view}
-use Rattle.const_eval.specs.Counting.{names_view}
+use Rattle.const_env.specs.Counting.{names_view}
 use Rattle.cal_check.specs.Actions.{pattern_judged, patterns_on}
 use Rattle.member_check.specs.Asking.{patterns_tree}
 use Rattle.action_check.specs.Parts.{JudgesAll}

@@ -1,7 +1,7 @@
 use Rattle.std.proofs.Common.{◌≡◌, ◌++◌, length, map}
 use Rattle.cal_model.specs.Kinding.{Fine}
 use Rattle.cal_model.specs.View.{pattern_view}
-use Rattle.const_eval.specs.Counting.{names_view}
+use Rattle.const_env.specs.Counting.{names_view}
 use Rattle.cal_check.specs.Actions.{patterns_on}
 use Rattle.member_check.specs.Asking.{patterns_tree}
 use Rattle.action_check.proofs.pattern.patterns_on.Given as goal

@@ -3,7 +3,7 @@ use Rattle.cal_check.specs.Actions.{Around}
 use Rattle.cal_check.specs.Actors.{actions_in, actions_of}
 use Rattle.cal_model.specs.Actor.{Actor}
 use Rattle.cal_model.specs.Sound.{max_actions}
-use Rattle.const_eval.specs.declared.fault.KindFault.TheVariants as fault
+use Rattle.const_env.specs.declared.fault.KindFault.TheVariants as fault
 use Rattle.member_check.specs.Parts.{action_views, members_tree}
 use Rattle.actor_build.proofs.PastLacks.{few_heads, found_by_heads}
 use Rattle.actor_build.specs.Building.{FindsOrderOf, HasActions}

@@ -1,4 +1,4 @@
-use Rattle.const_eval.specs.Counting.{names_view}
+use Rattle.const_env.specs.Counting.{names_view}
 use Rattle.member_check.specs.Parts.{members_tree}
 use Rattle.actor_build.proofs.PastLacks.{other_said}
 use Rattle.actor_build.specs.Building.{around_bare}

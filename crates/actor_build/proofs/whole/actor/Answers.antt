@@ -4,7 +4,7 @@ use Rattle.cal_check.specs.Actors.{actions_in, actions_of}
 use Rattle.cal_model.specs.Actor.{Actor}
 use Rattle.cal_model.specs.Sound.{max_actions}
 use Rattle.cal_model.specs.View.{actor_of}
-use Rattle.const_eval.specs.Counting.{names_view}
+use Rattle.const_env.specs.Counting.{names_view}
 use Rattle.member_check.specs.Parts.{action_views, members_tree}
 use Rattle.stmt_check.specs.Judging.{Refuses}
 use Rattle.actor_build.proofs.WholeSteps.{order_breaks, whole_fine, whole_is, whole_ordered}

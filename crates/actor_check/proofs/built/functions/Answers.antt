@@ -1,7 +1,7 @@
 use Rattle.std.proofs.Common.{◌≡◌, ◌+◌, [], ◌∷◌, Err, drop, map, sym, subst, arith, rules}
 use Rattle.std.proofs.Math.ListN.{drop_of_length-le}
 use Rattle.cal_model.specs.View.{fun_view}
-use Rattle.const_eval.specs.Counting.{names_view}
+use Rattle.const_env.specs.Counting.{names_view}
 use Rattle.seen_names.specs.Known.{fun_decl, fun_decls}
 use Rattle.actor_check.specs.Checking.{BuildsFuns}
 use Rattle.actor_check.proofs.Heads.{AreBuilt, built_all, built_more, built_refused, opened}

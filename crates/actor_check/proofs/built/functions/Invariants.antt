@@ -1,6 +1,6 @@
 use Rattle.std.proofs.Common.{drop, map}
 use Rattle.cal_model.specs.View.{fun_view}
-use Rattle.const_eval.specs.Counting.{names_view}
+use Rattle.const_env.specs.Counting.{names_view}
 use Rattle.seen_names.specs.Known.{fun_decls}
 use Rattle.actor_check.proofs.Heads.{AreBuilt}
 use Rattle.actor_check.proofs.built.functions.Given as goal

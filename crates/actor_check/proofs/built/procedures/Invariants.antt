@@ -1,6 +1,6 @@
 use Rattle.std.proofs.Common.{◌≡◌, length, map}
 use Rattle.cal_model.specs.View.{proc_view}
-use Rattle.const_eval.specs.Counting.{names_view}
+use Rattle.const_env.specs.Counting.{names_view}
 use Rattle.cal_check.specs.Actors.{formals_broken, procs_in, procs_of}
 use Rattle.cal_check.specs.Violations.{all_fine}
 use Rattle.member_check.specs.Parts.{members_tree}

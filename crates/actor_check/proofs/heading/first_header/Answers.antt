@@ -4,7 +4,7 @@ use Rattle.cal_check.specs.Actors.{ins_of, outs_of, place_of}
 use Rattle.cal_check.specs.Ports.{each_port, header_broken}
 use Rattle.cal_check.specs.Violations.{all_fine}
 use Rattle.cal_model.specs.View.{port_view}
-use Rattle.const_eval.specs.Counting.{names_view}
+use Rattle.const_env.specs.Counting.{names_view}
 use Rattle.actor_check.specs.Sources.{source_in}
 use Rattle.actor_check.proofs.Ported.{header_is}
 use Rattle.actor_check.proofs.heading.first_header.Goals as goal

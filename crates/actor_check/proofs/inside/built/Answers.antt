@@ -1,5 +1,5 @@
 use Rattle.std.proofs.Common.{sym, subst}
-use Rattle.const_eval.specs.Counting.{names_view}
+use Rattle.const_env.specs.Counting.{names_view}
 use Rattle.actor_check.specs.Parts.{BreaksParts}
 use Rattle.actor_check.proofs.Putting.{parts_break}
 use Rattle.actor_check.proofs.inside.built.Goals as goal

@@ -4,7 +4,7 @@ use Rattle.cal_ast.specs.View.{function_tree}
 use Rattle.cal_check.specs.Actors.{funs_broken}
 use Rattle.cal_check.specs.Routines.{fun_broken}
 use Rattle.cal_check.specs.Variables.{found_in}
-use Rattle.const_eval.specs.Counting.{names_view}
+use Rattle.const_env.specs.Counting.{names_view}
 use Rattle.seen_names.specs.Known.{fun_decls}
 use Rattle.actor_check.specs.Sifting.{IsLeft, Sifts}
 use Rattle.actor_check.proofs.Heads.{opened}

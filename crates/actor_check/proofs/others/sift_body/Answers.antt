@@ -2,7 +2,7 @@ use Rattle.std.proofs.Common.{Err, sym, subst}
 use Rattle.cal_ast.specs.View.{function_tree}
 use Rattle.cal_check.specs.Routines.{fun_broken}
 use Rattle.cal_check.specs.Variables.{found_in}
-use Rattle.const_eval.specs.Counting.{names_view}
+use Rattle.const_env.specs.Counting.{names_view}
 use Rattle.actor_check.specs.Sifting.{Sifts}
 use Rattle.actor_check.proofs.Sifted.{lacks_found}
 use Rattle.actor_check.proofs.SiftedInside.{said_found}

@@ -1,5 +1,5 @@
 use Rattle.std.proofs.Common.{Err, sym, subst}
-use Rattle.const_eval.specs.Counting.{names_view}
+use Rattle.const_env.specs.Counting.{names_view}
 use Rattle.actor_check.specs.Parts.{SiftsMembers}
 use Rattle.actor_check.proofs.SiftedInside.{members_lack, members_say}
 use Rattle.actor_check.proofs.others.sift_members.Goals as goal

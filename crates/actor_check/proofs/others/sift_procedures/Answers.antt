@@ -4,7 +4,7 @@ use Rattle.cal_check.specs.Actors.{procs_broken, procs_in}
 use Rattle.cal_check.specs.Variables.{found_in}
 use Rattle.cal_check.specs.Violations.{said}
 use Rattle.cal_model.specs.View.{proc_view}
-use Rattle.const_eval.specs.Counting.{names_view}
+use Rattle.const_env.specs.Counting.{names_view}
 use Rattle.member_check.specs.Parts.{members_tree}
 use Rattle.stmt_check.specs.Judging.{Refuses}
 use Rattle.actor_check.specs.Sifting.{Sifts}

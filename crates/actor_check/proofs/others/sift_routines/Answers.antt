@@ -2,7 +2,7 @@ use Rattle.std.proofs.Common.{map, subst}
 use Rattle.cal_check.specs.Actors.{all_funs, funs_broken}
 use Rattle.cal_model.specs.Sound.{Each}
 use Rattle.cal_model.specs.View.{proc_view}
-use Rattle.const_eval.specs.Counting.{names_view}
+use Rattle.const_env.specs.Counting.{names_view}
 use Rattle.actor_check.specs.Phases.{procs_found}
 use Rattle.actor_check.specs.Sifting.{IsLack}
 use Rattle.actor_check.specs.Sources.{source_in}

@@ -1,7 +1,7 @@
 use Rattle.std.specs.Prelude.{◌∷◌, []}
 use Rattle.cal_ast.specs.View.{procedure_tree}
 use Rattle.cal_check.specs.Actors.{formals_broken}
-use Rattle.const_eval.specs.Counting.{names_view}
+use Rattle.const_env.specs.Counting.{names_view}
 use Rattle.actor_check.proofs.Sifted.{formals_few, lacks_none}
 use Rattle.actor_check.proofs.sifting.sift_formals.Goals as goal
 

@@ -1,7 +1,7 @@
 use Rattle.cal_ast.specs.View.{function_tree}
 use Rattle.cal_check.specs.Routines.{head_judged}
 use Rattle.cal_check.specs.Violations.{broken}
-use Rattle.const_eval.specs.Counting.{names_view}
+use Rattle.const_env.specs.Counting.{names_view}
 use Rattle.actor_check.proofs.Sifted.{few_broken, lacks_none}
 use Rattle.actor_check.proofs.sifting.sift_head.Goals as goal
 

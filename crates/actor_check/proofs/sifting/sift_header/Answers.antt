@@ -4,7 +4,7 @@ use Rattle.cal_check.specs.Ports.{each_port}
 use Rattle.cal_check.specs.Variables.{found_in}
 use Rattle.cal_check.specs.Violations.{all_broken}
 use Rattle.cal_model.specs.Sound.{Each}
-use Rattle.const_eval.specs.Counting.{names_view}
+use Rattle.const_env.specs.Counting.{names_view}
 use Rattle.variable_check.specs.Views.{ports_tree}
 use Rattle.actor_check.specs.Phases.{header_over}
 use Rattle.actor_check.specs.Sifting.{IsLack, Sifts}

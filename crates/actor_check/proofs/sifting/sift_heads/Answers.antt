@@ -5,7 +5,7 @@ use Rattle.cal_check.specs.Actors.{heads_broken}
 use Rattle.cal_check.specs.Routines.{head_judged}
 use Rattle.cal_check.specs.Variables.{found_in}
 use Rattle.cal_check.specs.Violations.{broken}
-use Rattle.const_eval.specs.Counting.{names_view}
+use Rattle.const_env.specs.Counting.{names_view}
 use Rattle.seen_names.specs.Known.{fun_decls}
 use Rattle.actor_check.specs.Sifting.{IsLeft, Sifts}
 use Rattle.actor_check.proofs.Heads.{opened}

@@ -1,5 +1,5 @@
 use Rattle.std.proofs.Common.{drop}
-use Rattle.const_eval.specs.Counting.{names_view}
+use Rattle.const_env.specs.Counting.{names_view}
 use Rattle.cal_check.specs.Actors.{heads_broken}
 use Rattle.seen_names.specs.Known.{fun_decls}
 use Rattle.actor_check.specs.Sifting.{IsLeft}

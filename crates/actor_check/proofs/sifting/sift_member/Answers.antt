@@ -3,7 +3,7 @@ use Rattle.cal_ast.specs.Tree as tree
 use Rattle.cal_ast.specs.View.{member_tree}
 use Rattle.cal_check.specs.Actors.{formals_broken, procs_in}
 use Rattle.cal_check.specs.Variables.{found_in}
-use Rattle.const_eval.specs.Counting.{names_view}
+use Rattle.const_env.specs.Counting.{names_view}
 use Rattle.actor_check.specs.Sifting.{SiftsOn}
 use Rattle.actor_check.proofs.Sifted.{member_sifted}
 use Rattle.actor_check.proofs.sifting.sift_member.Goals as goal

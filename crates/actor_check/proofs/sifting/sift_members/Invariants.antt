@@ -1,5 +1,5 @@
 use Rattle.std.proofs.Common.{length}
-use Rattle.const_eval.specs.Counting.{names_view}
+use Rattle.const_env.specs.Counting.{names_view}
 use Rattle.cal_check.specs.Actors.{formals_broken, procs_in}
 use Rattle.cal_check.specs.Variables.{found_in}
 use Rattle.member_check.specs.Parts.{members_tree}

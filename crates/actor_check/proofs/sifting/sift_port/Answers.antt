@@ -2,7 +2,7 @@ use Rattle.std.proofs.Common.{Ok}
 use Rattle.cal_ast.specs.View.{port_tree}
 use Rattle.cal_check.specs.Ports.{port_judged}
 use Rattle.cal_check.specs.Violations.{broken}
-use Rattle.const_eval.specs.Counting.{names_view}
+use Rattle.const_env.specs.Counting.{names_view}
 use Rattle.actor_check.proofs.Sifted.{few_broken, lacks_none, port_sifted}
 use Rattle.actor_check.proofs.sifting.sift_port.Goals as goal
 

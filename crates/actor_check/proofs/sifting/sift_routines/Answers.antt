@@ -1,7 +1,7 @@
 use Rattle.std.proofs.Common.{subst, rules}
 use Rattle.cal_check.specs.Actors.{all_funs, heads_broken}
 use Rattle.cal_model.specs.Sound.{Each}
-use Rattle.const_eval.specs.Counting.{names_view}
+use Rattle.const_env.specs.Counting.{names_view}
 use Rattle.actor_check.specs.Phases.{formals_found}
 use Rattle.actor_check.specs.Sifting.{IsLack, Sifts}
 use Rattle.actor_check.specs.Sources.{source_in}

@@ -1,7 +1,7 @@
 use Rattle.std.proofs.Common.{◌≡◌, ◌≤◌, map, ◌+◌}
 use Rattle.cal_ast.specs.Tree.{listed}
 use Rattle.cal_ast.specs.View.{expr_tree}
-use Rattle.const_eval.specs.Counting.{names_view}
+use Rattle.const_env.specs.Counting.{names_view}
 use Rattle.cal_check.specs.Written.{written}
 use Rattle.cal_written.proofs.Onto.{onto}
 use Rattle.cal_written.proofs.Sizes.{size}

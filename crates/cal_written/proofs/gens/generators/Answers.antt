@@ -1,7 +1,7 @@
 use Rattle.std.proofs.Common.{◌≡◌, map, take, get_or, rules, arith}
 use Rattle.cal_ast.specs.Tree.{listed}
 use Rattle.cal_ast.specs.View.{gen_tree}
-use Rattle.const_eval.specs.Counting.{names_view}
+use Rattle.const_env.specs.Counting.{names_view}
 use Rattle.cal_check.specs.Written.{gens_written}
 use Rattle.cal_written.specs.Seeing.{seen_among}
 use Rattle.cal_written.specs.Writing.{gen_written}

@@ -3,7 +3,7 @@ use Rattle.cal_ast.specs.Tree.{listed}
 use Rattle.cal_ast.specs.View.{stmt_tree}
 use Rattle.cal_check.proofs.Lists.{none-left}
 use Rattle.cal_check.specs.Written.{statement_written}
-use Rattle.const_eval.specs.Counting.{names_view}
+use Rattle.const_env.specs.Counting.{names_view}
 use Rattle.cal_written.proofs.Onto.{onto_done, onto_each}
 use Rattle.cal_written.proofs.Sizes.{size}
 use Rattle.cal_written.proofs.statement.+stmt.Goals as goal

@@ -1,6 +1,6 @@
 use Rattle.cal_ast.specs.View.{type_tree}
 use Rattle.cal_model.specs.Kinding.{type_judged}
-use Rattle.const_eval.specs.Counting.{names_view}
+use Rattle.const_env.specs.Counting.{names_view}
 use Rattle.early_check.proofs.early.early_type.Goals as goal
 
 pub returns-in-Err : goal.returns-in-Err

@@ -6,7 +6,7 @@ use Rattle.cal_ast.specs.View.{expr_tree, gen_tree, ident_tree, type_arg_tree, t
 use Rattle.cal_ast.specs.declared.expr.Expr.{out-Expr}
 use Rattle.cal_ast.specs.declared.expr.ExprForm as forms
 use Rattle.cal_ast.specs.declared.expr.Gen.{out-Gen}
-use Rattle.const_eval.proofs.Weights.{size}
+use Rattle.expr_eval.proofs.Weights.{size}
 use Rattle.cal_check.specs.Constants.{constants_in, uses_at}
 use Rattle.early_check.specs.Finding.{FindsIn}
 use Rattle.early_check.proofs.NamePlaces.{both_in, left_next, left_start}

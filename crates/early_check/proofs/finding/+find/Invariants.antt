@@ -1,7 +1,7 @@
 use Rattle.std.proofs.Common.{◌≤◌, ◌+◌, map}
 use Rattle.cal_ast.specs.Tree.{listed}
 use Rattle.cal_ast.specs.View.{expr_tree, gen_tree, type_arg_tree, type_tree}
-use Rattle.const_eval.proofs.Weights.{size}
+use Rattle.expr_eval.proofs.Weights.{size}
 use Rattle.early_check.proofs.NamePlaces.{IsLeft}
 use Rattle.early_check.proofs.finding.+find.Given as goal
 

@@ -4,8 +4,8 @@ use Rattle.cal_ast.specs.Places.{begins}
 use Rattle.cal_ast.specs.View.{expr_tree}
 use Rattle.cal_model.specs.Kinding.{constant}
 use Rattle.cal_model.specs.View.{kind_view, value_view}
-use Rattle.const_eval.specs.Held.{names_in}
-use Rattle.const_eval.specs.Judging.{Judges}
+use Rattle.const_env.specs.Held.{names_in}
+use Rattle.const_env.specs.Judging.{Judges}
 use Rattle.fnl_values.proofs.Constants.{judges_some, value_as}
 use Rattle.fnl_values.specs.Judging.{outcome_judged}
 use Rattle.fnl_values.proofs.constant.value.Goals as goal

@@ -1,6 +1,6 @@
 use Rattle.std.proofs.Common.{◌≡◌, [], ◌∷◌, Err, map, sym, ap, subst, ◌∙◌, rules}
 use Rattle.cal_check.specs.Variables.{valued, with_var}
-use Rattle.const_eval.specs.Held.{globals_of}
+use Rattle.const_env.specs.Held.{globals_of}
 use Rattle.fnl_bind.specs.Library.{var_decl, var_decls}
 use Rattle.fnl_frames.specs.Views.{decl_of}
 use Rattle.fnl_values.proofs.Known.{stays_broken}

@@ -1,7 +1,7 @@
 use Rattle.std.proofs.Common.{◌≡◌, List, [], map, length}
 use Rattle.cal_model.specs.Actor.{Held}
 use Rattle.cal_check.specs.Variables.{none_yet, valued}
-use Rattle.const_eval.specs.Held.{globals_of}
+use Rattle.const_env.specs.Held.{globals_of}
 use Rattle.fnl_bind.specs.Library.{var_decls}
 use Rattle.fnl_frames.specs.Views.{decl_of}
 use Rattle.fnl_values.specs.Given.{all_given_of, spot_of}

@@ -1,7 +1,7 @@
 use Rattle.cal_ast.specs.View.{optional_expr}
 use Rattle.cal_check.specs.Variables.{come, found_in, param_broken}
 use Rattle.cal_model.specs.View.{shape_view, value_view}
-use Rattle.const_eval.specs.Held.{names_in}
+use Rattle.const_env.specs.Held.{names_in}
 use Rattle.fnl_bind.specs.Library.{var_decl}
 use Rattle.fnl_frames.specs.Views.{decl_of}
 use Rattle.fnl_values.proofs.Faults.{cause_in_first}

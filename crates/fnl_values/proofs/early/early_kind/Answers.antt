@@ -1,7 +1,7 @@
 use Rattle.cal_ast.specs.View.{expr_tree}
 use Rattle.cal_check.specs.Constants.{stored_kind}
 use Rattle.cal_model.specs.View.{kind_view}
-use Rattle.const_eval.specs.Held.{names_in}
+use Rattle.const_env.specs.Held.{names_in}
 use Rattle.fnl_values.proofs.early.early_kind.Goals as goal
 
 pub returns-in-Err : goal.returns-in-Err

@@ -1,8 +1,8 @@
 use Rattle.std.proofs.Common.{subst}
 use Rattle.cal_ast.specs.View.{type_tree}
 use Rattle.cal_model.specs.Kinding.{type_judged}
-use Rattle.const_eval.specs.Held.{names_in}
-use Rattle.const_eval.specs.Judging.{Breaks}
+use Rattle.const_env.specs.Held.{names_in}
+use Rattle.const_env.specs.Judging.{Breaks}
 use Rattle.fnl_values.proofs.early.early_type.Goals as goal
 
 pub returns-in-Err-clause-judged : goal.returns-in-Err-clause-judged

@@ -1,6 +1,6 @@
 use Rattle.std.proofs.Common.{◌≡◌, true, false, map, length}
 use Rattle.cal_check.specs.Violations.{all_broken, all_fine}
-use Rattle.const_eval.specs.Held.{names_in}
+use Rattle.const_env.specs.Held.{names_in}
 use Rattle.fnl_bind.specs.Library.{ports_of}
 use Rattle.fnl_bind.specs.Values.{ends_judged}
 use Rattle.fnl_frames.specs.Views.{port_of}

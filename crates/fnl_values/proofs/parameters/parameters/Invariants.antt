@@ -1,6 +1,6 @@
 use Rattle.std.proofs.Common.{◌≡◌, map, length}
 use Rattle.cal_check.specs.Violations.{all_broken}
-use Rattle.const_eval.specs.Held.{names_in}
+use Rattle.const_env.specs.Held.{names_in}
 use Rattle.fnl_bind.specs.Values.{all_given, parameters_judged}
 use Rattle.fnl_frames.specs.Views.{parameter_of}
 use Rattle.fnl_values.specs.Given.{all_given_of}

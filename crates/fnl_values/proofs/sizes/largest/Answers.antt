@@ -1,6 +1,6 @@
 use Rattle.std.proofs.Common.{map, sym, ap, ◌∙◌}
 use Rattle.cal_check.specs.Violations.{all_broken, all_fine}
-use Rattle.const_eval.specs.Held.{names_in}
+use Rattle.const_env.specs.Held.{names_in}
 use Rattle.fnl_bind.specs.Values.{sizes_judged}
 use Rattle.fnl_frames.specs.Views.{size_of}
 use Rattle.fnl_values.proofs.Parts.{largest_all, no_items}

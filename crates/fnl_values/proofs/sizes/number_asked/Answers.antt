@@ -2,8 +2,8 @@ use Rattle.std.proofs.Common.{◌≡◌, ℕ, Err, sym, ap, subst, ◌∙◌, ru
 use Rattle.cal_ast.specs.Places.{begins}
 use Rattle.cal_ast.specs.View.{expr_tree}
 use Rattle.cal_model.specs.Kinding.{and_so, constant}
-use Rattle.const_eval.specs.Held.{names_in}
-use Rattle.const_eval.specs.Judging.{Breaks, Judges}
+use Rattle.const_env.specs.Held.{names_in}
+use Rattle.const_env.specs.Judging.{Breaks, Judges}
 use Rattle.fnl_bind.specs.Values.{size_judged, size_of_value}
 use Rattle.fnl_frames.specs.Views as views
 use Rattle.fnl_values.proofs.Parts.{breaks_on, size_as}

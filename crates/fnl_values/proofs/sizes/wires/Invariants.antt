@@ -1,5 +1,5 @@
 use Rattle.std.proofs.Common.{◌≡◌, ◌++◌, map, length}
-use Rattle.const_eval.specs.Held.{names_in}
+use Rattle.const_env.specs.Held.{names_in}
 use Rattle.fnl_bind.specs.Values.{connections_broken, wires_of}
 use Rattle.fnl_frames.specs.Views.{connection_of}
 use Rattle.fnl_tree.specs.View.{wire_of}

@@ -8,7 +8,7 @@ use Rattle.cal_model.specs.Kinding.{Fine}
 use Rattle.cal_model.specs.Value.{HasKind, kind_of_type, stored}
 use Rattle.cal_model.specs.View.{kind_view, shape_view, value_view}
 use Rattle.cal_model.proofs.KindValues.{stored-has-kind}
-use Rattle.const_eval.specs.Held.{names_in}
+use Rattle.const_env.specs.Held.{names_in}
 use Rattle.fnl_values.proofs.Starts.{start_fault, start_gives}
 use Rattle.fnl_values.specs.Judging.{Starts}
 use Rattle.fnl_values.proofs.start.start_at.Goals as goal

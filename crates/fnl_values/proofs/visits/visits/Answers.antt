@@ -1,5 +1,5 @@
 use Rattle.std.proofs.Common.{List, ◌++◌, map, subst}
-use Rattle.const_eval.specs.Held.{names_in}
+use Rattle.const_env.specs.Held.{names_in}
 use Rattle.fnl_frames.specs.Views.{instance_of}
 use Rattle.fnl_values.proofs.Parts.{no_items, visits_all}
 use Rattle.fnl_values.specs.Visiting.{AreVisits, Visit, visit_of}

@@ -1,5 +1,5 @@
 use Rattle.std.proofs.Common.{◌≡◌, List, ◌++◌, map, length}
-use Rattle.const_eval.specs.Held.{names_in}
+use Rattle.const_env.specs.Held.{names_in}
 use Rattle.fnl_bind.specs.Values.{instances_broken}
 use Rattle.fnl_frames.specs.Views.{instance_of}
 use Rattle.fnl_values.specs.Visiting.{AreVisits, Visit, visit_of}

@@ -1,5 +1,5 @@
 use Rattle.std.proofs.Common.{length}
-use Rattle.const_eval.specs.Counting.{names_view}
+use Rattle.const_env.specs.Counting.{names_view}
 use Rattle.cal_written.specs.Seeing.{seen_behind}
 use Rattle.routine_build.proofs.LocalSteps.{AreLocalsUpTo}
 use Rattle.routine_build.proofs.local.locals.Given as goal

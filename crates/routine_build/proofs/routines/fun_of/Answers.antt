@@ -4,8 +4,8 @@ use Rattle.cal_ast.specs.View.{function_tree, port_tree}
 use Rattle.cal_model.specs.Kinding.{Fine}
 use Rattle.cal_check.specs.Routines.{formals_judged, fun_judged}
 use Rattle.cal_model.specs.View.{fun_view, local_view}
-use Rattle.const_eval.specs.Counting.{names_view}
-use Rattle.const_eval.specs.Judging.{Breaks, Judges}
+use Rattle.const_env.specs.Counting.{names_view}
+use Rattle.const_env.specs.Judging.{Breaks, Judges}
 use Rattle.routine_build.proofs.Functions.{fun_with, head_breaks}
 use Rattle.routine_build.proofs.routines.fun_of.Goals as goal
 

@@ -1,9 +1,9 @@
 use Rattle.std.proofs.Common.{◌≡◌, Err, map, string_bytes, sym, subst, ◌∙◌, rules}
 use Rattle.cal_ast.specs.View.{expr_tree, function_tree}
 use Rattle.cal_model.specs.View.{fun_view, local_view}
-use Rattle.const_eval.specs.Counting.{names_view}
-use Rattle.const_eval.specs.Judging.{Judges}
-use Rattle.const_eval.specs.declared.inside.Inside as chain
+use Rattle.const_env.specs.Counting.{names_view}
+use Rattle.const_env.specs.Judging.{Judges}
+use Rattle.const_env.specs.declared.inside.Inside as chain
 use Rattle.cal_written.specs.Seeing.{seen_behind}
 use Rattle.routine_build.specs.Declaring.{fun_behind}
 use Rattle.routine_build.proofs.Functions.{fun_breaks, fun_done}

@@ -1,7 +1,7 @@
 use Rattle.std.proofs.Common.{◌≡◌, List, ◌++◌, Err, sym, subst, rules}
 use Rattle.cal_ast.specs.View.{expr_tree}
 use Rattle.cal_model.specs.Kinding.{Names}
-use Rattle.const_eval.specs.Counting.{names_view}
+use Rattle.const_env.specs.Counting.{names_view}
 use Rattle.cal_check.specs.Statements.{names_behind, starts_broken}
 use Rattle.cal_check.specs.Violations.{Violation, broken, if_fine, said}
 use Rattle.stmt_check.specs.Judging.{Checks, Refuses}

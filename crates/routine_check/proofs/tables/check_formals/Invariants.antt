@@ -1,5 +1,5 @@
 use Rattle.std.proofs.Common.{◌≡◌, length}
-use Rattle.const_eval.specs.Counting.{names_view}
+use Rattle.const_env.specs.Counting.{names_view}
 use Rattle.cal_check.specs.Actors.{formals_broken, procs_in}
 use Rattle.routine_check.specs.Heads.{members_tree}
 use Rattle.routine_check.proofs.tables.check_formals.Given as goal

@@ -1,5 +1,5 @@
 use Rattle.std.proofs.Common.{◌≡◌, ℕ, length}
-use Rattle.const_eval.specs.Counting.{names_view}
+use Rattle.const_env.specs.Counting.{names_view}
 use Rattle.cal_check.specs.Actors.{funs_in, funs_broken}
 use Rattle.routine_check.specs.Heads.{members_tree}
 use Rattle.routine_check.proofs.tables.check_functions.Given as goal

@@ -1,6 +1,6 @@
 use Rattle.std.proofs.Common.{◌≡◌, length, map}
 use Rattle.cal_model.specs.View.{proc_view}
-use Rattle.const_eval.specs.Counting.{names_view}
+use Rattle.const_env.specs.Counting.{names_view}
 use Rattle.cal_check.specs.Actors.{procs_broken, procs_in}
 use Rattle.cal_check.specs.Violations.{said}
 use Rattle.routine_check.specs.Heads.{members_tree}

@@ -2,7 +2,7 @@ use Rattle.std.proofs.Common.{◌≡◌, ◌+◌, ◌≤◌, map, length}
 use Rattle.cal_ast.specs.Tree.{listed}
 use Rattle.cal_ast.specs.View.{expr_tree, gen_tree, type_arg_tree, type_tree}
 use Rattle.seen_names.specs.Calls.{calls_any}
-use Rattle.const_eval.proofs.Weights.{size}
+use Rattle.expr_eval.proofs.Weights.{size}
 use Rattle.seen_names.proofs.calls.+calls.Given as goal
 
 abbrev pub invariant-any_calls-exprs : goal.invariant-any_calls-exprs

@@ -1,7 +1,7 @@
 use Rattle.std.proofs.Common.{◌≡◌, ◌≤◌, ◌+◌, length, true}
 use Rattle.cal_ast.specs.View.{expr_tree, gen_tree, type_arg_tree, type_tree}
 use Rattle.seen_names.specs.Needs.{exprs_tree, gens_tree, type_args_tree, with_needs}
-use Rattle.const_eval.proofs.Weights.{size}
+use Rattle.expr_eval.proofs.Weights.{size}
 use Rattle.seen_names.proofs.constants.+needs.Given as goal
 
 abbrev pub invariant-add_exprs-exprs : goal.invariant-add_exprs-exprs

@@ -1,5 +1,5 @@
 use Rattle.std.proofs.Common.{◌≡◌, [], length}
-use Rattle.const_eval.specs.Held.{globals_of, held, last_first}
+use Rattle.const_env.specs.Held.{globals_of, held, last_first}
 use Rattle.seen_names.specs.Known.{known_at}
 use Rattle.seen_names.proofs.known.names_without.Given as goal
 

@@ -1,9 +1,9 @@
 use Rattle.std.proofs.Common.{◌≡◌, false, sym, subst}
 use Rattle.cal_ast.specs.View.{function_tree}
 use Rattle.cal_model.specs.View.{fun_view}
-use Rattle.const_eval.specs.Constants.{has_fun}
-use Rattle.const_eval.specs.Counting.{names_view}
-use Rattle.const_eval.specs.Held.{held}
+use Rattle.const_env.specs.Constants.{has_fun}
+use Rattle.const_env.specs.Counting.{names_view}
+use Rattle.const_env.specs.Held.{held}
 use Rattle.seen_names.proofs.Sized.{fun_named_so, fun_passes}
 use Rattle.seen_names.proofs.seen.add_over.Goals as goal
 

@@ -2,7 +2,7 @@ use Rattle.std.proofs.Common.{◌≡◌, [], map, true}
 use Rattle.std.proofs.lemmas.Result.{IfOk-weaker}
 use Rattle.cal_check.specs.Actors.{at_rest}
 use Rattle.cal_check.specs.Variables.{seen}
-use Rattle.const_eval.specs.Held.{last_first, names_in}
+use Rattle.const_env.specs.Held.{last_first, names_in}
 use Rattle.seen_names.specs.Known.{all_known, fun_decls, known_at}
 use Rattle.seen_names.proofs.Rounds.{rest_seen}
 use Rattle.seen_names.proofs.seen.names_at_rest.Goals as goal

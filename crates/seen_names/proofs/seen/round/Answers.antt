@@ -1,7 +1,7 @@
 use Rattle.std.proofs.Common.{◌≡◌, ◌+◌, ◌++◌, [], ◌∷◌, drop, map, sym, ap, subst, ◌∙◌, rules}
 use Rattle.cal_ast.specs.View.{function_tree}
 use Rattle.cal_check.specs.Routines.{fun_judged, with_fun}
-use Rattle.const_eval.specs.Held.{held, last_first, names_in}
+use Rattle.const_env.specs.Held.{held, last_first, names_in}
 use Rattle.seen_names.specs.Known.{fun_decl, fun_decls, known_at}
 use Rattle.seen_names.proofs.Rounds.{IsRound, opened, round_more, round_none}
 use Rattle.seen_names.proofs.Sized.{fun_named_so}

@@ -1,5 +1,5 @@
 use Rattle.std.proofs.Common.{[], drop}
-use Rattle.const_eval.specs.Held.{last_first, names_in}
+use Rattle.const_env.specs.Held.{last_first, names_in}
 use Rattle.seen_names.specs.Known.{fun_decls, known_at}
 use Rattle.seen_names.proofs.Rounds.{IsRound}
 use Rattle.seen_names.proofs.seen.round.Given as goal

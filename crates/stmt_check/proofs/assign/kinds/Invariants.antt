@@ -3,7 +3,7 @@ use Rattle.cal_ast.specs.Tree.{listed}
 use Rattle.cal_ast.specs.View.{expr_tree}
 use Rattle.cal_model.specs.Kinding.{kinds}
 use Rattle.cal_model.specs.View.{kind_view}
-use Rattle.const_eval.specs.Counting.{names_view}
+use Rattle.const_env.specs.Counting.{names_view}
 use Rattle.stmt_check.proofs.Walks.{kinds_left}
 use Rattle.stmt_check.proofs.assign.kinds.Given as goal
 

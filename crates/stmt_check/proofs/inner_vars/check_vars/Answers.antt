@@ -1,6 +1,6 @@
 use Rattle.std.proofs.Common.{◌≡◌, Ok, Err, Some, sym, subst, rules}
 use Rattle.cal_ast.specs.View.{var_tree}
-use Rattle.const_eval.specs.Counting.{names_view}
+use Rattle.const_env.specs.Counting.{names_view}
 use Rattle.stmt_check.specs.Declaring.{DeclaresAllSaid, DeclaresSaid, seen_behind}
 use Rattle.stmt_check.proofs.Walks.{vars_next, vars_refused}
 use Rattle.stmt_check.proofs.inner_vars.check_vars.Goals as goal

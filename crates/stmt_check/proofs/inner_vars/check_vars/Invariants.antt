@@ -1,5 +1,5 @@
 use Rattle.std.proofs.Common.{length}
-use Rattle.const_eval.specs.Counting.{names_view}
+use Rattle.const_env.specs.Counting.{names_view}
 use Rattle.stmt_check.specs.Declaring.{seen_behind}
 use Rattle.stmt_check.proofs.Walks.{AreBehind}
 use Rattle.stmt_check.proofs.inner_vars.check_vars.Given as goal

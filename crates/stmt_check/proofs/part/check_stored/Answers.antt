@@ -1,6 +1,6 @@
 use Rattle.cal_ast.specs.View.{expr_tree}
 use Rattle.cal_model.specs.View.{kind_view}
-use Rattle.const_eval.specs.Counting.{names_view}
+use Rattle.const_env.specs.Counting.{names_view}
 use Rattle.cal_check.specs.Constants.{stored_kind}
 use Rattle.stmt_check.proofs.Said.{fault_said}
 use Rattle.stmt_check.proofs.part.check_stored.Goals as goal

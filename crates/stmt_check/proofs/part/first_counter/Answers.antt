@@ -3,7 +3,7 @@ use Rattle.cal_ast.specs.Places.{begins}
 use Rattle.cal_ast.specs.View.{type_tree}
 use Rattle.cal_model.specs.Kinding.{and_so, counts}
 use Rattle.cal_model.specs.View.{shape_view}
-use Rattle.const_eval.specs.Judging.{Judges}
+use Rattle.const_env.specs.Judging.{Judges}
 use Rattle.cal_check.specs.Violations.{broken}
 use Rattle.stmt_check.specs.Judging.{Checks}
 use Rattle.stmt_check.proofs.Checked.{checks_judged}

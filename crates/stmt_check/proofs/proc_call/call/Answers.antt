@@ -3,7 +3,7 @@ use Rattle.cal_ast.specs.Tree.{listed}
 use Rattle.cal_ast.specs.View.{expr_tree}
 use Rattle.cal_model.specs.Statement.{proc_named}
 use Rattle.cal_model.specs.View.{proc_view}
-use Rattle.const_eval.specs.Counting.{names_view}
+use Rattle.const_env.specs.Counting.{names_view}
 use Rattle.cal_check.specs.Statements.{call_judged}
 use Rattle.cal_check.specs.Violations.{broken}
 use Rattle.stmt_check.proofs.Said.{few_broken}

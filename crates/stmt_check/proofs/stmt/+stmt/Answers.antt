@@ -5,7 +5,7 @@ use Rattle.cal_model.specs.Kinding.{Names, counter, with_known}
 use Rattle.cal_model.specs.Value.{NumKind}
 use Rattle.cal_model.specs.View.{kind_view, proc_view}
 use Rattle.cal_model.specs.declared.kind.Kind as kinds
-use Rattle.const_eval.specs.Counting.{names_view}
+use Rattle.const_env.specs.Counting.{names_view}
 use Rattle.cal_check.specs.Constants.{stored_kind}
 use Rattle.cal_check.specs.Statements.{counter_judged, names_behind, starts_broken, statement_broken}
 use Rattle.cal_check.specs.Violations.{Violation, broken, if_fine, said}

@@ -2,7 +2,7 @@ use Rattle.std.proofs.Common.{◌≡◌, ◌≤◌, map, ◌+◌}
 use Rattle.cal_ast.specs.Tree.{listed}
 use Rattle.cal_ast.specs.View.{body_tree, stmt_tree}
 use Rattle.cal_model.specs.View.{proc_view}
-use Rattle.const_eval.specs.Counting.{names_view}
+use Rattle.const_env.specs.Counting.{names_view}
 use Rattle.cal_check.specs.Statements.{statement_broken}
 use Rattle.cal_check.specs.Violations.{said}
 use Rattle.stmt_check.proofs.StmtWeights.{size}

@@ -1,6 +1,6 @@
 use Rattle.std.proofs.Common.{◌≡◌, map, length}
 use Rattle.cal_model.specs.View.{port_view}
-use Rattle.const_eval.specs.Counting.{names_view}
+use Rattle.const_env.specs.Counting.{names_view}
 use Rattle.cal_check.specs.Ports.{each_port}
 use Rattle.cal_check.specs.Violations.{all_broken, all_fine}
 use Rattle.variable_check.specs.Views.{ports_tree}

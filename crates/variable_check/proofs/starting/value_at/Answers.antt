@@ -5,8 +5,8 @@ use Rattle.cal_ast.specs.View.{expr_tree}
 use Rattle.cal_check.specs.Violations.{violation}
 use Rattle.cal_model.specs.Outcome.{Clashes, Gives, Lacks, Traps}
 use Rattle.cal_model.specs.View.{shape_view, value_view}
-use Rattle.const_eval.specs.Evaluable.{value_of}
-use Rattle.const_eval.specs.Held.{held}
+use Rattle.expr_eval.specs.Evaluable.{value_of}
+use Rattle.const_env.specs.Held.{held}
 use Rattle.variable_check.specs.Valuing.{ComesTo, came}
 use Rattle.variable_check.proofs.Starts.{start_is}
 use Rattle.variable_check.proofs.starting.value_at.Goals as goal

@@ -1,5 +1,5 @@
 use Rattle.std.proofs.Common.{sym, ap, ◌∙◌}
-use Rattle.const_eval.specs.Held.{names_in}
+use Rattle.const_env.specs.Held.{names_in}
 use Rattle.seen_names.specs.Known.{all_known, fun_decls}
 use Rattle.seen_names.specs.Needs.{IsKept, kept_in}
 use Rattle.variable_check.specs.Views.{all_given, spot_of, var_decl}

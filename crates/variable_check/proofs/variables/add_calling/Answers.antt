@@ -1,5 +1,5 @@
 use Rattle.std.proofs.Common.{◌≡◌, ap, ◌∙◌, rules}
-use Rattle.const_eval.specs.Held.{names_in}
+use Rattle.const_env.specs.Held.{names_in}
 use Rattle.cal_check.specs.Variables.{seen}
 use Rattle.seen_names.specs.Known.{all_known, fun_decls}
 use Rattle.variable_check.specs.Views.{all_given, spot_of, var_decl}

@@ -3,7 +3,7 @@ use Rattle.std.specs.Prelude.{option_map}
 use Rattle.cal_ast.specs.View.{optional_expr}
 use Rattle.cal_check.specs.Variables.{come, with_come}
 use Rattle.cal_model.specs.View.{shape_view, value_view}
-use Rattle.const_eval.specs.Held.{names_in}
+use Rattle.const_env.specs.Held.{names_in}
 use Rattle.variable_check.specs.Valuing.{Values}
 use Rattle.variable_check.specs.Views.{all_given, spot_of, var_decl}
 use Rattle.variable_check.proofs.Adding.{come_added, come_refused}

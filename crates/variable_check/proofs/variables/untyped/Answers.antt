@@ -1,6 +1,6 @@
 use Rattle.std.proofs.Common.{sym, subst, ◌∙◌}
 use Rattle.cal_check.specs.Violations.{violation}
-use Rattle.const_eval.specs.Judging.{Breaks}
+use Rattle.const_env.specs.Judging.{Breaks}
 use Rattle.variable_check.proofs.Adding.{untyped_declares, untyped_refused}
 use Rattle.variable_check.proofs.Faults.{cause_alone}
 use Rattle.variable_check.proofs.variables.untyped.Goals as goal

@@ -3,7 +3,7 @@ use Rattle.cal_ast.specs.View.{optional_expr}
 use Rattle.cal_check.specs.Variables.{come, found_in, param_broken}
 use Rattle.cal_check.specs.Violations.{said}
 use Rattle.cal_model.specs.View.{shape_view}
-use Rattle.const_eval.specs.Held.{names_in}
+use Rattle.const_env.specs.Held.{names_in}
 use Rattle.variable_check.specs.Valuing.{said_of}
 use Rattle.variable_check.specs.Views.{all_given, spot_of, var_decl}
 use Rattle.variable_check.proofs.Faults.{cause_in_first}

@@ -1,0 +1,11 @@
+pub mod Outcome
+pub mod Sizes
+pub mod Constants
+pub mod Lengths
+pub mod Held
+pub mod Deciding
+pub mod Meant
+pub mod Counting
+pub mod Judging
+pub mod Fitting
+pub mod Standing

@@ -1,0 +1,89 @@
+//! The names that are declared round an expression.
+
+ghost use Rattle.std.specs.Prelude.{◌≡◌, [], map, option_map};
+ghost use Rattle.cal_model.specs.Kinding.{known_as};
+ghost use Rattle.const_env.specs.Counting.{declared_by, inner_variables, known_variable, meant_view, named_by, use_of, variable_view};
+
+use crate::meant::Meant;
+use cal_ast::Gen;
+use cal_model::Kind;
+
+/// A name without a value, with its kind: a formal, a local, or a variable of a pattern or of a loop.
+#[derive(Debug, Drop)]
+pub struct Variable {
+    pub name: String,
+    pub kind: Kind,
+    /// Whether it may be assigned.
+    pub changes: bool,
+}
+
+/// Variables, of which a later one stands inside, the generators of a comprehension inside them, and what is declared
+/// round them.
+#[derive(Clone, Copy, Drop)]
+pub struct Inside<'a> {
+    pub variables: &'a [Variable],
+    pub gens: &'a [Gen],
+    pub outer: Option<&'a Inside<'a>>,
+}
+
+/// What a name means among those that are declared inside: an inner one hides an outer one.
+pub fn meant_inside<'a>(name: &str, inside: Option<&'a Inside<'a>>) -> Option<Meant<'a>>
+    ensures { option_map meant_view result
+        ≡ option_map use_of (known_as name.now (map known_variable (inner_variables inside.entry))) }
+{
+    let mut at = inside;
+    'outwards: while let Some(these) = at {
+        if let Some(meant) = meant_by(name, these.variables, these.gens) {
+            return Some(meant);
+        }
+        at = these.outer;
+    }
+    None
+}
+
+/// What a name means among variables and the generators inside them.
+fn meant_by<'a>(name: &str, variables: &'a [Variable], gens: &'a [Gen]) -> Option<Meant<'a>>
+    ensures { option_map meant_view result ≡ option_map use_of
+        (known_as name.now (map known_variable (named_by gens.entry.now (declared_by variables.entry.now [])))) }
+{
+    if let Some(meant) = counter_in(name, gens) {
+        return Some(meant);
+    }
+    variable_in(name, variables)
+}
+
+/// The last variable of the name.
+fn variable_in<'a>(name: &str, variables: &'a [Variable]) -> Option<Meant<'a>>
+    ensures { option_map meant_view result ≡ option_map use_of
+        (known_as name.now (map known_variable (declared_by variables.entry.now []))) }
+{
+    let mut rest = variables;
+    'backwards: while let Some((last, others)) = rest.split_last() {
+        if last.name.as_str() == name {
+            return Some(Meant {
+                kind: Some(&last.kind),
+                changes: last.changes,
+            });
+        }
+        rest = others;
+    }
+    None
+}
+
+/// The generator of the name: a number that isn't assigned.
+fn counter_in<'a>(name: &str, gens: &'a [Gen]) -> Option<Meant<'a>>
+    ensures { option_map meant_view result ≡ option_map use_of
+        (known_as name.now (map known_variable (named_by gens.entry.now []))) }
+{
+    let mut rest = gens;
+    'backwards: while let Some((last, others)) = rest.split_last() {
+        if last.name.text.as_str() == name {
+            return Some(Meant {
+                kind: None,
+                changes: false,
+            });
+        }
+        rest = others;
+    }
+    None
+}

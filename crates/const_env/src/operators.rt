@@ -1,0 +1,222 @@
+//! Operators on values.
+
+ghost use Rattle.std.specs.Prelude.{◌≡◌, ℕ, map, pos};
+ghost use Rattle.rvc_base.specs.Arithmetic.{whole};
+ghost use Rattle.cal_model.specs.Env.{item_at};
+ghost use Rattle.cal_model.specs.Expression.{applied, computed, indexed, of_numbers, of_truths, prefixed};
+ghost use Rattle.cal_model.specs.View.{in_order, value_view};
+ghost use Rattle.rvc_base.specs.Computing.{computed_of};
+ghost use Rattle.const_env.specs.Deciding.{decides};
+ghost use Rattle.const_env.specs.Outcome.{Evaluates};
+
+use crate::stop::Stop;
+use cal_ast::{BinOp, PrefixOp};
+use cal_model::{Value, Values};
+use rvc_base::arithmetic::{add, div, mul, neg, rem, shl, shr, sub};
+use rvc_base::{Num, Trap};
+
+/// A number as it is written.
+pub fn literal(number: u128) -> Result<Value, Stop>
+    ensures { (left : ℕ) → Evaluates value_view result left (computed (whole (pos number)) left) }
+{
+    match Num::try_from(number) {
+        Ok(number) => Ok(Value::Num(number)),
+        Err(_) => Err(Stop::Trap(Trap::Overflow)),
+    }
+}
+
+/// A number that was computed, or its trap.
+fn computed(found: Result<Num, Trap>) -> Result<Value, Stop>
+    ensures { (left : ℕ) → Evaluates value_view result left (computed (computed_of found) left) }
+{
+    match found {
+        Ok(number) => Ok(Value::Num(number)),
+        Err(trap) => Err(Stop::Trap(trap)),
+    }
+}
+
+/// An operation with one operand.
+pub fn prefixed(op: PrefixOp, value: &Value) -> Result<Value, Stop>
+    ensures { (left : ℕ) → Evaluates value_view result left
+        (prefixed op (value_view value.now) left) }
+{
+    match op {
+        PrefixOp::Not => denied(value),
+        PrefixOp::Neg => negated(value),
+        PrefixOp::BitNot => inverted(value),
+    }
+}
+
+/// The other truth value.
+fn denied(value: &Value) -> Result<Value, Stop>
+    ensures { (left : ℕ) → Evaluates value_view result left
+        (prefixed PrefixOp.Not (value_view value.now) left) }
+{
+    match value {
+        Value::Bool(truth) => Ok(Value::Bool(!*truth)),
+        Value::Num(_) => Err(Stop::Clashes),
+        Value::List(_) => Err(Stop::Clashes),
+    }
+}
+
+/// The number with the other sign.
+fn negated(value: &Value) -> Result<Value, Stop>
+    ensures { (left : ℕ) → Evaluates value_view result left
+        (prefixed PrefixOp.Neg (value_view value.now) left) }
+{
+    match value {
+        Value::Num(number) => computed(neg(*number)),
+        Value::Bool(_) => Err(Stop::Clashes),
+        Value::List(_) => Err(Stop::Clashes),
+    }
+}
+
+/// The number with the other bits.
+fn inverted(value: &Value) -> Result<Value, Stop>
+    ensures { (left : ℕ) → Evaluates value_view result left
+        (prefixed PrefixOp.BitNot (value_view value.now) left) }
+{
+    match value {
+        Value::Num(number) => Ok(Value::Num(!*number)),
+        Value::Bool(_) => Err(Stop::Clashes),
+        Value::List(_) => Err(Stop::Clashes),
+    }
+}
+
+/// Whether the left side of an operation decides it, so that the right one isn't evaluated.
+pub fn decides(op: BinOp, value: &Value) -> bool
+    ensures { result ≡ decides op (value_view value.now) }
+{
+    match value {
+        Value::Bool(true) => op == BinOp::Or,
+        Value::Bool(false) => op == BinOp::And,
+        Value::Num(_) => false,
+        Value::List(_) => false,
+    }
+}
+
+/// An operation with two operands.
+pub fn applied(op: BinOp, first: &Value, second: &Value) -> Result<Value, Stop>
+    ensures { (left : ℕ) → Evaluates value_view result left
+        (applied op (value_view first.now) (value_view second.now) left) }
+{
+    match first {
+        Value::Num(a) => with_number(op, *a, second),
+        Value::Bool(a) => with_truth(op, *a, second),
+        Value::List(_) => Err(Stop::Clashes),
+    }
+}
+
+/// An operation whose first operand is a number.
+fn with_number(op: BinOp, a: Num, second: &Value) -> Result<Value, Stop>
+    ensures { (left : ℕ) → Evaluates value_view result left
+        (applied op (value_view (Value.Num a)) (value_view second.now) left) }
+{
+    match second {
+        Value::Num(b) => of_numbers(op, a, *b),
+        Value::Bool(_) => Err(Stop::Clashes),
+        Value::List(_) => Err(Stop::Clashes),
+    }
+}
+
+/// An operation whose first operand is a truth value.
+fn with_truth(op: BinOp, a: bool, second: &Value) -> Result<Value, Stop>
+    ensures { (left : ℕ) → Evaluates value_view result left
+        (applied op (value_view (Value.Bool a)) (value_view second.now) left) }
+{
+    match second {
+        Value::Bool(b) => of_truths(op, a, *b),
+        Value::Num(_) => Err(Stop::Clashes),
+        Value::List(_) => Err(Stop::Clashes),
+    }
+}
+
+/// An operation on two numbers.
+fn of_numbers(op: BinOp, a: Num, b: Num) -> Result<Value, Stop>
+    ensures { (left : ℕ) → Evaluates value_view result left (of_numbers op a b left) }
+{
+    match op {
+        BinOp::Add => computed(add(a, b)),
+        BinOp::Sub => computed(sub(a, b)),
+        BinOp::Mul => computed(mul(a, b)),
+        BinOp::Div => computed(div(a, b)),
+        BinOp::Mod => computed(rem(a, b)),
+        BinOp::Shl => computed(shl(a, b)),
+        BinOp::Shr => computed(shr(a, b)),
+        BinOp::BitAnd => Ok(Value::Num(a & b)),
+        BinOp::BitOr => Ok(Value::Num(a | b)),
+        BinOp::BitXor => Ok(Value::Num(a ^ b)),
+        BinOp::Eq => Ok(Value::Bool(a == b)),
+        BinOp::Ne => Ok(Value::Bool(a != b)),
+        BinOp::Lt => Ok(Value::Bool(a < b)),
+        BinOp::Le => Ok(Value::Bool(a <= b)),
+        BinOp::Gt => Ok(Value::Bool(a > b)),
+        BinOp::Ge => Ok(Value::Bool(a >= b)),
+        BinOp::And => Err(Stop::Clashes),
+        BinOp::Or => Err(Stop::Clashes),
+    }
+}
+
+/// An operation on two truth values, of which the left one doesn't decide.
+fn of_truths(op: BinOp, a: bool, b: bool) -> Result<Value, Stop>
+    ensures { (left : ℕ) → Evaluates value_view result left (of_truths op a b left) }
+{
+    match op {
+        BinOp::And => Ok(Value::Bool(a && b)),
+        BinOp::Or => Ok(Value::Bool(a || b)),
+        BinOp::Eq => Ok(Value::Bool(a == b)),
+        BinOp::Ne => Ok(Value::Bool(a != b)),
+        BinOp::Lt => Err(Stop::Clashes),
+        BinOp::Le => Err(Stop::Clashes),
+        BinOp::Gt => Err(Stop::Clashes),
+        BinOp::Ge => Err(Stop::Clashes),
+        BinOp::BitAnd => Err(Stop::Clashes),
+        BinOp::BitOr => Err(Stop::Clashes),
+        BinOp::BitXor => Err(Stop::Clashes),
+        BinOp::Add => Err(Stop::Clashes),
+        BinOp::Sub => Err(Stop::Clashes),
+        BinOp::Mul => Err(Stop::Clashes),
+        BinOp::Div => Err(Stop::Clashes),
+        BinOp::Mod => Err(Stop::Clashes),
+        BinOp::Shl => Err(Stop::Clashes),
+        BinOp::Shr => Err(Stop::Clashes),
+    }
+}
+
+/// The item of a list at a place.
+pub fn indexed(base: Value, place: &Value) -> Result<Value, Stop>
+    ensures { (left : ℕ) → Evaluates value_view result left
+        (indexed (value_view base) (value_view place.now) left) }
+{
+    match base {
+        Value::List(values) => item(values, place),
+        Value::Num(_) => Err(Stop::Clashes),
+        Value::Bool(_) => Err(Stop::Clashes),
+    }
+}
+
+/// The item of a list at a place, which must be a number.
+fn item(values: Values, place: &Value) -> Result<Value, Stop>
+    ensures { (left : ℕ) → Evaluates value_view result left
+        (indexed (value_view (Value.List values)) (value_view place.now) left) }
+{
+    match place {
+        Value::Num(number) => item_at(values.items, *number),
+        Value::Bool(_) => Err(Stop::Clashes),
+        Value::List(_) => Err(Stop::Clashes),
+    }
+}
+
+/// The item of a list at a number, which must be a place of the list.
+fn item_at(mut items: Vec<Value>, number: Num) -> Result<Value, Stop>
+    ensures { (left : ℕ) → Evaluates value_view result left
+        (item_at (in_order (map value_view items.items)) number left) }
+{
+    if number < 0 {
+        return Err(Stop::Trap(Trap::IndexRange));
+    }
+    if number >= items.len() as Num {
+        return Err(Stop::Trap(Trap::IndexRange));
+    }
+    Ok(items.swap_remove(number as usize))
+}

@@ -1,0 +1,3 @@
+pub mod Scoping
+pub mod Evaluable
+pub mod Shaping
