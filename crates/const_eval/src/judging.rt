@@ -220,7 +220,7 @@ fn kind_of_comp(names: &Names, item: &Expr, gens: &[Gen], at: u32) -> Result<Kin
         (names_view names.now)) }
 {
     let inside = Inside {
-        variables: &[],
+        variables: None,
         gens,
         outer: names.inner,
     };
@@ -239,7 +239,7 @@ fn elements_in(names: &Names, gens: &[Gen]) -> Result<u32, KindFault>
     let mut size: u32 = 1;
     for place in 0..gens.len() {
         let inside = Inside {
-            variables: &[],
+            variables: None,
             gens: &gens[..place],
             outer: names.inner,
         };

@@ -25,6 +25,7 @@ mod shapes;
 mod stop;
 mod types;
 mod value;
+mod variables;
 
 pub use constant::{ConstFault, eval_const, kind_const};
 pub use ending::eval_to_end;
@@ -38,3 +39,4 @@ pub use meant::Meant;
 pub use names::Names;
 pub use shapes::counts;
 pub use stop::Stop;
+pub use variables::Variables;

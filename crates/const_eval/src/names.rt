@@ -5,7 +5,7 @@ ghost use Rattle.cal_ast.specs.Tree as tree;
 ghost use Rattle.cal_ast.specs.View.{expr_tree};
 ghost use Rattle.cal_model.specs.Kinding.{constant, kind, meant_by};
 ghost use Rattle.cal_model.specs.View.{kind_view, value_view};
-ghost use Rattle.const_eval.specs.Counting.{declared_by, inner_variables, meant_view, named_by, names_inside, names_view, use_of};
+ghost use Rattle.const_eval.specs.Counting.{declared_by, inner_variables, meant_view, named_by, names_inside, names_view, own_variables, use_of};
 ghost use Rattle.const_eval.specs.Held.{names_in};
 ghost use Rattle.const_eval.specs.Judging.{Judges};
 ghost use Rattle.const_eval.specs.Outcome.{Evaluates};
@@ -52,7 +52,8 @@ impl<'a> Names<'a> {
         requires { inner_variables (out-Inside inside.now).outer ≡ inner_variables self.now.inner }
         ensures { names_view result ≡ names_inside
             (named_by (out-Inside inside.now).gens.now
-            (declared_by (out-Inside inside.now).variables.now (inner_variables self.now.inner)))
+            (declared_by (own_variables (out-Inside inside.now).variables)
+            (inner_variables self.now.inner)))
             self.now.env.now }
     {
         Names {
