@@ -27,6 +27,23 @@ pub struct Inside<'a> {
     pub outer: Option<&'a Inside<'a>>,
 }
 
+impl<'a> Inside<'a> {
+    ghost use Rattle.const_eval.specs.declared.inside.Inside.{out-Inside};
+
+    /// Generators, and what is declared round them.
+    pub fn of_gens(gens: &'a [Gen], outer: Option<&'a Inside<'a>>) -> Inside<'a>
+        ensures variables { own_variables (out-Inside result).variables ≡ [] }
+        ensures gens { (out-Inside result).gens.now ≡ gens.entry.now }
+        ensures outer { inner_variables (out-Inside result).outer ≡ inner_variables outer.entry }
+    {
+        Inside {
+            variables: None,
+            gens,
+            outer,
+        }
+    }
+}
+
 /// What a name means among those that are declared inside: an inner one hides an outer one.
 pub(crate) fn meant_inside<'a>(name: &str, inside: Option<&'a Inside<'a>>) -> Option<Meant<'a>>
     ensures { option_map meant_view result

@@ -6,6 +6,7 @@ ghost use Rattle.cal_model.specs.Kinding.{known_as};
 use crate::inside::Variable;
 use crate::meant::Meant;
 use crate::places::Places;
+use cal_model::Kind;
 use rvc_base::Memory;
 use std::alloc::Global;
 use std::marker::Model;
@@ -40,8 +41,8 @@ impl Model for Variables {
 }
 
 impl Variables {
-    ghost use Rattle.std.specs.Prelude.{◌++◌, ◌∷◌, [], OnOk, OnErr, IfOk, map, option_map};
-    ghost use Rattle.const_eval.specs.Counting.{declared_by, known_variable, meant_view, use_of};
+    ghost use Rattle.std.specs.Prelude.{◌++◌, List, ◌∷◌, [], OnOk, OnErr, IfOk, map, option_map};
+    ghost use Rattle.const_eval.specs.Counting.{Variable as Seen, counter_variable, declared_by, known_variable, meant_view, use_of};
     ghost use Rattle.const_eval.specs.Held.{last_first};
     ghost use Rattle.const_eval.specs.Standing.{seen_variable};
 
@@ -55,16 +56,22 @@ impl Variables {
         }
     }
 
-    /// One variable.
+    /// The variable of a loop alone: a number that isn't assigned.
     ///
     /// # Errors
     ///
     /// `Memory` if memory runs out.
-    pub fn of_one(alloc: Global, variable: Variable) -> Result<Variables, Memory>
-        ensures { IfOk result (λ variables. variables ≡ variable ∷ []) }
+    pub fn of_counter(alloc: Global, name: &str) -> Result<Variables, Memory>
+        ensures { IfOk result (λ variables. (outer : List Seen)
+            → declared_by variables outer ≡ counter_variable name.now ∷ outer) }
     {
         let mut variables = Variables::new(alloc);
-        variables.add(variable)?;
+        let name = String::from_str(alloc, name)?;
+        variables.add(Variable {
+            name,
+            kind: Kind::Num,
+            changes: false,
+        })?;
         Ok(variables)
     }
 
