@@ -23,7 +23,7 @@ use action_check::ActorParts;
 use cal_ast::{Action, Expr, Ident, Stmt, Tag, VarDecl};
 use cal_model::{BoundAction, BoundOutput, BoundPattern};
 use cal_written::{exprs, stmts};
-use const_eval::{Inside, KindFault, Names, Variable};
+use const_eval::{Inside, KindFault, Names, Variables};
 use routine_build::{DeclaredLocals, locals};
 use rvc_base::Memory;
 use std::alloc::Global;
@@ -39,7 +39,7 @@ pub(crate) struct BehindLocals {
 /// An action with these patterns, behind their variables.
 pub(crate) fn behind_patterns(
     names: &Names,
-    seen: &[Variable],
+    seen: &Variables,
     taken: Vec<BoundPattern>,
     parts: &ActorParts,
     a: &Action,
@@ -49,7 +49,7 @@ pub(crate) fn behind_patterns(
         (around_view parts.now names.now) (seen_behind seen.now names.now) }
 {
     let inside = Inside {
-        variables: seen,
+        variables: Some(seen),
         gens: &[],
         outer: names.inner,
     };
@@ -87,7 +87,7 @@ fn typed_locals(names: &Names, declared: &[VarDecl]) -> Result<DeclaredLocals, K
     ensures locals { IfOk result (λ found. map local_view found.locals.items
         ≡ locals_of (vars_tree declared.now) (names_view names.now)) }
     ensures behind { IfOk result (λ found. names_behind (vars_tree declared.now) (names_view names.now)
-        ≡ Fine (seen_behind found.behind.items names.now)) }
+        ≡ Fine (seen_behind found.behind names.now)) }
     ensures broken { IfErr result (λ f. Refuses f (vars_broken (vars_tree declared.now) (names_view names.now))) }
 {
     let found = locals(names, declared)?;
@@ -111,7 +111,7 @@ fn broken_local(names: &Names, declared: &[VarDecl]) -> KindFault
 /// What stands behind the locals.
 fn behind_locals(
     names: &Names,
-    locals: &[Variable],
+    locals: &Variables,
     parts: &ActorParts,
     a: &Action,
 ) -> Result<BehindLocals, KindFault>
@@ -120,7 +120,7 @@ fn behind_locals(
         (seen_behind locals.now names.now) }
 {
     let inside = Inside {
-        variables: locals,
+        variables: Some(locals),
         gens: &[],
         outer: names.inner,
     };

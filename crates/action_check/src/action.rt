@@ -17,7 +17,7 @@ use crate::outputs::check_outputs;
 use crate::pattern::check_patterns;
 use cal_ast::{Action, Member};
 use cal_model::{BoundProc, Port};
-use const_eval::{Inside, KindFault, Names, Variable};
+use const_eval::{Inside, KindFault, Names, Variables};
 use stmt_check::{check_vars, optional_stmts};
 
 /// What the actions of an actor see beside names: its ports and its procedures.
@@ -80,7 +80,7 @@ pub fn check_action(
 /// What stands behind the variables of patterns.
 fn behind_patterns(
     names: &Names,
-    seen: &[Variable],
+    seen: &Variables,
     parts: &ActorParts,
     a: &Action,
     passes: bool,
@@ -90,7 +90,7 @@ fn behind_patterns(
         (inside_of a.now (around_view parts.now names.now) (seen_behind seen.now names.now))) }
 {
     let inside = Inside {
-        variables: seen,
+        variables: Some(seen),
         gens: &[],
         outer: names.inner,
     };
@@ -132,7 +132,7 @@ fn locals_and_rest(
 /// What stands behind the locals.
 fn behind_locals(
     names: &Names,
-    locals: &[Variable],
+    locals: &Variables,
     parts: &ActorParts,
     a: &Action,
     passes: bool,
@@ -142,7 +142,7 @@ fn behind_locals(
         (seen_behind locals.now names.now))) }
 {
     let inside = Inside {
-        variables: locals,
+        variables: Some(locals),
         gens: &[],
         outer: names.inner,
     };

@@ -11,7 +11,7 @@ ghost use Rattle.stmt_check.specs.Declaring.{seen_behind};
 
 use crate::tokens::{kind_of_tokens, type_of_port};
 use cal_model::{BoundPattern, Port};
-use const_eval::{Names, Variable};
+use const_eval::{Names, Variable, Variables};
 use rvc_base::{Memory, Scalar};
 use std::alloc::Global;
 
@@ -24,12 +24,12 @@ pub fn pattern_names(
     names: &Names,
     ins: &[Port],
     patterns: &[BoundPattern],
-) -> Result<Vec<Variable>, Memory>
-    ensures { IfOk result (λ seen. seen_behind seen.items names.now
+) -> Result<Variables, Memory>
+    ensures { IfOk result (λ seen. seen_behind seen names.now
         ≡ with_all_patterns (port_views ins.now) (map pattern_view patterns.now)
         (names_view names.now)) }
 {
-    let mut seen = Vec::new(names.alloc);
+    let mut seen = Variables::new(names.alloc);
     let mut rest = patterns;
     'patterns: while let Some((first, others)) = rest.split_first() {
         let t = type_of_port(ins, first.port);
@@ -45,16 +45,16 @@ fn add_names(
     t: Scalar,
     repeat: Option<u32>,
     names: &[String],
-    seen: &mut Vec<Variable>,
+    seen: &mut Variables,
 ) -> Result<(), Memory>
-    ensures { OnOk result ((n : DeclaredNames) → seen_behind seen.new.items n
+    ensures { OnOk result ((n : DeclaredNames) → seen_behind seen.new n
         ≡ with_pattern (kind_of_tokens t repeat) (map string_bytes names.now)
-        (seen_behind seen.old.items n)) }
+        (seen_behind seen.old n)) }
 {
     let mut rest = names;
     'names: while let Some((first, others)) = rest.split_first() {
         let next = token_name(alloc, t, repeat, first)?;
-        seen.push(next)?;
+        seen.add(next)?;
         rest = others;
     }
     Ok(())

@@ -115,11 +115,7 @@ fn comp(names: &Names, item: &Expr, gens: &[Gen], at: u32) -> Result<Expr, Memor
 fn expr_among(names: &Names, gens: &[Gen], e: &Expr) -> Result<Expr, Memory>
     ensures { WritesExpr result (expr_tree e.now) (seen_among gens.now names.now) }
 {
-    let inside = Inside {
-        variables: &[],
-        gens,
-        outer: names.inner,
-    };
+    let inside = Inside::of_gens(gens, names.inner);
     expr(&names.under(&inside), e)
 }
 

@@ -30,11 +30,7 @@ pub(crate) fn generators(names: &Names, gens: &[Gen]) -> Result<Vec<Gen>, Memory
 fn generator_behind(names: &Names, before: &[Gen], g: &Gen) -> Result<Gen, Memory>
     ensures { WritesGen result (gen_tree g.now) (seen_among before.now names.now) }
 {
-    let inside = Inside {
-        variables: &[],
-        gens: before,
-        outer: names.inner,
-    };
+    let inside = Inside::of_gens(before, names.inner);
     generator(&names.under(&inside), g)
 }
 

@@ -15,8 +15,7 @@ use crate::made_stmt as made;
 use crate::types::type_expr;
 use crate::var_decl::vars;
 use cal_ast::{Expr, Ident, Stmt, StmtForm, TypeExpr, VarDecl};
-use cal_model::Kind;
-use const_eval::{Inside, Names, Variable};
+use const_eval::{Inside, Names, Variables};
 use rvc_base::Memory;
 
 /// A statement.
@@ -132,22 +131,18 @@ fn loop_body(names: &Names, name: &Ident, body: &[Stmt]) -> Result<Vec<Stmt>, Me
     ensures { WritesStmts result (listed (map stmt_tree body.now))
         (with_known (counter (string_bytes name.now.text)) (names_view names.now)) }
 {
-    let variable = Variable {
-        name: name.text.clone()?,
-        kind: Kind::Num,
-        changes: false,
-    };
-    stmts_behind(names, &[variable], body)
+    let variables = Variables::of_counter(names.alloc, name.text.as_str())?;
+    stmts_behind(names, &variables, body)
 }
 
 /// Statements that stand behind variables.
 #[cycle(stmt)]
-fn stmts_behind(names: &Names, variables: &[Variable], body: &[Stmt]) -> Result<Vec<Stmt>, Memory>
+fn stmts_behind(names: &Names, variables: &Variables, body: &[Stmt]) -> Result<Vec<Stmt>, Memory>
     ensures { WritesStmts result (listed (map stmt_tree body.now))
         (seen_behind variables.now names.now) }
 {
     let inside = Inside {
-        variables,
+        variables: Some(variables),
         gens: &[],
         outer: names.inner,
     };

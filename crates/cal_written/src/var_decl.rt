@@ -15,7 +15,7 @@ use crate::expression::expr;
 use crate::types::type_expr;
 use cal_ast::{Expr, TypeExpr, VarDecl};
 use cal_model::{Kind, kind_of_type};
-use const_eval::{Inside, KindFault, Names, Variable, type_judged};
+use const_eval::{Inside, KindFault, Names, Variable, Variables, type_judged};
 use rvc_base::Memory;
 
 /// Variables that are declared inside, and what stands behind them.
@@ -24,7 +24,7 @@ pub struct DeclaredVars {
     /// The variables, with their sizes and bounds written out.
     pub vars: Vec<VarDecl>,
     /// The same, as what stands behind them sees them.
-    pub behind: Vec<Variable>,
+    pub behind: Variables,
 }
 
 /// Variables, each of which sees those before it.
@@ -35,28 +35,28 @@ pub struct DeclaredVars {
 pub fn vars(names: &Names, declared: &[VarDecl]) -> Result<DeclaredVars, Memory>
     ensures vars { IfOk result (λ found. listed (map var_tree found.vars.items)
         ≡ vars_written (listed (map var_tree declared.now)) (names_view names.now)) }
-    ensures behind { IfOk result (λ found. seen_behind found.behind.items names.now
+    ensures behind { IfOk result (λ found. seen_behind found.behind names.now
         ≡ behind_vars (listed (map var_tree declared.now)) (names_view names.now)) }
 {
     let mut vars = Vec::new(names.alloc);
-    let mut behind = Vec::new(names.alloc);
+    let mut behind = Variables::new(names.alloc);
     let mut rest = declared;
     'each: while let Some((first, others)) = rest.split_first() {
         let v = var_behind(names, &behind, first)?;
         let variable = variable_behind(names, &behind, first)?;
         vars.push(v)?;
-        behind.push(variable)?;
+        behind.add(variable)?;
         rest = others;
     }
     Ok(DeclaredVars { vars, behind })
 }
 
 /// A variable that stands behind others.
-fn var_behind(names: &Names, before: &[Variable], v: &VarDecl) -> Result<VarDecl, Memory>
+fn var_behind(names: &Names, before: &Variables, v: &VarDecl) -> Result<VarDecl, Memory>
     ensures { WritesVar result (var_tree v.now) (seen_behind before.now names.now) }
 {
     let inside = Inside {
-        variables: before,
+        variables: Some(before),
         gens: &[],
         outer: names.inner,
     };
@@ -92,11 +92,11 @@ fn optional(names: &Names, e: &Option<Expr>) -> Result<Option<Expr>, Memory>
 // ---- what is seen behind a variable
 
 /// A variable that stands behind others, as what stands behind it sees it.
-fn variable_behind(names: &Names, before: &[Variable], v: &VarDecl) -> Result<Variable, Memory>
+fn variable_behind(names: &Names, before: &Variables, v: &VarDecl) -> Result<Variable, Memory>
     ensures { Declares result (var_tree v.now) (seen_behind before.now names.now) }
 {
     let inside = Inside {
-        variables: before,
+        variables: Some(before),
         gens: &[],
         outer: names.inner,
     };

@@ -20,6 +20,10 @@ pub last_more : {X Y : Type 0} (view : X → Y) (xs : List X) (x : X) (later : L
 last_more view [] x later = refl
 last_more view (y ∷ xs) x later = last_more view xs x (view y ∷ later)
 
+pub last_mapped : {X Y Z : Type 0} (known : Y → Z) (view : X → Y) (xs : List X) (later : List Y) → map known (last_first view xs later) ≡ last_first (λ x. known (view x)) xs (map known later)
+last_mapped known view [] later = refl
+last_mapped known view (x ∷ xs) later = last_mapped known view xs (view x ∷ later)
+
 -- what the last one's name means, and what another one does
 pub last_known : {X Y : Type 0} (view : X → Y) (known : Y → Known) (name : List ℕ) (all others : List X) (x : X) → all ≡ others ++ x ∷ []
     → known_as name (map known (last_first view all [])) ≡ (if bytes_eq (known (view x)).name name then Some (known (view x)) else known_as name (map known (last_first view others [])))

@@ -11,9 +11,11 @@ use Rattle.cal_model.specs.Actor.{Fun}
 use Rattle.cal_model.specs.Call.{fun_named}
 use Rattle.cal_model.specs.Kinding.{Known, known_as}
 use Rattle.const_env.specs.Constants.{has_fun}
+use Rattle.const_env.specs.Counting.{declared_by, known_variable, variable_view}
 use Rattle.const_env.specs.Held.{last_first}
-use Rattle.const_env.specs.Standing.{Placed, place_named, placed_of, with_place, LeadsTo, LeadEach}
-use Rattle.const_env.proofs.Backwards.{entry_known}
+use Rattle.const_env.specs.Standing.{Placed, place_named, placed_of, with_place, LeadsTo, LeadEach, seen_variable}
+use Rattle.const_env.specs.declared.inside.Variable.{Variable}
+use Rattle.const_env.proofs.Backwards.{entry_known, last_mapped}
 
 -- ---- places, as they lie in the index
 
@@ -117,6 +119,11 @@ pub entry_pushed : {X : Type 0} (view : X → Known) (olds news : List X) (x : X
 entry_pushed view olds news x name places after leads e f g =
     subst (λ ps. LeadEach view news ps (λ n. known_as n (last_first view news []))) (sym (g ∙ ap (λ n. with_place n (length olds) places) (sym f)))
     (subst (λ xs. LeadEach view xs (with_place (view x).name (length olds) places) (λ n. known_as n (last_first view xs []))) (sym e) (entry_more view olds x places leads))
+
+-- ---- variables, as they are sought
+
+pub variables_seen : (xs : List Variable) → map known_variable (declared_by xs []) ≡ last_first seen_variable xs []
+variables_seen xs = last_mapped known_variable variable_view xs []
 
 -- ---- one function more, whose name is new
 

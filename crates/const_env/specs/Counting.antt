@@ -47,13 +47,18 @@ named_by = last_first (λ g. counter_variable (name_of g))
 abbrev pub declared_by : List Declared → List Variable → List Variable
 declared_by = last_first variable_view
 
+-- those that are declared there, if there are any
+abbrev pub own_variables : Option (Bor (List Declared)) → List Declared
+own_variables None = []
+own_variables (Some variables) = variables.now
+
 abbrev pub outer_variables : Option (Bor (List Variable)) → List Variable
 outer_variables None = []
 outer_variables (Some variables) = variables.now
 
 -- the generators stand inside the variables
 abbrev pub inside_step : Inside-F (List Variable) → List Variable
-inside_step x = named_by x.gens.now (declared_by x.variables.now (outer_variables x.outer))
+inside_step x = named_by x.gens.now (declared_by (own_variables x.variables) (outer_variables x.outer))
 
 -- the innermost first
 abbrev pub all_variables : Inside → List Variable

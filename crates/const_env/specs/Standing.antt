@@ -3,6 +3,9 @@
 use Rattle.std.specs.Prelude.{◌≡◌, ℕ, List, [], ◌∷◌, Option, None, Some, slice_get, String, string_bytes, if◌then◌else◌}
 use Rattle.std.specs.Str.{bytes_eq}
 use Rattle.std.specs.declared.alloc.Global.{Global as Heap}
+use Rattle.cal_model.specs.Kinding.{Known}
+use Rattle.cal_model.specs.View.{kind_view}
+use Rattle.const_env.specs.declared.inside.Variable.{Variable}
 
 -- a name and its place
 abbrev pub Placed : Type 0
@@ -31,3 +34,12 @@ module _ {X Y : Type 0} (view : X → Y) (xs : List X) where
   -- each name's place leads to what is known of it
   abbrev pub LeadEach : List Placed → (known : List ℕ → Option Y) → Type 0
   LeadEach places known = (name : List ℕ) → LeadsTo (place_named name places) (known name)
+
+-- a variable by its name, with what is known of it
+abbrev pub seen_variable : Variable → Known
+seen_variable x = record {
+  name = string_bytes x.name;
+  kind = kind_view x.kind;
+  value = None;
+  changes = x.changes;
+}

@@ -2,9 +2,10 @@
 
 ghost use Rattle.std.specs.Prelude.{◌≡◌, [], map, option_map};
 ghost use Rattle.cal_model.specs.Kinding.{known_as};
-ghost use Rattle.const_env.specs.Counting.{declared_by, inner_variables, known_variable, meant_view, named_by, use_of, variable_view};
+ghost use Rattle.const_env.specs.Counting.{declared_by, inner_variables, known_variable, meant_view, named_by, own_variables, use_of};
 
 use crate::meant::Meant;
+use crate::variables::Variables;
 use cal_ast::Gen;
 use cal_model::Kind;
 
@@ -21,9 +22,26 @@ pub struct Variable {
 /// round them.
 #[derive(Clone, Copy, Drop)]
 pub struct Inside<'a> {
-    pub variables: &'a [Variable],
+    pub variables: Option<&'a Variables>,
     pub gens: &'a [Gen],
     pub outer: Option<&'a Inside<'a>>,
+}
+
+impl<'a> Inside<'a> {
+    ghost use Rattle.const_env.specs.declared.inside.Inside.{out-Inside};
+
+    /// Generators, and what is declared round them.
+    pub fn of_gens(gens: &'a [Gen], outer: Option<&'a Inside<'a>>) -> Inside<'a>
+        ensures variables { own_variables (out-Inside result).variables ≡ [] }
+        ensures gens { (out-Inside result).gens.now ≡ gens.entry.now }
+        ensures outer { inner_variables (out-Inside result).outer ≡ inner_variables outer.entry }
+    {
+        Inside {
+            variables: None,
+            gens,
+            outer,
+        }
+    }
 }
 
 /// What a name means among those that are declared inside: an inner one hides an outer one.
@@ -42,9 +60,13 @@ pub fn meant_inside<'a>(name: &str, inside: Option<&'a Inside<'a>>) -> Option<Me
 }
 
 /// What a name means among variables and the generators inside them.
-fn meant_by<'a>(name: &str, variables: &'a [Variable], gens: &'a [Gen]) -> Option<Meant<'a>>
-    ensures { option_map meant_view result ≡ option_map use_of
-        (known_as name.now (map known_variable (named_by gens.entry.now (declared_by variables.entry.now [])))) }
+fn meant_by<'a>(
+    name: &str,
+    variables: Option<&'a Variables>,
+    gens: &'a [Gen],
+) -> Option<Meant<'a>>
+    ensures { option_map meant_view result ≡ option_map use_of (known_as name.now (map known_variable
+        (named_by gens.entry.now (declared_by (own_variables variables.entry) [])))) }
 {
     if let Some(meant) = counter_in(name, gens) {
         return Some(meant);
@@ -53,21 +75,14 @@ fn meant_by<'a>(name: &str, variables: &'a [Variable], gens: &'a [Gen]) -> Optio
 }
 
 /// The last variable of the name.
-fn variable_in<'a>(name: &str, variables: &'a [Variable]) -> Option<Meant<'a>>
+fn variable_in<'a>(name: &str, variables: Option<&'a Variables>) -> Option<Meant<'a>>
     ensures { option_map meant_view result ≡ option_map use_of
-        (known_as name.now (map known_variable (declared_by variables.entry.now []))) }
+        (known_as name.now (map known_variable (declared_by (own_variables variables.entry) []))) }
 {
-    let mut rest = variables;
-    'backwards: while let Some((last, others)) = rest.split_last() {
-        if last.name.as_str() == name {
-            return Some(Meant {
-                kind: Some(&last.kind),
-                changes: last.changes,
-            });
-        }
-        rest = others;
+    match variables {
+        Some(variables) => variables.meant(name),
+        None => None,
     }
-    None
 }
 
 /// The generator of the name: a number that isn't assigned.

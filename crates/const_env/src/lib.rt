@@ -18,6 +18,7 @@ pub mod ranges;
 mod stop;
 pub mod types;
 pub mod value;
+mod variables;
 
 pub use env::Env;
 pub use fault::KindFault;
@@ -26,3 +27,4 @@ pub use lengths::is_counted;
 pub use meant::Meant;
 pub use names::Names;
 pub use stop::Stop;
+pub use variables::Variables;

@@ -4,7 +4,7 @@ ghost use Rattle.std.specs.Prelude.{◌≡◌, [], map, option_map};
 ghost use Rattle.cal_ast.specs.Tree as tree;
 ghost use Rattle.cal_model.specs.Kinding.{kind, meant_by};
 ghost use Rattle.cal_model.specs.View.{kind_view};
-ghost use Rattle.const_env.specs.Counting.{declared_by, inner_variables, meant_view, named_by, names_inside, names_view, use_of};
+ghost use Rattle.const_env.specs.Counting.{declared_by, inner_variables, meant_view, named_by, names_inside, names_view, own_variables, use_of};
 ghost use Rattle.const_env.specs.Held.{names_in};
 ghost use Rattle.const_env.specs.Judging.{Judges};
 
@@ -45,7 +45,8 @@ impl<'a> Names<'a> {
         requires { inner_variables (out-Inside inside.now).outer ≡ inner_variables self.now.inner }
         ensures { names_view result ≡ names_inside
             (named_by (out-Inside inside.now).gens.now
-            (declared_by (out-Inside inside.now).variables.now (inner_variables self.now.inner)))
+            (declared_by (own_variables (out-Inside inside.now).variables)
+            (inner_variables self.now.inner)))
             self.now.env.now }
     {
         Names {

@@ -217,11 +217,7 @@ fn kind_of_comp(names: &Names, item: &Expr, gens: &[Gen], at: u32) -> Result<Kin
         (kind (tree.comp (expr_tree item.now) (listed (map gen_tree gens.now)) at)
         (names_view names.now)) }
 {
-    let inside = Inside {
-        variables: &[],
-        gens,
-        outer: names.inner,
-    };
+    let inside = Inside::of_gens(gens, names.inner);
     let k = kind(&names.under(&inside), item)?;
     let size = elements_in(names, gens)?;
     list_of_kind(names.alloc, size as usize, k, at)
@@ -236,11 +232,7 @@ fn elements_in(names: &Names, gens: &[Gen]) -> Result<u32, KindFault>
 {
     let mut size: u32 = 1;
     for place in 0..gens.len() {
-        let inside = Inside {
-            variables: &[],
-            gens: &gens[..place],
-            outer: names.inner,
-        };
+        let inside = Inside::of_gens(&gens[..place], names.inner);
         let numbers = numbers_of(&names.under(&inside), &gens[place])?;
         size = product(size, numbers);
     }

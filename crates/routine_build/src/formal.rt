@@ -14,7 +14,7 @@ ghost use Rattle.cal_written.specs.Seeing.{seen_behind};
 
 use cal_ast::{PortDecl, TypeExpr};
 use cal_model::{BoundLocal, Shape, kind_of_type};
-use const_eval::{Inside, KindFault, Names, Variable, type_judged};
+use const_eval::{Inside, KindFault, Names, Variable, Variables, type_judged};
 use rvc_base::{Memory, Rule, Scalar};
 use std::alloc::Global;
 
@@ -23,7 +23,7 @@ use std::alloc::Global;
 pub struct DeclaredFormals {
     pub formals: Vec<BoundLocal>,
     /// The same, as what stands behind them sees them.
-    pub behind: Vec<Variable>,
+    pub behind: Variables,
 }
 
 /// Formals, each of which sees those before it.
@@ -35,29 +35,29 @@ pub struct DeclaredFormals {
 pub fn formals(names: &Names, declared: &[PortDecl]) -> Result<DeclaredFormals, KindFault>
     ensures formals { Judges (λ found. map local_view found.formals.items) result
         (formals_judged (listed (map port_tree declared.now)) (names_view names.now)) }
-    ensures behind { IfOk result (λ found. seen_behind found.behind.items names.now
+    ensures behind { IfOk result (λ found. seen_behind found.behind names.now
         ≡ with_locals (map local_view found.formals.items) (names_view names.now)) }
 {
     let mut formals = Vec::new(names.alloc);
-    let mut behind = Vec::new(names.alloc);
+    let mut behind = Variables::new(names.alloc);
     let mut rest = declared;
     'each: while let Some((first, others)) = rest.split_first() {
         let x = formal_behind(names, &behind, first)?;
         let variable = variable_of(names.alloc, &x)?;
         formals.push(x)?;
-        behind.push(variable)?;
+        behind.add(variable)?;
         rest = others;
     }
     Ok(DeclaredFormals { formals, behind })
 }
 
 /// A formal that stands behind others.
-fn formal_behind(names: &Names, before: &[Variable], f: &PortDecl) -> Result<BoundLocal, KindFault>
+fn formal_behind(names: &Names, before: &Variables, f: &PortDecl) -> Result<BoundLocal, KindFault>
     ensures { Judges local_view result
         (formal_judged (port_tree f.now) (seen_behind before.now names.now)) }
 {
     let inside = Inside {
-        variables: before,
+        variables: Some(before),
         gens: &[],
         outer: names.inner,
     };

@@ -16,7 +16,7 @@ ghost use Rattle.routine_build.specs.Declaring.{IsLocal, is_fine, kind_or_number
 use cal_ast::{Expr, TypeExpr, VarDecl};
 use cal_model::{BoundLocal, Kind, Shape, kind_of_type};
 use cal_written::expr;
-use const_eval::{Inside, KindFault, Names, Variable, type_judged};
+use const_eval::{Inside, KindFault, Names, Variable, Variables, type_judged};
 use rvc_base::{Memory, Scalar};
 use std::alloc::Global;
 
@@ -26,7 +26,7 @@ pub struct DeclaredLocals {
     /// The locals, with their sizes and bounds written out.
     pub locals: Vec<BoundLocal>,
     /// The same, as what stands behind them sees them.
-    pub behind: Vec<Variable>,
+    pub behind: Variables,
     /// Whether the type of none breaks a rule.
     pub typed: bool,
 }
@@ -49,19 +49,19 @@ pub(crate) struct DeclaredLocal {
 pub fn locals(names: &Names, declared: &[VarDecl]) -> Result<DeclaredLocals, Memory>
     ensures locals { IfOk result (λ found. map local_view found.locals.items
         ≡ locals_of (listed (map var_tree declared.now)) (names_view names.now)) }
-    ensures behind { IfOk result (λ found. seen_behind found.behind.items names.now
+    ensures behind { IfOk result (λ found. seen_behind found.behind names.now
         ≡ behind_vars (listed (map var_tree declared.now)) (names_view names.now)) }
     ensures typed { IfOk result (λ found. found.typed
         ≡ is_fine (names_behind (listed (map var_tree declared.now)) (names_view names.now))) }
 {
     let mut locals = Vec::new(names.alloc);
-    let mut behind = Vec::new(names.alloc);
+    let mut behind = Variables::new(names.alloc);
     let mut typed = true;
     let mut rest = declared;
     'each: while let Some((first, others)) = rest.split_first() {
         let found = local_behind(names, &behind, first)?;
         locals.push(found.local)?;
-        behind.push(found.variable)?;
+        behind.add(found.variable)?;
         typed = both(typed, found.typed);
         rest = others;
     }
@@ -80,11 +80,11 @@ fn both(a: bool, b: bool) -> bool
 }
 
 /// A local that stands behind others.
-fn local_behind(names: &Names, before: &[Variable], v: &VarDecl) -> Result<DeclaredLocal, Memory>
+fn local_behind(names: &Names, before: &Variables, v: &VarDecl) -> Result<DeclaredLocal, Memory>
     ensures { IfOk result (λ found. IsLocal found (var_tree v.now) (seen_behind before.now names.now)) }
 {
     let inside = Inside {
-        variables: before,
+        variables: Some(before),
         gens: &[],
         outer: names.inner,
     };

@@ -20,7 +20,7 @@ use crate::local::locals;
 use cal_ast::{Expr, ExprForm, Function, Procedure, Stmt};
 use cal_model::{BoundFun, BoundLocal, BoundProc};
 use cal_written::{expr, stmts};
-use const_eval::{Inside, KindFault, Names, Variable};
+use const_eval::{Inside, KindFault, Names, Variables};
 use rvc_base::Memory;
 use std::alloc::Global;
 
@@ -52,13 +52,13 @@ fn fun_with(
     decl: &Function,
     head: DeclaredFormals,
 ) -> Result<BoundFun, KindFault>
-    requires { seen_behind head.behind.items names.now
+    requires { seen_behind head.behind names.now
         ≡ with_locals (map local_view head.formals.items) (names_view names.now) }
     ensures { Judges fun_view result (fun_behind full.now (function_tree decl.now)
         (map local_view head.formals.items) (names_view names.now)) }
 {
     let inside = Inside {
-        variables: &head.behind,
+        variables: Some(&head.behind),
         gens: &[],
         outer: names.inner,
     };
@@ -108,11 +108,11 @@ fn useless(alloc: Global) -> InsideFun
 }
 
 /// An expression that stands behind variables.
-fn expr_behind(names: &Names, variables: &[Variable], e: &Expr) -> Result<Expr, Memory>
+fn expr_behind(names: &Names, variables: &Variables, e: &Expr) -> Result<Expr, Memory>
     ensures { WritesExpr result (expr_tree e.now) (seen_behind variables.now names.now) }
 {
     let inside = Inside {
-        variables,
+        variables: Some(variables),
         gens: &[],
         outer: names.inner,
     };
@@ -135,13 +135,13 @@ pub fn proc_of(names: &Names, decl: &Procedure) -> Result<BoundProc, KindFault>
 
 /// A procedure with these formals.
 fn proc_with(names: &Names, decl: &Procedure, head: DeclaredFormals) -> Result<BoundProc, Memory>
-    requires { seen_behind head.behind.items names.now
+    requires { seen_behind head.behind names.now
         ≡ with_locals (map local_view head.formals.items) (names_view names.now) }
     ensures { IfOk result (λ p. proc_view p ≡ proc_behind (procedure_tree decl.now)
         (map local_view head.formals.items) (names_view names.now)) }
 {
     let inside = Inside {
-        variables: &head.behind,
+        variables: Some(&head.behind),
         gens: &[],
         outer: names.inner,
     };
@@ -158,12 +158,12 @@ fn proc_with(names: &Names, decl: &Procedure, head: DeclaredFormals) -> Result<B
 }
 
 /// Statements that stand behind variables.
-fn stmts_behind(names: &Names, variables: &[Variable], body: &[Stmt]) -> Result<Vec<Stmt>, Memory>
+fn stmts_behind(names: &Names, variables: &Variables, body: &[Stmt]) -> Result<Vec<Stmt>, Memory>
     ensures { WritesStmts result (listed (map stmt_tree body.now))
         (seen_behind variables.now names.now) }
 {
     let inside = Inside {
-        variables,
+        variables: Some(variables),
         gens: &[],
         outer: names.inner,
     };

@@ -39,7 +39,7 @@ head_view h = record { formals = formals_view h.formals; result = h.result }
 
 -- the names of formals are what stands behind them sees
 abbrev pub AreSeen : FoundFormals → DeclaredNames → Type 0
-AreSeen f names = seen_behind f.seen.items names ≡ with_locals (formals_view f) (names_view names)
+AreSeen f names = seen_behind f.seen names ≡ with_locals (formals_view f) (names_view names)
 
 -- an expression whose value is stored in a type
 abbrev pub value_broken : Scalar → Tree → Names → List Violation

@@ -14,7 +14,7 @@ ghost use Rattle.routine_check.specs.Heads.{AreSeen, formals_view, ports_tree};
 use crate::single::single_type;
 use cal_ast::PortDecl;
 use cal_model::{BoundLocal, Shape, kind_of_type};
-use const_eval::{Inside, KindFault, Names, Variable};
+use const_eval::{Inside, KindFault, Names, Variable, Variables};
 use rvc_base::Memory;
 use std::alloc::Global;
 
@@ -22,7 +22,7 @@ use std::alloc::Global;
 #[derive(Debug, Drop)]
 pub struct FoundFormals {
     pub locals: Vec<BoundLocal>,
-    pub seen: Vec<Variable>,
+    pub seen: Variables,
 }
 
 /// Formals, the type of each of which sees those before it.
@@ -36,11 +36,11 @@ pub fn formals(names: &Names, formals: &[PortDecl]) -> Result<FoundFormals, Kind
     ensures seen { IfOk result (λ found. AreSeen found names.now) }
 {
     let mut locals = Vec::new(names.alloc);
-    let mut seen = Vec::new(names.alloc);
+    let mut seen = Variables::new(names.alloc);
     let mut rest = formals;
     'formals: while let Some((first, others)) = rest.split_first() {
         let local = formal_behind(names, &seen, first)?;
-        seen.push(name_of(names.alloc, &local)?)?;
+        seen.add(name_of(names.alloc, &local)?)?;
         locals.push(local)?;
         rest = others;
     }
@@ -48,12 +48,12 @@ pub fn formals(names: &Names, formals: &[PortDecl]) -> Result<FoundFormals, Kind
 }
 
 /// A formal that stands behind others.
-fn formal_behind(names: &Names, before: &[Variable], f: &PortDecl) -> Result<BoundLocal, KindFault>
+fn formal_behind(names: &Names, before: &Variables, f: &PortDecl) -> Result<BoundLocal, KindFault>
     ensures { Judges local_view result
         (formal_judged (port_tree f.now) (seen_behind before.now names.now)) }
 {
     let inside = Inside {
-        variables: before,
+        variables: Some(before),
         gens: &[],
         outer: names.inner,
     };

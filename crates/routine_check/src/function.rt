@@ -17,7 +17,7 @@ use crate::formal::{FoundFormals, formals};
 use crate::single::single_type;
 use cal_ast::{Expr, Function, TypeExpr, VarDecl};
 use cal_model::Kind;
-use const_eval::{Inside, KindFault, Names, Variable};
+use const_eval::{Inside, KindFault, Names, Variables};
 use rvc_base::Scalar;
 use stmt_check::{check_stored, check_vars};
 
@@ -44,12 +44,12 @@ pub fn head(names: &Names, f: &Function) -> Result<FunHead, KindFault>
 }
 
 /// The type of a single value that stands behind variables.
-fn single_behind(names: &Names, before: &[Variable], shape: &TypeExpr) -> Result<Scalar, KindFault>
+fn single_behind(names: &Names, before: &Variables, shape: &TypeExpr) -> Result<Scalar, KindFault>
     ensures { Judges (λ t. t) result
         (single_type (type_tree shape.now) (seen_behind before.now names.now)) }
 {
     let inside = Inside {
-        variables: before,
+        variables: Some(before),
         gens: &[],
         outer: names.inner,
     };
@@ -81,7 +81,7 @@ fn inside(names: &Names, head: &FunHead, f: &Function, passes: bool) -> Result<(
         (fun_inside (function_tree f.now) (names_view names.now) (head_view head.now))) }
 {
     let inside = Inside {
-        variables: &head.formals.seen,
+        variables: Some(&head.formals.seen),
         gens: &[],
         outer: names.inner,
     };
@@ -109,7 +109,7 @@ fn body(
 /// An expression behind variables whose value is stored in a type.
 fn value_behind(
     names: &Names,
-    variables: &[Variable],
+    variables: &Variables,
     t: Scalar,
     e: &Expr,
     passes: bool,
@@ -118,7 +118,7 @@ fn value_behind(
         (value_broken t (expr_tree e.now) (seen_behind variables.now names.now))) }
 {
     let inside = Inside {
-        variables,
+        variables: Some(variables),
         gens: &[],
         outer: names.inner,
     };

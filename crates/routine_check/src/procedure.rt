@@ -52,7 +52,7 @@ fn inside(
         (map proc_view procs.now) (names_view names.now) (formals_view formals.now))) }
 {
     let inside = Inside {
-        variables: &formals.seen,
+        variables: Some(&formals.seen),
         gens: &[],
         outer: names.inner,
     };

@@ -1,5 +1,5 @@
 -- Parts in order: one part more, and where a loop has come to.
-use Rattle.std.proofs.Common.{◌≡◌, ℕ, Bool, Ok, Err, Some, None, List, [], ◌∷◌, ◌++◌, map, Vec, Global, refl, sym, ap, subst, ◌∙◌, append-nil}
+use Rattle.std.proofs.Common.{◌≡◌, ℕ, Bool, Ok, Err, Some, None, List, [], ◌∷◌, ◌++◌, map, refl, sym, ap, subst, ◌∙◌, append-nil}
 use Rattle.cal_ast.specs.Tree.{listed}
 use Rattle.cal_ast.specs.View.{expr_tree, var_tree}
 use Rattle.cal_ast.specs.declared.expr.Expr.{Expr}
@@ -57,10 +57,10 @@ vars_next passes rest others all v x xs news names outer is new fine before =
     )
 
 -- none is left
-pub vars_all : (passes : Bool) (xs : Vec Variable Global) (rest all : List VarDecl) (names : DeclaredNames) (outer : Names) → rest ≡ []
-    → AreBehind passes rest (seen_behind xs.items names) all outer → DeclaresAllSaid passes (Ok (Some xs)) all names outer
+pub vars_all : (passes : Bool) (xs : List Variable) (rest all : List VarDecl) (names : DeclaredNames) (outer : Names) → rest ≡ []
+    → AreBehind passes rest (seen_behind xs names) all outer → DeclaresAllSaid passes (Ok (Some xs)) all names outer
 vars_all passes xs rest all names outer e before =
-    let here = seen_behind xs.items names in (
+    let here = seen_behind xs names in (
       sym before.0 ∙ ap (λ vs. said passes (starts_broken (listed (map var_tree vs)) here)) e ∙ said_none passes,
       sym before.1 ∙ ap (λ vs. names_behind (listed (map var_tree vs)) here) e,
     )

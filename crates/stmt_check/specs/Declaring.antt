@@ -1,7 +1,6 @@
 -- Variables that are declared inside, as calls that judge them answer.
 -- Trusted: part of what a promise means.
-use Rattle.std.specs.Prelude.{◌≡◌, ℕ, Bool, true, List, [], ◌++◌, map, Option, Some, None, Vec}
-use Rattle.std.specs.declared.alloc.Global.{Global}
+use Rattle.std.specs.Prelude.{◌≡◌, ℕ, Bool, true, List, [], ◌++◌, map, Option, Some, None}
 use Rattle.std.specs.declared.result.Result.{Result}
 use Rattle.std.specs.declared.result.Result.TheVariants.{Ok, Err}
 use Rattle.cal_ast.specs.Tree as tree
@@ -66,11 +65,11 @@ seen_behind xs names = names_inside (declared_by xs (inner_variables names.inner
 
 -- All variables, or what a type or a start of one breaks. If what isn't constant is passed over, and the type of one
 -- isn't, there are none.
-abbrev pub DeclaresAllSaid : Bool → Result (Option (Vec Variable Global)) KindFault → List VarDecl
+abbrev pub DeclaresAllSaid : Bool → Result (Option (List Variable)) KindFault → List VarDecl
     → DeclaredNames → Names → Type 0
 DeclaresAllSaid passes (Ok (Some xs)) vs names outer =
     (said passes (starts_broken (listed (map var_tree vs)) outer) ≡ [])
-    × (names_behind (listed (map var_tree vs)) outer ≡ Fine (seen_behind xs.items names))
+    × (names_behind (listed (map var_tree vs)) outer ≡ Fine (seen_behind xs names))
 DeclaresAllSaid passes (Ok None) vs names outer =
     (said passes (starts_broken (listed (map var_tree vs)) outer) ≡ [])
     × IsPassed passes (names_behind (listed (map var_tree vs)) outer)
@@ -79,10 +78,10 @@ DeclaresAllSaid passes (Err f) vs names outer =
     ++ broken (names_behind (listed (map var_tree vs)) outer)))
 
 -- all variables, or what a type or a start of one breaks
-abbrev pub DeclaresAll : Result (Vec Variable Global) KindFault → List VarDecl → DeclaredNames → Names → Type 0
+abbrev pub DeclaresAll : Result (List Variable) KindFault → List VarDecl → DeclaredNames → Names → Type 0
 DeclaresAll (Ok xs) vs names outer =
     (starts_broken (listed (map var_tree vs)) outer ≡ [])
-    × (names_behind (listed (map var_tree vs)) outer ≡ Fine (seen_behind xs.items names))
+    × (names_behind (listed (map var_tree vs)) outer ≡ Fine (seen_behind xs names))
 DeclaresAll (Err f) vs names outer =
     Refuses f (starts_broken (listed (map var_tree vs)) outer
     ++ broken (names_behind (listed (map var_tree vs)) outer))

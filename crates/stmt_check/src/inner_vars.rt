@@ -13,14 +13,14 @@ ghost use Rattle.stmt_check.specs.Judging.{Checks};
 use crate::part::{check_stored, is_passed};
 use cal_ast::{Expr, TypeExpr, VarDecl};
 use cal_model::{Kind, Shape, kind_of_type};
-use const_eval::{Inside, KindFault, Names, Variable, type_judged};
+use const_eval::{Inside, KindFault, Names, Variable, Variables, type_judged};
 
 /// Variables, each of which sees those before it, as names for what stands behind them.
 ///
 /// # Errors
 ///
 /// `Broken` if a type or a start breaks a rule: one of those that are broken, and its place. `Memory` if memory runs out.
-pub fn vars(names: &Names, vars: &[VarDecl]) -> Result<Vec<Variable>, KindFault>
+pub fn vars(names: &Names, vars: &[VarDecl]) -> Result<Variables, KindFault>
     ensures { DeclaresAll result vars.now names.now (names_view names.now) }
 {
     match check_vars(names, vars, false)? {
@@ -39,16 +39,16 @@ pub fn check_vars(
     names: &Names,
     vars: &[VarDecl],
     passes: bool,
-) -> Result<Option<Vec<Variable>>, KindFault>
+) -> Result<Option<Variables>, KindFault>
     ensures { DeclaresAllSaid passes result vars.now names.now (names_view names.now) }
 {
-    let mut found = Vec::new(names.alloc);
+    let mut found = Variables::new(names.alloc);
     let mut rest = vars;
     'vars: while let Some((first, others)) = rest.split_first() {
         let Some(variable) = var_behind(names, &found, first, passes)? else {
             return Ok(None);
         };
-        found.push(variable)?;
+        found.add(variable)?;
         rest = others;
     }
     Ok(Some(found))
@@ -57,14 +57,14 @@ pub fn check_vars(
 /// A variable that stands behind others.
 fn var_behind(
     names: &Names,
-    before: &[Variable],
+    before: &Variables,
     v: &VarDecl,
     passes: bool,
 ) -> Result<Option<Variable>, KindFault>
     ensures { DeclaresSaid passes result (var_tree v.now) (seen_behind before.now names.now) }
 {
     let inside = Inside {
-        variables: before,
+        variables: Some(before),
         gens: &[],
         outer: names.inner,
     };

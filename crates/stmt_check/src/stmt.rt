@@ -19,8 +19,8 @@ use crate::inner_vars::check_vars;
 use crate::part::{counter, number, test};
 use crate::proc_call::call;
 use cal_ast::{Expr, Ident, Stmt, StmtForm, TypeExpr, VarDecl};
-use cal_model::{BoundProc, Kind};
-use const_eval::{Inside, KindFault, Names, Variable};
+use cal_model::BoundProc;
+use const_eval::{Inside, KindFault, Names, Variables};
 
 /// A statement.
 #[cycle(stmt)]
@@ -161,12 +161,8 @@ fn foreach_stmt(
         (with_known (counter (string_bytes name.now.text)) (names_view names.now))))) }
 {
     range(names, shape, from, to, passes)?;
-    let variable = Variable {
-        name: name.text.clone()?,
-        kind: Kind::Num,
-        changes: false,
-    };
-    behind(names, procs, &[variable], body, passes)
+    let variables = Variables::of_counter(names.alloc, name.text.as_str())?;
+    behind(names, procs, &variables, body, passes)
 }
 
 /// Statements that stand behind variables.
@@ -174,7 +170,7 @@ fn foreach_stmt(
 fn behind(
     names: &Names,
     procs: &[BoundProc],
-    variables: &[Variable],
+    variables: &Variables,
     body: &[Stmt],
     passes: bool,
 ) -> Result<(), KindFault>
@@ -182,7 +178,7 @@ fn behind(
         (map proc_view procs.now) (seen_behind variables.now names.now))) }
 {
     let inside = Inside {
-        variables,
+        variables: Some(variables),
         gens: &[],
         outer: names.inner,
     };

@@ -6,8 +6,8 @@ use Rattle.action_check.proofs.behind.add_names.Given as goal
 
 abbrev pub invariant-names : goal.invariant-names
 invariant-names l =
-    (n : DeclaredNames) → with_pattern (kind_of_tokens l.t l.repeat) (map string_bytes l.rest) (seen_behind l.seen.items n)
-    ≡ with_pattern (kind_of_tokens l.t l.repeat) (map string_bytes l.initial.rest) (seen_behind l.initial.seen.items n)
+    (n : DeclaredNames) → with_pattern (kind_of_tokens l.t l.repeat) (map string_bytes l.rest) (seen_behind l.seen n)
+    ≡ with_pattern (kind_of_tokens l.t l.repeat) (map string_bytes l.initial.rest) (seen_behind l.initial.seen n)
 
 abbrev pub decreases-names : goal.decreases-names
 decreases-names l = length l.rest

@@ -8,7 +8,7 @@ use Rattle.action_check.proofs.behind.pattern_names.Given as goal
 
 abbrev pub invariant-patterns : goal.invariant-patterns
 invariant-patterns l =
-    with_all_patterns (port_views l.ins) (map pattern_view l.rest) (seen_behind l.seen.items l.names)
+    with_all_patterns (port_views l.ins) (map pattern_view l.rest) (seen_behind l.seen l.names)
     ≡ with_all_patterns (port_views l.ins) (map pattern_view l.initial.rest) (names_view l.names)
 
 abbrev pub decreases-patterns : goal.decreases-patterns

@@ -1,9 +1,12 @@
-use Rattle.std.proofs.Common.{map, refl, ap, arith}
+use Rattle.std.proofs.Common.{◌≡◌, map, string_bytes, refl, ap, subst, ◌∙◌, arith, rules}
 use Rattle.cal_ast.specs.Tree.{listed}
 use Rattle.cal_ast.specs.View.{stmt_tree}
 use Rattle.cal_check.proofs.Lists.{none-left}
 use Rattle.cal_check.specs.Written.{statement_written}
-use Rattle.const_env.specs.Counting.{names_view}
+use Rattle.cal_model.specs.Kinding.{counter, with_known}
+use Rattle.const_env.specs.Counting.{inner_variables, names_inside, names_view}
+use Rattle.cal_written.specs.Seeing.{seen_behind}
+use Rattle.cal_written.specs.Writing.{WritesStmts}
 use Rattle.cal_written.proofs.Onto.{onto_done, onto_each}
 use Rattle.cal_written.proofs.Sizes.{size}
 use Rattle.cal_written.proofs.statement.+stmt.Goals as goal
@@ -19,3 +22,11 @@ pub stmts-returns : goal.stmts-returns
 stmts-returns t c =
     onto_done stmt_tree (λ s. statement_written s (names_view c.args.names.now)) c.each.found.items c.each.rest.now (statement_written (listed (map stmt_tree c.args.body.now)) (names_view c.args.names.now))
     refl (none-left c.each.rest.now c.in_default.ensures.cases) c.each.invariant.0
+
+pub loop_body-returns : goal.loop_body-returns
+loop_body-returns t c =
+    let names = names_view c.args.names.now in
+    let name : c.as_str.result.now ≡ string_bytes c.args.name.now.text = search rules in
+    let seen : seen_behind c.in_ok-variables.variables c.args.names.now ≡ with_known (counter (string_bytes c.args.name.now.text)) names =
+    ap (λ xs. names_inside xs c.args.names.now.env.now) (c.in_ok-variables.ensures (inner_variables c.args.names.now.inner)) ∙ ap (λ n. with_known (counter n) names) name in
+    subst (λ ns. WritesStmts c.stmts_behind.result (listed (map stmt_tree c.args.body.now)) ns) seen c.stmts_behind.ensures

@@ -5,7 +5,7 @@ use Rattle.cal_written.proofs.VarSteps.{AreWrittenUpTo}
 use Rattle.cal_written.proofs.var_decl.vars.Given as goal
 
 abbrev pub invariant-each : goal.invariant-each
-invariant-each l = AreWrittenUpTo l.vars.items l.rest (seen_behind l.behind.items l.names) l.initial.rest (names_view l.names)
+invariant-each l = AreWrittenUpTo l.vars.items l.rest (seen_behind l.behind l.names) l.initial.rest (names_view l.names)
 
 abbrev pub decreases-each : goal.decreases-each
 decreases-each l = length l.rest

@@ -15,23 +15,21 @@ use Rattle.routine_build.proofs.formal.formals.Goals as goal
 
 pub each-preserved : goal.each-preserved
 each-preserved c =
-    let found : c.deref.result.now ≡ c.each.behind.items = search rules in
-    formals_next c.each.rest.now c.in-Some.others.now c.args.declared.now c.each.formals.items c.push.new.self.items c.in-Some.first.now c.in_ok-x.x c.in_ok-variable.variable c.each.behind.items c.push-in-Some.new.self.items c.args.names.now (names_view c.args.names.now)
-    c.in-Some.ensures.cases.0 c.in_ok-push.ensures.items c.in_ok-push-2.ensures.items
-    (subst (λ xs. formal_judged (port_tree c.in-Some.first.now) (seen_behind xs c.args.names.now) ≡ Fine (local_view c.in_ok-x.x)) found c.in_ok-x.ensures) c.in_ok-variable.ensures c.each.invariant
+    formals_next c.each.rest.now c.in-Some.others.now c.args.declared.now c.each.formals.items c.push.new.self.items c.in-Some.first.now c.in_ok-x.x c.in_ok-variable.variable c.each.behind c.add.new.self c.args.names.now (names_view c.args.names.now)
+    c.in-Some.ensures.cases.0 c.in_ok-push.ensures.items c.in_ok-add.ensures.added
+    c.in_ok-x.ensures c.in_ok-variable.ensures c.each.invariant
 
 pub returns-in_err-x : goal.returns-in_err-x
 returns-in_err-x c =
     let f = c.in_err-x.field-0.0 in
-    let found : c.deref.result.now ≡ c.each.behind.items = search rules in
     let same : c.from_residual.result ≡ Err f = search rules in
     record {
       formals = subst (λ r. Judges (λ x. map local_view x.formals.items) r (formals_judged (listed (map port_tree c.args.declared.now)) (names_view c.args.names.now))) (sym same)
-          (formals_break c.each.rest.now c.in-Some.others.now c.args.declared.now c.each.formals.items c.in-Some.first.now f (seen_behind c.each.behind.items c.args.names.now) (names_view c.args.names.now) c.in-Some.ensures.cases.0
-          (subst (λ xs. Breaks f (formal_judged (port_tree c.in-Some.first.now) (seen_behind xs c.args.names.now))) found c.in_err-x.ensures) c.each.invariant);
-      behind = subst (λ r. IfOk r (λ x. seen_behind x.behind.items c.args.names.now ≡ with_locals (map local_view x.formals.items) (names_view c.args.names.now))) (sym same) tt;
+          (formals_break c.each.rest.now c.in-Some.others.now c.args.declared.now c.each.formals.items c.in-Some.first.now f (seen_behind c.each.behind c.args.names.now) (names_view c.args.names.now) c.in-Some.ensures.cases.0
+          c.in_err-x.ensures c.each.invariant);
+      behind = subst (λ r. IfOk r (λ x. seen_behind x.behind c.args.names.now ≡ with_locals (map local_view x.formals.items) (names_view c.args.names.now))) (sym same) tt;
     }
 
 pub returns-clause-formals : goal.returns-clause-formals
 returns-clause-formals c =
-    formals_done c.each.rest.now c.args.declared.now c.each.formals.items (seen_behind c.each.behind.items c.args.names.now) (names_view c.args.names.now) (none-left c.each.rest.now c.in_default.ensures.cases) c.each.invariant
+    formals_done c.each.rest.now c.args.declared.now c.each.formals.items (seen_behind c.each.behind c.args.names.now) (names_view c.args.names.now) (none-left c.each.rest.now c.in_default.ensures.cases) c.each.invariant

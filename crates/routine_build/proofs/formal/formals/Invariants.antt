@@ -5,7 +5,7 @@ use Rattle.routine_build.proofs.FormalSteps.{AreFormalsUpTo}
 use Rattle.routine_build.proofs.formal.formals.Given as goal
 
 abbrev pub invariant-each : goal.invariant-each
-invariant-each l = AreFormalsUpTo l.formals.items l.rest (seen_behind l.behind.items l.names) l.initial.rest (names_view l.names)
+invariant-each l = AreFormalsUpTo l.formals.items l.rest (seen_behind l.behind l.names) l.initial.rest (names_view l.names)
 
 abbrev pub decreases-each : goal.decreases-each
 decreases-each l = length l.rest

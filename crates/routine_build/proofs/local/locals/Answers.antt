@@ -9,19 +9,18 @@ use Rattle.routine_build.proofs.local.locals.Goals as goal
 
 pub each-preserved : goal.each-preserved
 each-preserved c =
-    let found : c.deref.result.now ≡ c.each.behind.items = search rules in
-    locals_next c.each.rest.now c.in-Some.others.now c.args.declared.now c.each.locals.items c.push.new.self.items c.in-Some.first.now c.in_ok-found.found c.each.behind.items c.push-in-Some.new.self.items c.each.typed c.both-typed.result c.args.names.now (names_view c.args.names.now)
-    c.in-Some.ensures.cases.0 c.in_ok-push.ensures.items c.in_ok-push-2.ensures.items c.both-typed.ensures
-    (subst (λ xs. IsLocal c.in_ok-found.found (var_tree c.in-Some.first.now) (seen_behind xs c.args.names.now)) found c.in_ok-found.ensures) c.each.invariant
+    locals_next c.each.rest.now c.in-Some.others.now c.args.declared.now c.each.locals.items c.push.new.self.items c.in-Some.first.now c.in_ok-found.found c.each.behind c.add.new.self c.each.typed c.both-typed.result c.args.names.now (names_view c.args.names.now)
+    c.in-Some.ensures.cases.0 c.in_ok-push.ensures.items c.in_ok-add.ensures.added c.both-typed.ensures
+    c.in_ok-found.ensures c.each.invariant
 
 pub returns-clause-locals : goal.returns-clause-locals
 returns-clause-locals c =
-    (locals_done c.each.locals.items c.each.typed c.each.rest.now c.args.declared.now (seen_behind c.each.behind.items c.args.names.now) (names_view c.args.names.now) (none-left c.each.rest.now c.in_default.ensures.cases) c.each.invariant).0
+    (locals_done c.each.locals.items c.each.typed c.each.rest.now c.args.declared.now (seen_behind c.each.behind c.args.names.now) (names_view c.args.names.now) (none-left c.each.rest.now c.in_default.ensures.cases) c.each.invariant).0
 
 pub returns-clause-behind : goal.returns-clause-behind
 returns-clause-behind c =
-    (locals_done c.each.locals.items c.each.typed c.each.rest.now c.args.declared.now (seen_behind c.each.behind.items c.args.names.now) (names_view c.args.names.now) (none-left c.each.rest.now c.in_default.ensures.cases) c.each.invariant).1
+    (locals_done c.each.locals.items c.each.typed c.each.rest.now c.args.declared.now (seen_behind c.each.behind c.args.names.now) (names_view c.args.names.now) (none-left c.each.rest.now c.in_default.ensures.cases) c.each.invariant).1
 
 pub returns-clause-typed : goal.returns-clause-typed
 returns-clause-typed c =
-    (locals_done c.each.locals.items c.each.typed c.each.rest.now c.args.declared.now (seen_behind c.each.behind.items c.args.names.now) (names_view c.args.names.now) (none-left c.each.rest.now c.in_default.ensures.cases) c.each.invariant).2
+    (locals_done c.each.locals.items c.each.typed c.each.rest.now c.args.declared.now (seen_behind c.each.behind c.args.names.now) (names_view c.args.names.now) (none-left c.each.rest.now c.in_default.ensures.cases) c.each.invariant).2

@@ -5,7 +5,7 @@ use Rattle.routine_build.proofs.LocalSteps.{AreLocalsUpTo}
 use Rattle.routine_build.proofs.local.locals.Given as goal
 
 abbrev pub invariant-each : goal.invariant-each
-invariant-each l = AreLocalsUpTo l.locals.items l.typed l.rest (seen_behind l.behind.items l.names) l.initial.rest (names_view l.names)
+invariant-each l = AreLocalsUpTo l.locals.items l.typed l.rest (seen_behind l.behind l.names) l.initial.rest (names_view l.names)
 
 abbrev pub decreases-each : goal.decreases-each
 decreases-each l = length l.rest

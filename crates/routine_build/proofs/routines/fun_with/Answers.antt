@@ -12,7 +12,7 @@ use Rattle.routine_build.proofs.routines.fun_with.Goals as goal
 pub returns : goal.returns
 returns c =
     let fs = map local_view c.args.head.formals.items in
-    let here : names_view c.under-here.result ≡ seen_behind c.args.head.behind.items c.args.names.now = search (rules, chain.the_lemmas) in
+    let here : names_view c.under-here.result ≡ seen_behind c.args.head.behind c.args.names.now = search (rules, chain.the_lemmas) in
     let text : string_bytes c.in_ok-name.name ≡ c.args.full.now = search rules in
     fun_done c.args.full.now (string_bytes c.in_ok-name.name) c.args.decl.now fs (map local_view c.in_ok-found.found.locals.items) c.in_ok-result.result (expr_tree c.in_ok-found.found.body) (names_view c.args.names.now) (names_view c.under-here.result)
     text (here ∙ c.requires) c.in_ok-result.ensures c.in_ok-found.ensures.locals c.in_ok-found.ensures.body
@@ -21,7 +21,7 @@ pub returns-in_err-result : goal.returns-in_err-result
 returns-in_err-result c =
     let f = c.in_err-result.field-0.0 in
     let fs = map local_view c.args.head.formals.items in
-    let here : names_view c.under-here.result ≡ seen_behind c.args.head.behind.items c.args.names.now = search (rules, chain.the_lemmas) in
+    let here : names_view c.under-here.result ≡ seen_behind c.args.head.behind c.args.names.now = search (rules, chain.the_lemmas) in
     let same : c.from_residual.result ≡ Err f = search rules in
     subst (λ r. Judges fun_view r (fun_behind c.args.full.now (function_tree c.args.decl.now) fs (names_view c.args.names.now))) (sym same)
     (fun_breaks f c.args.full.now c.args.decl.now fs (names_view c.args.names.now) (names_view c.under-here.result) (here ∙ c.requires) c.in_err-result.ensures)

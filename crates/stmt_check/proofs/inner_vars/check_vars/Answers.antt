@@ -7,21 +7,18 @@ use Rattle.stmt_check.proofs.inner_vars.check_vars.Goals as goal
 
 pub vars-preserved : goal.vars-preserved
 vars-preserved c =
-    let found : c.deref.result.now ≡ c.vars.found.items = search rules in
     let variable : c.var_behind.result ≡ Ok (Some c.in-Some-2.variable) = search rules in
-    vars_next c.args.passes c.vars.rest.now c.in-Some.others.now c.args.vars.now c.in-Some.first.now c.in-Some-2.variable c.vars.found.items c.push.new.self.items c.args.names.now (names_view c.args.names.now)
-    c.in-Some.ensures.cases.0 c.in_ok-push.ensures.items
-    (subst (λ xs. DeclaresSaid c.args.passes (Ok (Some c.in-Some-2.variable)) (var_tree c.in-Some.first.now) (seen_behind xs c.args.names.now)) found (subst (λ r. DeclaresSaid c.args.passes r (var_tree c.in-Some.first.now) (seen_behind c.deref.result.now c.args.names.now)) variable c.var_behind.ensures)) c.vars.invariant
+    vars_next c.args.passes c.vars.rest.now c.in-Some.others.now c.args.vars.now c.in-Some.first.now c.in-Some-2.variable c.vars.found c.add.new.self c.args.names.now (names_view c.args.names.now)
+    c.in-Some.ensures.cases.0 c.in_ok-add.ensures.added
+    (subst (λ r. DeclaresSaid c.args.passes r (var_tree c.in-Some.first.now) (seen_behind c.vars.found c.args.names.now)) variable c.var_behind.ensures) c.vars.invariant
 
 pub returns-in_err-variable : goal.returns-in_err-variable
 returns-in_err-variable c =
     let f = c.in_err-variable.field-0.0 in
     let names = names_view c.args.names.now in
-    let found : c.deref.result.now ≡ c.vars.found.items = search rules in
     let same : c.from_residual.result ≡ Err f = search rules in
     let refused : c.var_behind.result ≡ Err f = search rules in
     subst (λ r. DeclaresAllSaid c.args.passes r c.args.vars.now c.args.names.now names) (sym same)
-    (vars_refused f c.args.passes c.vars.rest.now c.in-Some.others.now c.args.vars.now c.in-Some.first.now (seen_behind c.vars.found.items c.args.names.now) c.args.names.now names
+    (vars_refused f c.args.passes c.vars.rest.now c.in-Some.others.now c.args.vars.now c.in-Some.first.now (seen_behind c.vars.found c.args.names.now) c.args.names.now names
     c.in-Some.ensures.cases.0
-    (subst (λ xs. DeclaresSaid c.args.passes (Err f) (var_tree c.in-Some.first.now) (seen_behind xs c.args.names.now)) found
-    (subst (λ r. DeclaresSaid c.args.passes r (var_tree c.in-Some.first.now) (seen_behind c.deref.result.now c.args.names.now)) refused c.var_behind.ensures)) c.vars.invariant)
+    (subst (λ r. DeclaresSaid c.args.passes r (var_tree c.in-Some.first.now) (seen_behind c.vars.found c.args.names.now)) refused c.var_behind.ensures) c.vars.invariant)

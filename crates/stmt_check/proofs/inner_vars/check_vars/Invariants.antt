@@ -5,7 +5,7 @@ use Rattle.stmt_check.proofs.Walks.{AreBehind}
 use Rattle.stmt_check.proofs.inner_vars.check_vars.Given as goal
 
 abbrev pub invariant-vars : goal.invariant-vars
-invariant-vars l = AreBehind l.passes l.rest (seen_behind l.found.items l.names) l.initial.rest (names_view l.names)
+invariant-vars l = AreBehind l.passes l.rest (seen_behind l.found l.names) l.initial.rest (names_view l.names)
 
 abbrev pub decreases-vars : goal.decreases-vars
 decreases-vars l = length l.rest

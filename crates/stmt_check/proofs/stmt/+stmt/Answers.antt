@@ -1,15 +1,14 @@
-use Rattle.std.proofs.Common.{◌≡◌, List, ◌++◌, Err, None, false, map, string_bytes, sym, subst, rules}
+use Rattle.std.proofs.Common.{◌≡◌, List, ◌++◌, Err, map, string_bytes, sym, ap, subst, ◌∙◌, rules}
 use Rattle.cal_ast.specs.Tree.{listed}
 use Rattle.cal_ast.specs.View.{expr_tree, stmt_tree, type_tree, var_tree}
 use Rattle.cal_model.specs.Kinding.{Names, counter, with_known}
 use Rattle.cal_model.specs.Value.{NumKind}
-use Rattle.cal_model.specs.View.{kind_view, proc_view}
-use Rattle.cal_model.specs.declared.kind.Kind as kinds
-use Rattle.const_env.specs.Counting.{names_view}
+use Rattle.cal_model.specs.View.{proc_view}
+use Rattle.const_env.specs.Counting.{inner_variables, names_inside, names_view}
 use Rattle.cal_check.specs.Constants.{stored_kind}
 use Rattle.cal_check.specs.Statements.{counter_judged, names_behind, starts_broken, statement_broken}
 use Rattle.cal_check.specs.Violations.{Violation, broken, if_fine, said}
-use Rattle.stmt_check.specs.Declaring.{range_broken}
+use Rattle.stmt_check.specs.Declaring.{range_broken, seen_behind}
 use Rattle.stmt_check.specs.Judging.{Checks, Refuses}
 use Rattle.stmt_check.proofs.Said.{checks_three_said, refuses_if_fine_said, refuses_three_said}
 use Rattle.stmt_check.proofs.stmt.+stmt.Goals as goal
@@ -25,12 +24,12 @@ foreach_stmt-returns-in_err-range t c =
 pub foreach_stmt-returns : goal.foreach_stmt-returns
 foreach_stmt-returns t c =
     let names = names_view c.args.names.now in
-    let number : kind_view kinds.Num ≡ NumKind = search (rules, kinds.the_lemmas) in
-    let same : string_bytes c.in_ok-clone.field-0 ≡ string_bytes c.args.name.now.text = search rules in
+    let name : c.as_str.result.now ≡ string_bytes c.args.name.now.text = search rules in
+    let seen : seen_behind c.in_ok-variables.variables c.args.names.now ≡ with_known (counter (string_bytes c.args.name.now.text)) names =
+    ap (λ xs. names_inside xs c.args.names.now.env.now) (c.in_ok-variables.ensures (inner_variables c.args.names.now.inner)) ∙ ap (λ n. with_known (counter n) names) name in
     checks_three_said c.behind.result c.args.passes (broken (counter_judged (type_tree c.args.shape.now) names)) (broken (stored_kind NumKind (expr_tree c.args.from.now) names)) (broken (stored_kind NumKind (expr_tree c.args.to.now) names))
     (statement_broken (listed (map stmt_tree c.args.body.now)) (map proc_view c.args.procs.now) (with_known (counter (string_bytes c.args.name.now.text)) names)) c.in_ok-range.ensures
-    (subst (λ n. Checks c.behind.result (said c.args.passes (statement_broken (listed (map stmt_tree c.args.body.now)) (map proc_view c.args.procs.now) (with_known (counter n) names)))) same
-    (subst (λ k. Checks c.behind.result (said c.args.passes (statement_broken (listed (map stmt_tree c.args.body.now)) (map proc_view c.args.procs.now) (with_known (record { name = string_bytes c.in_ok-clone.field-0; kind = k; value = None; changes = false }) names)))) number c.behind.ensures))
+    (subst (λ ns. Checks c.behind.result (said c.args.passes (statement_broken (listed (map stmt_tree c.args.body.now)) (map proc_view c.args.procs.now) ns))) seen c.behind.ensures)
 
 pub block-returns-in_err-variables : goal.block-returns-in_err-variables
 block-returns-in_err-variables t c =
