@@ -4,16 +4,19 @@ ghost use Rattle.std.specs.Prelude.{◌≡◌, ℕ, map, pos};
 ghost use Rattle.rvc_base.specs.Arithmetic.{whole};
 ghost use Rattle.cal_model.specs.Env.{item_at};
 ghost use Rattle.cal_model.specs.Expression.{applied, computed, indexed, of_numbers, of_truths, prefixed};
-ghost use Rattle.cal_model.specs.View.{in_order, value_view};
+ghost use Rattle.cal_model.specs.Value.{Items};
+ghost use Rattle.cal_model.specs.View.{in_order, value_view, values_view};
 ghost use Rattle.rvc_base.specs.Computing.{computed_of};
 ghost use Rattle.const_env.specs.Deciding.{decides};
 ghost use Rattle.const_env.specs.Outcome.{Evaluates};
 
 use crate::stop::Stop;
+use crate::value::copy;
 use cal_ast::{BinOp, PrefixOp};
 use cal_model::{Value, Values};
 use rvc_base::arithmetic::{add, div, mul, neg, rem, shl, shr, sub};
 use rvc_base::{Num, Trap};
+use std::alloc::Global;
 
 /// A number as it is written.
 pub fn literal(number: u128) -> Result<Value, Stop>
@@ -183,34 +186,34 @@ fn of_truths(op: BinOp, a: bool, b: bool) -> Result<Value, Stop>
     }
 }
 
-/// The item of a list at a place.
-pub fn indexed(base: Value, place: &Value) -> Result<Value, Stop>
+/// The item of a list at a place, as a value of its own.
+pub fn indexed(alloc: Global, base: &Value, place: &Value) -> Result<Value, Stop>
     ensures { (left : ℕ) → Evaluates value_view result left
-        (indexed (value_view base) (value_view place.now) left) }
+        (indexed (value_view base.now) (value_view place.now) left) }
 {
     match base {
-        Value::List(values) => item(values, place),
+        Value::List(values) => item(alloc, values, place),
         Value::Num(_) => Err(Stop::Clashes),
         Value::Bool(_) => Err(Stop::Clashes),
     }
 }
 
 /// The item of a list at a place, which must be a number.
-fn item(values: Values, place: &Value) -> Result<Value, Stop>
+fn item(alloc: Global, values: &Values, place: &Value) -> Result<Value, Stop>
     ensures { (left : ℕ) → Evaluates value_view result left
-        (indexed (value_view (Value.List values)) (value_view place.now) left) }
+        (indexed (Items (values_view values.now)) (value_view place.now) left) }
 {
     match place {
-        Value::Num(number) => item_at(values.items, *number),
+        Value::Num(number) => item_at(alloc, &values.items, *number),
         Value::Bool(_) => Err(Stop::Clashes),
         Value::List(_) => Err(Stop::Clashes),
     }
 }
 
 /// The item of a list at a number, which must be a place of the list.
-fn item_at(mut items: Vec<Value>, number: Num) -> Result<Value, Stop>
+fn item_at(alloc: Global, items: &[Value], number: Num) -> Result<Value, Stop>
     ensures { (left : ℕ) → Evaluates value_view result left
-        (item_at (in_order (map value_view items.items)) number left) }
+        (item_at (in_order (map value_view items.now)) number left) }
 {
     if number < 0 {
         return Err(Stop::Trap(Trap::IndexRange));
@@ -218,5 +221,5 @@ fn item_at(mut items: Vec<Value>, number: Num) -> Result<Value, Stop>
     if number >= items.len() as Num {
         return Err(Stop::Trap(Trap::IndexRange));
     }
-    Ok(items.swap_remove(number as usize))
+    Ok(copy(alloc, &items[number as usize])?)
 }

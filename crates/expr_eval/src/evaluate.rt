@@ -8,7 +8,7 @@ ghost use Rattle.cal_ast.specs.Tree as tree;
 ghost use Rattle.cal_ast.specs.View.{expr_tree, gen_tree, type_arg_tree, type_tree};
 ghost use Rattle.cal_model.specs.Call.{declared, first_value};
 ghost use Rattle.cal_model.specs.Env.{variable, with_local};
-ghost use Rattle.cal_model.specs.Expression.{args_given, each_from, elements, eval, eval_all, span, type_meant};
+ghost use Rattle.cal_model.specs.Expression.{args_given, each_from, elements, eval, eval_all, indexed, span, type_meant};
 ghost use Rattle.cal_model.specs.Outcome.{alone, and_then, turn, Gives};
 ghost use Rattle.cal_model.specs.Value.{Num, Single, joined, stored};
 ghost use Rattle.cal_model.specs.View.{in_order, local_view, shape_view, value_view};
@@ -101,16 +101,29 @@ fn eval_if(scope: &Scope, test: &Expr, yes: &Expr, no: &Expr, left: &mut u32) ->
     }
 }
 
-/// A list, the place in it, and then what stands there.
+/// A list, the place in it, and then what stands there. Of a list that has a name only the item is copied.
 #[cycle(eval)]
 fn eval_index(scope: &Scope, base: &Expr, place: &Expr, left: &mut u32) -> Result<Value, Stop>
     ensures { Evaluates value_view result left.new
         (eval (tree.index (expr_tree base.now) (expr_tree place.now) 0) (calls scope.now)
         (seen scope.now) left.old) }
 {
-    let base = eval(scope, base, left)?;
+    if let Some(list) = scope.named(base) {
+        return eval_item(scope, list, place, left);
+    }
+    let list = eval(scope, base, left)?;
+    eval_item(scope, &list, place, left)
+}
+
+/// A place in a list, and then what stands there.
+#[cycle(eval)]
+fn eval_item(scope: &Scope, list: &Value, place: &Expr, left: &mut u32) -> Result<Value, Stop>
+    ensures { Evaluates value_view result left.new
+        (and_then (eval (expr_tree place.now) (calls scope.now) (seen scope.now) left.old)
+        (λ i k. indexed (value_view list.now) i k)) }
+{
     let place = eval(scope, place, left)?;
-    indexed(base, &place)
+    indexed(scope.alloc, list, &place)
 }
 
 /// An operation with two operands. The right one isn't evaluated if the left one decides.

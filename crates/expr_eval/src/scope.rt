@@ -1,18 +1,20 @@
 //! What an expression sees while it is evaluated.
 
-ghost use Rattle.std.specs.Prelude.{◌≡◌, ◌-◌, ◌<◌, ℕ, None, [], length, map, option_map};
+ghost use Rattle.std.specs.Prelude.{◌≡◌, ◌-◌, ◌<◌, ℕ, None, [], IfSome, length, map, option_map};
+ghost use Rattle.cal_ast.specs.View.{expr_tree};
 ghost use Rattle.cal_model.specs.Call.{calls_of, calls_within};
 ghost use Rattle.const_env.specs.Constants.{var_of};
 ghost use Rattle.const_env.specs.Counting.{all_variables, hide};
 ghost use Rattle.expr_eval.specs.Evaluable.{env_of};
 ghost use Rattle.const_env.specs.Held.{held};
 ghost use Rattle.cal_model.specs.Env.{find, look_up, with_local};
-ghost use Rattle.cal_model.specs.Outcome.{known};
+ghost use Rattle.cal_model.specs.Expression.{eval};
+ghost use Rattle.cal_model.specs.Outcome.{Gives, known};
 ghost use Rattle.cal_model.specs.View.{value_view};
 ghost use Rattle.const_env.specs.Outcome.{Evaluates};
 ghost use Rattle.expr_eval.specs.Scoping.{calls, chain, declared_name, frame, local_var, seen};
 
-use cal_ast::Ident;
+use cal_ast::{Expr, ExprForm, Ident};
 use cal_model::{BoundFun, BoundLocal, Value};
 use const_env::inside::meant_inside;
 use const_env::value::copy;
@@ -163,6 +165,18 @@ impl<'a> Scope<'a> {
         match self.value(name) {
             Some(value) => Ok(copy(self.alloc, value)?),
             None => Err(Stop::Lacks),
+        }
+    }
+
+    /// The value of an expression that is a name.
+    pub fn named(&self, e: &Expr) -> Option<&Value>
+        ensures { IfSome result (λ value. (left : ℕ) →
+            eval (expr_tree e.now) (calls self.now) (seen self.now) left
+            ≡ Gives (value_view value.now) left) }
+    {
+        match &e.form {
+            ExprForm::Name(name) => self.value(name.as_str()),
+            _ => None,
         }
     }
 

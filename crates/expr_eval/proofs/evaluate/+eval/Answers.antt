@@ -4,7 +4,7 @@ use Rattle.rvc_base.specs.Turns.{max_turns, max_turns_is}
 use Rattle.cal_ast.specs.Tree.{listed}
 use Rattle.cal_ast.specs.View.{expr_tree, gen_tree, type_arg_tree, type_tree}
 use Rattle.cal_model.specs.Call.{fun_named}
-use Rattle.cal_model.specs.Expression.{args_given, elements, eval, eval_all, size_of_value, span, type_meant}
+use Rattle.cal_model.specs.Expression.{args_given, elements, eval, eval_all, indexed, size_of_value, span, type_meant}
 use Rattle.cal_model.specs.Outcome.{Gives, and_then}
 use Rattle.cal_model.specs.Value.{joined}
 use Rattle.cal_model.specs.View.{fun_view, in_order, local_view, value_view}
@@ -19,6 +19,7 @@ use Rattle.const_env.specs.Sizes.{are_sized}
 use Rattle.expr_eval.proofs.Calling.{called_falls, called_gives, called_lacks, called_stops, calls_see}
 use Rattle.expr_eval.proofs.EachNumber.{adds, element_of, no_numbers, numbers_end, numbers_next, numbers_stop}
 use Rattle.expr_eval.proofs.Gens.{gens_clash, gens_range, gens_stop_high, gens_stop_low, gens_stop_type, high_no_number, is_number, low_no_number, no_number}
+use Rattle.expr_eval.proofs.Going.{goes_on}
 use Rattle.const_env.proofs.Tested.{sized_parts}
 use Rattle.expr_eval.proofs.Typed.{after_shape_stops, after_value_stops, erase, kept, meant_gives, meant_stops, shape_given, shape_stops, value_given, value_stops}
 use Rattle.expr_eval.proofs.Expressions.{all_done, all_next, alone_evaluates, comp_goes, element_goes, size_at}
@@ -126,3 +127,15 @@ called-returns-in_err-arguments t c =
     let stopped = called_stops c.args.scope.now.depth c.args.name.now (held c.args.scope.now.env.now).funs c.in-Some.fun.now (map var_of (held c.args.scope.now.env.now).values) (in_order (map value_view c.args.args.now)) c.args.left.now c.deref.result.now c.in_err-arguments.field-0.0 (omega (arith, c.if-scope-eq0.false)) c.in-Some.ensures.is c.deref.ensures.value (c.in_err-arguments.ensures c.args.left.now) in
     subst (λ r. Evaluates value_view r c.args.left.now (calls c.args.scope.now (seen c.args.scope.now).globals c.args.name.now (in_order (map value_view c.args.args.now)) c.args.left.now)) (sym same)
     (subst (λ o. Stops c.in_err-arguments.field-0.0 o) (sym seen_calls) stopped)
+
+pub eval_index-returns-in-Some : goal.eval_index-returns-in-Some
+eval_index-returns-in-Some t c =
+    subst (λ o. Evaluates value_view c.eval_item.result c.eval_item.new.left o)
+    (sym (goes_on (eval (expr_tree c.args.base.now) (calls c.args.scope.now) (seen c.args.scope.now) c.args.left.now) (value_view c.in-Some.list.now) c.args.left.now (λ v m. and_then (eval (expr_tree c.args.place.now) (calls c.args.scope.now) (seen c.args.scope.now) m) (λ i k. indexed v i k)) (c.in-Some.ensures c.args.left.now)))
+    c.eval_item.ensures
+
+pub eval_index-returns : goal.eval_index-returns
+eval_index-returns t c =
+    subst (λ o. Evaluates value_view c.eval_item-2.result c.eval_item-2.new.left o)
+    (sym (goes_on (eval (expr_tree c.args.base.now) (calls c.args.scope.now) (seen c.args.scope.now) c.args.left.now) (value_view c.in_ok-list.list) c.eval.new.left (λ v m. and_then (eval (expr_tree c.args.place.now) (calls c.args.scope.now) (seen c.args.scope.now) m) (λ i k. indexed v i k)) c.in_ok-list.ensures))
+    c.eval_item-2.ensures

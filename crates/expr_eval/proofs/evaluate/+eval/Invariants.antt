@@ -28,6 +28,9 @@ decreases-eval_if l = room l.scope.now + (4 + size (expr_tree l.test.now) + size
 abbrev pub decreases-eval_index : goal.decreases-eval_index
 decreases-eval_index l = room l.scope.now + (4 + size (expr_tree l.base.now) + size (expr_tree l.place.now))
 
+abbrev pub decreases-eval_item : goal.decreases-eval_item
+decreases-eval_item l = room l.scope.now + (1 + size (expr_tree l.place.now))
+
 abbrev pub decreases-eval_binary : goal.decreases-eval_binary
 decreases-eval_binary l = room l.scope.now + (4 + size (expr_tree l.first.now) + size (expr_tree l.second.now))
 
