@@ -18,13 +18,14 @@ use crate::assign::assign;
 use crate::inner_vars::check_vars;
 use crate::part::{counter, number, test};
 use crate::proc_call::call;
+use crate::procs::Procs;
 use cal_ast::{Expr, Ident, Stmt, StmtForm, TypeExpr, VarDecl};
-use cal_model::{BoundProc, Kind};
+use cal_model::Kind;
 use const_eval::{Inside, KindFault, Names, Variable};
 
 /// A statement.
 #[cycle(stmt)]
-fn stmt(names: &Names, procs: &[BoundProc], s: &Stmt, passes: bool) -> Result<(), KindFault>
+fn stmt(names: &Names, procs: &Procs, s: &Stmt, passes: bool) -> Result<(), KindFault>
     ensures { Checks result
         (said passes (statement_broken (stmt_tree s.now) (map proc_view procs.now) (names_view names.now))) }
 {
@@ -58,7 +59,7 @@ fn stmt(names: &Names, procs: &[BoundProc], s: &Stmt, passes: bool) -> Result<()
 #[cycle(stmt)]
 pub fn stmts(
     names: &Names,
-    procs: &[BoundProc],
+    procs: &Procs,
     body: &[Stmt],
     passes: bool,
 ) -> Result<(), KindFault>
@@ -77,7 +78,7 @@ pub fn stmts(
 #[cycle(stmt)]
 pub fn optional_stmts(
     names: &Names,
-    procs: &[BoundProc],
+    procs: &Procs,
     body: &Option<Vec<Stmt>>,
     passes: bool,
 ) -> Result<(), KindFault>
@@ -94,7 +95,7 @@ pub fn optional_stmts(
 #[cycle(stmt)]
 fn if_stmt(
     names: &Names,
-    procs: &[BoundProc],
+    procs: &Procs,
     e: &Expr,
     yes: &[Stmt],
     no: &Option<Vec<Stmt>>,
@@ -113,7 +114,7 @@ fn if_stmt(
 #[cycle(stmt)]
 fn branches(
     names: &Names,
-    procs: &[BoundProc],
+    procs: &Procs,
     yes: &[Stmt],
     no: &Option<Vec<Stmt>>,
     passes: bool,
@@ -130,7 +131,7 @@ fn branches(
 #[cycle(stmt)]
 fn while_stmt(
     names: &Names,
-    procs: &[BoundProc],
+    procs: &Procs,
     e: &Expr,
     body: &[Stmt],
     passes: bool,
@@ -147,7 +148,7 @@ fn while_stmt(
 #[cycle(stmt)]
 fn foreach_stmt(
     names: &Names,
-    procs: &[BoundProc],
+    procs: &Procs,
     shape: &TypeExpr,
     name: &Ident,
     from: &Expr,
@@ -173,7 +174,7 @@ fn foreach_stmt(
 #[cycle(stmt)]
 fn behind(
     names: &Names,
-    procs: &[BoundProc],
+    procs: &Procs,
     variables: &[Variable],
     body: &[Stmt],
     passes: bool,
@@ -198,7 +199,7 @@ fn behind(
 #[cycle(stmt)]
 pub fn block(
     names: &Names,
-    procs: &[BoundProc],
+    procs: &Procs,
     declared: &[VarDecl],
     body: &[Stmt],
     passes: bool,
