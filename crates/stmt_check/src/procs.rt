@@ -62,7 +62,12 @@ impl Procs {
         ensures memory { OnErr result (self.new ≡ self.old) }
     {
         self.procs.reserve(1)?;
-        place_first(&mut self.places, proc.name.as_str(), self.procs.len(), *self.procs.allocator())?;
+        place_first(
+            &mut self.places,
+            proc.name.as_str(),
+            self.procs.len(),
+            *self.procs.allocator(),
+        )?;
         self.procs.push(proc)?;
         Ok(())
     }

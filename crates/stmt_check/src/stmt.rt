@@ -57,12 +57,7 @@ fn stmt(names: &Names, procs: &Procs, s: &Stmt, passes: bool) -> Result<(), Kind
 ///
 /// `Broken` if a statement breaks a rule: one of those that are broken, and its place. `Memory` if memory runs out.
 #[cycle(stmt)]
-pub fn stmts(
-    names: &Names,
-    procs: &Procs,
-    body: &[Stmt],
-    passes: bool,
-) -> Result<(), KindFault>
+pub fn stmts(names: &Names, procs: &Procs, body: &[Stmt], passes: bool) -> Result<(), KindFault>
     ensures { Checks result (said passes (statement_broken (listed (map stmt_tree body.now))
         (map proc_view procs.now) (names_view names.now))) }
 {
