@@ -16,16 +16,16 @@ use crate::guards::{guards, guards_allowed};
 use crate::outputs::check_outputs;
 use crate::pattern::check_patterns;
 use cal_ast::{Action, Member};
-use cal_model::{BoundProc, Port};
+use cal_model::Port;
 use const_eval::{Inside, KindFault, Names, Variables};
-use stmt_check::{check_vars, optional_stmts};
+use stmt_check::{Procs, check_vars, optional_stmts};
 
 /// What the actions of an actor see beside names: its ports and its procedures.
 #[derive(Clone, Copy)]
 pub struct ActorParts<'a> {
     pub ins: &'a [Port],
     pub outs: &'a [Port],
-    pub procs: &'a [BoundProc],
+    pub procs: &'a Procs,
 }
 
 /// The actions among members, as [`check_action`] judges each. What isn't constant is passed over if `passes`.

@@ -112,7 +112,7 @@ whole_is found bare acts order decl names at s gs owner is actions fine parts =
     let stated : bare_one.states ≡ states_of (schedule_in members) = ap (λ t. states_of (schedule_in t)) same in
     let own = fine.is bare_one (record { actions = acted; states = stated }) in
     is ∙ actor_same (string_bytes bare.class) s.class (port_views bare.ins.items) bare_one.ins (port_views bare.outs.items) bare_one.outs (map var_view bare.vars.items) bare_one.vars
-    (map fun_view bare.funs.items) bare_one.funs (map proc_view bare.procs.items) bare_one.procs (action_views acts) bare_one.actions
+    (map fun_view bare.funs.items) bare_one.funs (map proc_view bare.procs) bare_one.procs (action_views acts) bare_one.actions
     (map string_bytes order.states.items) bare_one.states (map move_view order.moves.items) (moves_in (schedule_in (members_of s.actor)) bare_one)
     (map (λ p. (p.0, p.1)) order.pairs.items) (pairs_in (members_of s.actor) bare_one)
     (sym parts.class) (sym (ap (λ x. x.ins) parts.around)) (sym (ap (λ x. x.outs) parts.around)) (sym parts.vars)

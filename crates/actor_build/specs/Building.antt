@@ -60,7 +60,7 @@ abbrev pub around_bare : BareActor → Names → Around
 around_bare bare names = record {
   ins = port_views bare.ins.items;
   outs = port_views bare.outs.items;
-  procs = map proc_view bare.procs.items;
+  procs = map proc_view bare.procs;
   names = names;
 }
 
@@ -155,7 +155,7 @@ whole_view bare acts order = record {
   outs = port_views bare.outs.items;
   vars = map var_view bare.vars.items;
   funs = map fun_view bare.funs.items;
-  procs = map proc_view bare.procs.items;
+  procs = map proc_view bare.procs;
   actions = action_views acts;
   states = map string_bytes order.states.items;
   moves = map move_view order.moves.items;

@@ -23,9 +23,10 @@ use crate::others::members_fault;
 use action_build::actions;
 use action_check::{ActorParts, check_actions};
 use cal_ast::{Actor, Member};
-use cal_model::{Bound, BoundAction, BoundFun, BoundProc, BoundVar, Port};
+use cal_model::{Bound, BoundAction, BoundFun, BoundVar, Port};
 use const_eval::{KindFault, Names};
 use member_check::{MemberFault, check_initialize, count_actions};
+use stmt_check::Procs;
 
 /// The parts of an actor that stand beside its actions and what orders these.
 #[derive(Debug, Drop)]
@@ -37,7 +38,7 @@ pub struct BareActor {
     /// The parameters, the constants of units and the state variables, with their values.
     pub vars: Vec<BoundVar>,
     pub funs: Vec<BoundFun>,
-    pub procs: Vec<BoundProc>,
+    pub procs: Procs,
 }
 
 /// The actor of these parts, and of the actions, the schedule and the priorities that are declared in it. Actions see
@@ -171,7 +172,7 @@ fn whole(bare: BareActor, actions: Vec<BoundAction>, order: ActorOrder) -> Bound
         outs: bare.outs,
         vars: bare.vars,
         funs: bare.funs,
-        procs: bare.procs,
+        procs: bare.procs.into_list(),
         actions,
         states: order.states,
         moves: order.moves,

@@ -45,19 +45,19 @@ around_same i j o p q r n m e1 e2 e3 e4 = cc
 
 pub around_is : (header : Header) (routines : Routines) (names : Names) (s : Source) (gs : List Given) (owner : Spot)
     → ArePartsIn header routines names s gs owner
-    → around_of s gs owner ≡ record { ins = map port_view header.ins.items; outs = map port_view header.outs.items; procs = map proc_view routines.procs.items; names = names }
+    → around_of s gs owner ≡ record { ins = map port_view header.ins.items; outs = map port_view header.outs.items; procs = map proc_view routines.procs; names = names }
 unfolding around_with
 around_is header routines names s gs owner p =
-    let procs : (around_of s gs owner).procs ≡ map proc_view routines.procs.items =
+    let procs : (around_of s gs owner).procs ≡ map proc_view routines.procs =
     ap (λ n. or_none (all_fine (procs_of (procs_in (members_of s.actor)) n))) p.inside ∙ ap or_none p.heads.procs in
     around_same (around_of s gs owner).ins (map port_view header.ins.items) (around_of s gs owner).outs (map port_view header.outs.items)
-    (around_of s gs owner).procs (map proc_view routines.procs.items) (around_of s gs owner).names names
+    (around_of s gs owner).procs (map proc_view routines.procs) (around_of s gs owner).names names
     (ap or_none p.ports.ins) (ap or_none p.ports.outs) procs p.inside
 
 around_kept : (bare : BareActor) (header : Header) (routines : Routines) (names : Names) → bare.ins.items ≡ header.ins.items → bare.outs.items ≡ header.outs.items
-    → bare.procs.items ≡ routines.procs.items
-    → around_with (map port_view header.ins.items) (map port_view header.outs.items) (map proc_view routines.procs.items) names
-    ≡ around_with (map port_view bare.ins.items) (map port_view bare.outs.items) (map proc_view bare.procs.items) names
+    → bare.procs ≡ routines.procs
+    → around_with (map port_view header.ins.items) (map port_view header.outs.items) (map proc_view routines.procs) names
+    ≡ around_with (map port_view bare.ins.items) (map port_view bare.outs.items) (map proc_view bare.procs) names
 around_kept bare header routines names i o p =
     around_same _ _ _ _ _ _ names names (ap (map port_view) (sym i)) (ap (map port_view) (sym o)) (ap (map proc_view) (sym p)) refl
 
@@ -121,7 +121,7 @@ parts_break f bare scope names broken gs owner parts =
 pub kept_inside : (found : Bound) (bare : BareActor) (held : Vec BoundVar Global) (header : Header) (routines : Routines) (scope : Resolved) (names : Names) (gs : List Given) (owner : Spot)
     → AreKept bare held header routines (source_in scope) → ArePartsIn header routines names (source_in scope) gs owner
     → (all_valued (source_in scope) gs owner).held ≡ map var_view held.items
-    → routines_found (source_in scope) (map proc_view routines.procs.items) names ≡ []
+    → routines_found (source_in scope) (map proc_view routines.procs) names ≡ []
     → scalars_found (source_in scope) (map var_view bare.vars.items) ≡ []
     → IsBuilt found bare scope names → IsInside found (source_in scope) gs owner
 kept_inside found bare held header routines scope names gs owner k p h routines_fine scalars_fine b =
@@ -132,7 +132,7 @@ kept_inside found bare held header routines scope names gs owner k p h routines_
     let is : actor_of found ≡ actor = b.is gs owner parts in
     let same : map var_view bare.vars.items ≡ kept_vars (all_valued s gs owner).held s = k.vars ∙ sym (ap (λ xs. kept_vars xs s) h) in
     let shape = around_is header routines names s gs owner p in
-    let procs : around.procs ≡ map proc_view routines.procs.items = ap (λ a. a.procs) shape in
+    let procs : around.procs ≡ map proc_view routines.procs = ap (λ a. a.procs) shape in
     let members : members_broken (members_of s.actor) around actor (place_of s.actor) ≡ [] =
     subst (λ a. members_broken (members_of s.actor) around a (place_of s.actor) ≡ []) is
     (subst (λ a. members_broken (members_of s.actor) a (actor_of found) (place_of s.actor) ≡ []) (sym parts.around) b.fine) in
@@ -140,7 +140,7 @@ kept_inside found bare held header routines scope names gs owner k p h routines_
     record {
       is = is;
       fine = inside_fine s around actor
-          (subst (λ ps. routines_found s ps around.names ≡ []) (sym procs) (subst (λ n. routines_found s (map proc_view routines.procs.items) n ≡ []) (sym p.inside) routines_fine))
+          (subst (λ ps. routines_found s ps around.names ≡ []) (sym procs) (subst (λ n. routines_found s (map proc_view routines.procs) n ≡ []) (sym p.inside) routines_fine))
           members scalars;
       ordered = λ above. b.ordered (subst IsAboveItself (sym is) above);
     }

@@ -132,7 +132,7 @@ module _ (bare : BareActor) (held : Vec BoundVar Global) (header : Header) (rout
   abbrev actor : Actor
   actor = actor_given s gs owner
 
-  procs : around.procs ≡ map proc_view bare.procs.items
+  procs : around.procs ≡ map proc_view bare.procs
   procs = ap (λ a. a.procs) (around_is header routines names s gs owner parts.parts) ∙ ap (map proc_view) (sym parts.kept.procs)
 
   vars : map var_view bare.vars.items ≡ kept_vars (all_valued s gs owner).held s
@@ -141,16 +141,16 @@ module _ (bare : BareActor) (held : Vec BoundVar Global) (header : Header) (rout
   own : ArePartsOf bare (actor_tree scope.actor) names s gs owner
   own = parts_are bare held header routines scope names gs owner parts.kept parts.parts parts.values
 
-  routines_same : routines_found s (map proc_view bare.procs.items) names ≡ routines_found s around.procs around.names
+  routines_same : routines_found s (map proc_view bare.procs) names ≡ routines_found s around.procs around.names
   routines_same = ap (λ ps. routines_found s ps names) (sym procs) ∙ ap (λ n. routines_found s around.procs n) (sym parts.parts.inside)
 
-  pub routines_said : (f : Front) → Sifts (Err f) (routines_found s (map proc_view bare.procs.items) names) → SiftsAll (Err f) s gs owner
+  pub routines_said : (f : Front) → Sifts (Err f) (routines_found s (map proc_view bare.procs) names) → SiftsAll (Err f) s gs owner
   routines_said f h = inl (routines_cause f s around actor (subst (IsCause f) routines_same h.0), h.1)
 
   pub scalars_said : (f : Front) → IsCause f (scalars_found s (map var_view bare.vars.items)) → SiftsAll (Err f) s gs owner
   scalars_said f h = inl (scalars_cause f s around actor (subst (λ xs. IsCause f (scalars_found s xs)) vars h), scalars_say f s (map var_view bare.vars.items) h)
 
-  pub own_said : (r : Result (Unit {0}) Front) → Sifts (Ok tt) (routines_found s (map proc_view bare.procs.items) names) → scalars_found s (map var_view bare.vars.items) ≡ []
+  pub own_said : (r : Result (Unit {0}) Front) → Sifts (Ok tt) (routines_found s (map proc_view bare.procs) names) → scalars_found s (map var_view bare.vars.items) ≡ []
       → SiftsMembers r bare scope names → SiftsAll r s gs owner
   own_said (Ok u) h x m =
       all_lack s around actor (subst (Each IsLack) routines_same h) (m gs owner own) (subst (λ xs. scalars_found s xs ≡ []) vars x)
@@ -177,7 +177,7 @@ other_told f s gs owner (inr h) = (inr h, inl (cycle_says f s gs owner h))
 -- ---- the actor of its parts, or why there is none
 
 kept_breaks : (f : Front) (bare : BareActor) (held : Vec BoundVar Global) (header : Header) (routines : Routines) (scope : Resolved) (names : Names) (gs : List Given) (owner : Spot)
-    → AreBareParts bare held header routines scope names gs owner → routines_found (source_in scope) (map proc_view routines.procs.items) names ≡ []
+    → AreBareParts bare held header routines scope names gs owner → routines_found (source_in scope) (map proc_view routines.procs) names ≡ []
     → scalars_found (source_in scope) (map var_view bare.vars.items) ≡ []
     → BreaksParts f bare scope names → FindsInside (Err f) (source_in scope) gs owner
 kept_breaks f bare held header routines scope names gs owner parts routines_fine scalars_fine breaks =
@@ -185,9 +185,9 @@ kept_breaks f bare held header routines scope names gs owner parts routines_fine
     let around = around_of s gs owner in
     let actor = actor_given s gs owner in
     let found = breaks gs owner (parts_are bare held header routines scope names gs owner parts.kept parts.parts parts.values) in
-    let procs : around.procs ≡ map proc_view routines.procs.items = ap (λ a. a.procs) (around_is header routines names s gs owner parts.parts) in
+    let procs : around.procs ≡ map proc_view routines.procs = ap (λ a. a.procs) (around_is header routines names s gs owner parts.parts) in
     let none : routines_found s around.procs around.names ≡ [] =
-    ap (λ ps. routines_found s ps around.names) procs ∙ ap (λ n. routines_found s (map proc_view routines.procs.items) n) parts.parts.inside ∙ routines_fine in
+    ap (λ ps. routines_found s ps around.names) procs ∙ ap (λ n. routines_found s (map proc_view routines.procs) n) parts.parts.inside ∙ routines_fine in
     let vars : map var_view bare.vars.items ≡ kept_vars (all_valued s gs owner).held s = parts.kept.vars ∙ sym (ap (λ xs. kept_vars xs s) parts.values) in
     let scalars : scalars_found s actor.vars ≡ [] = subst (λ xs. scalars_found s xs ≡ []) vars scalars_fine in (
       ⊎_elim (λ l. inl (members_cause f s around actor l)) (λ r. inr r) found.0,
@@ -195,7 +195,7 @@ kept_breaks f bare held header routines scope names gs owner parts routines_fine
     )
 
 pub kept_finds : (r : Result Bound Front) (bare : BareActor) (held : Vec BoundVar Global) (header : Header) (routines : Routines) (scope : Resolved) (names : Names) (gs : List Given) (owner : Spot)
-    → AreBareParts bare held header routines scope names gs owner → routines_found (source_in scope) (map proc_view routines.procs.items) names ≡ []
+    → AreBareParts bare held header routines scope names gs owner → routines_found (source_in scope) (map proc_view routines.procs) names ≡ []
     → scalars_found (source_in scope) (map var_view bare.vars.items) ≡ []
     → BuildsActor r bare scope names → FindsInside r (source_in scope) gs owner
 kept_finds (Ok found) bare held header routines scope names gs owner parts r s b =
@@ -211,7 +211,7 @@ scalars_refused f bare held header routines scope names gs owner parts h =
 
 -- what functions and procedures break is broken inside
 pub routines_inside : (f : Front) (bare : BareActor) (held : Vec BoundVar Global) (header : Header) (routines : Routines) (scope : Resolved) (names : Names) (gs : List Given) (owner : Spot)
-    → AreBareParts bare held header routines scope names gs owner → IsCause f (routines_found (source_in scope) (map proc_view bare.procs.items) names)
+    → AreBareParts bare held header routines scope names gs owner → IsCause f (routines_found (source_in scope) (map proc_view bare.procs) names)
     → IsCause f (inside_found (source_in scope) (around_of (source_in scope) gs owner) (actor_given (source_in scope) gs owner))
 routines_inside f bare held header routines scope names gs owner parts h =
     routines_cause f (source_in scope) (around_of (source_in scope) gs owner) (actor_given (source_in scope) gs owner)

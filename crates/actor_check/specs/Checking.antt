@@ -38,9 +38,9 @@ BuildsFuns (Ok found) fs names =
 BuildsFuns (Err f) fs names = IsCause f (heads_broken fs names)
 
 -- what procedures are whose formals break no rule, or a rule that a formal breaks
-abbrev pub BuildsProcs : Result (Vec BoundProc Global) KindFault → List Tree → Names → Type 0
+abbrev pub BuildsProcs : Result (List BoundProc) KindFault → List Tree → Names → Type 0
 BuildsProcs (Ok found) ps names =
-    (formals_broken ps names ≡ []) × (all_fine (procs_of ps names) ≡ Some (map proc_view found.items))
+    (formals_broken ps names ≡ []) × (all_fine (procs_of ps names) ≡ Some (map proc_view found))
 BuildsProcs (Err f) ps names = Refuses f (formals_broken ps names)
 
 -- ---- steps

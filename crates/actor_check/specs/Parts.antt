@@ -88,7 +88,7 @@ pub record AreKept (bare : BareActor) (held : Vec BoundVar Global) (header : Hea
   pub class : string_bytes bare.class ≡ s.class
   pub ins : bare.ins.items ≡ header.ins.items
   pub outs : bare.outs.items ≡ header.outs.items
-  pub procs : bare.procs.items ≡ routines.procs.items
+  pub procs : bare.procs ≡ routines.procs
   pub vars : map var_view bare.vars.items ≡ kept_vars (map var_view held.items) s
   pub funs : map fun_view bare.funs.items ≡ kept_funs (map fun_view routines.funs.items) s
 
@@ -137,7 +137,7 @@ abbrev pub FindsKept : Result Bound Front → BareActor → Resolved → Names �
 FindsKept r bare scope names = (held : Vec BoundVar Global) (header : Header)
     (routines : Routines) (gs : List Given) (owner : Spot)
     → AreBareParts bare held header routines scope names gs owner
-    → routines_found (source_in scope) (map proc_view routines.procs.items) names ≡ []
+    → routines_found (source_in scope) (map proc_view routines.procs) names ≡ []
     → FindsInside r (source_in scope) gs owner
 
 -- nothing is broken but that something isn't constant, or another rule

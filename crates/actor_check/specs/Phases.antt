@@ -48,9 +48,9 @@ abbrev pub formals_found : Source → Names → List Found
 formals_found s names = found_in s.file (formals_broken (procs_in (members_of s.actor)) names)
 
 -- procedures whose formals break no rule
-abbrev pub FindsProcs : Result (Vec BoundProc Global) Front → Source → Names → Type 0
+abbrev pub FindsProcs : Result (List BoundProc) Front → Source → Names → Type 0
 FindsProcs (Ok procs) s names =
-    (formals_found s names ≡ []) × procedures_of s names (map proc_view procs.items)
+    (formals_found s names ≡ []) × procedures_of s names (map proc_view procs)
 FindsProcs (Err f) s names = IsCause f (formals_found s names)
 
 -- what the heads of functions and procedures break
@@ -61,7 +61,7 @@ heads_over s names = heads_broken (all_funs s) names ++ formals_found s names
 pub record AreRoutinesOf (r : Routines) (s : Source) (names : Names) : Type 0 where
   pub fine : heads_over s names ≡ []
   pub funs : all_fine (funs_of (all_funs s) names) ≡ Some (map fun_view r.funs.items)
-  pub procs : procedures_of s names (map proc_view r.procs.items)
+  pub procs : procedures_of s names (map proc_view r.procs)
 
 abbrev pub FindsHeads : Result Routines Front → Source → Names → Type 0
 FindsHeads (Ok r) s names = AreRoutinesOf r s names

@@ -17,11 +17,12 @@ ghost use Rattle.actor_check.specs.Checking.{AddsFun, AddsProc, BuildsFuns, Buil
 
 use crate::fault::in_file;
 use cal_ast::{Member, Procedure};
-use cal_model::{BoundFun, BoundProc};
+use cal_model::BoundFun;
 use const_eval::{KindFault, Names};
 use routine_build::{fun_of, proc_of};
 use rvc_base::Front;
 use seen_names::DeclaredFun;
+use stmt_check::Procs;
 
 /// Adds what a function is, if its head breaks no rule.
 fn add_function(found: &mut Vec<BoundFun>, names: &Names, f: DeclaredFun) -> Result<(), Front>
@@ -60,20 +61,20 @@ pub fn functions(names: &Names, funs: &[DeclaredFun]) -> Result<Vec<BoundFun>, F
 }
 
 /// Adds what a procedure is, if its formals break no rule.
-fn add_procedure(found: &mut Vec<BoundProc>, names: &Names, p: &Procedure) -> Result<(), KindFault>
-    ensures { AddsProc result (procedure_tree p.now) (names_view names.now) (map proc_view found.old.items)
-        (map proc_view found.new.items) }
+fn add_procedure(found: &mut Procs, names: &Names, p: &Procedure) -> Result<(), KindFault>
+    ensures { AddsProc result (procedure_tree p.now) (names_view names.now) (map proc_view found.old)
+        (map proc_view found.new) }
 {
     let proc = proc_of(names, p)?;
-    found.push(proc)?;
+    found.add(proc)?;
     Ok(())
 }
 
 /// Adds what a member is, if it is a procedure.
-fn add_member(found: &mut Vec<BoundProc>, names: &Names, member: &Member) -> Result<(), KindFault>
+fn add_member(found: &mut Procs, names: &Names, member: &Member) -> Result<(), KindFault>
     ensures added { OnOk result ((more : Tree)
-        → behind (map proc_view found.new.items) (all_fine (procs_of (procs_in more) (names_view names.now)))
-        ≡ behind (map proc_view found.old.items)
+        → behind (map proc_view found.new) (all_fine (procs_of (procs_in more) (names_view names.now)))
+        ≡ behind (map proc_view found.old)
         (all_fine (procs_of (procs_in (tree.cons (member_tree member.now) more)) (names_view names.now)))) }
     ensures fine { OnOk result ((more : Tree)
         → formals_broken (procs_in more) (names_view names.now)
@@ -92,10 +93,10 @@ fn add_member(found: &mut Vec<BoundProc>, names: &Names, member: &Member) -> Res
 /// # Errors
 ///
 /// `Broken` if a formal breaks a rule: one of those that are broken, with its place. `Memory` if memory runs out.
-pub fn procedures(names: &Names, members: &[Member]) -> Result<Vec<BoundProc>, KindFault>
+pub fn procedures(names: &Names, members: &[Member]) -> Result<Procs, KindFault>
     ensures { BuildsProcs result (procs_in (members_tree members.now)) (names_view names.now) }
 {
-    let mut found = Vec::new(names.alloc);
+    let mut found = Procs::new(names.alloc);
     let mut rest = members;
     'members: while let Some((first, others)) = rest.split_first() {
         add_member(&mut found, names, first)?;

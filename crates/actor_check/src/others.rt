@@ -18,11 +18,11 @@ use crate::fault::placed;
 use crate::scalars::check_scalars;
 use actor_build::{BareActor, other_members};
 use cal_imports::Scope;
-use cal_model::BoundProc;
 use const_eval::Names;
 use routine_check::{check_function, check_procedures};
 use rvc_base::Front;
 use seen_names::DeclaredFun;
+use stmt_check::Procs;
 
 /// What is inside a function of a file, unless something isn't constant there.
 fn sift_body(names: &Names, f: DeclaredFun) -> Result<(), Front>
@@ -46,7 +46,7 @@ fn sift_bodies(names: &Names, funs: &[DeclaredFun]) -> Result<(), Front>
 }
 
 /// What is inside procedures.
-fn sift_procedures(names: &Names, procs: &[BoundProc], scope: &Scope) -> Result<(), Front>
+fn sift_procedures(names: &Names, procs: &Procs, scope: &Scope) -> Result<(), Front>
     ensures { Sifts result (procs_found (source_in scope.now) (map proc_view procs.now)
         (names_view names.now)) }
 {
@@ -60,7 +60,7 @@ fn sift_procedures(names: &Names, procs: &[BoundProc], scope: &Scope) -> Result<
 fn sift_routines(
     names: &Names,
     funs: &[DeclaredFun],
-    procs: &[BoundProc],
+    procs: &Procs,
     scope: &Scope,
 ) -> Result<(), Front>
     requires { fun_decls funs.now ≡ all_funs (source_in scope.now) }

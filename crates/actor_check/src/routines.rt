@@ -15,21 +15,22 @@ use crate::built::{functions, procedures};
 use crate::fault::in_file;
 use crate::sifting::routines_fault;
 use cal_imports::Scope;
-use cal_model::{BoundFun, BoundProc};
+use cal_model::BoundFun;
 use const_eval::Names;
 use routine_check::check_procedures;
 use rvc_base::Front;
 use seen_names::DeclaredFun;
+use stmt_check::Procs;
 
 /// Functions of all files, and the procedures of an actor.
 #[derive(Drop)]
 pub(crate) struct Routines {
     pub funs: Vec<BoundFun>,
-    pub procs: Vec<BoundProc>,
+    pub procs: Procs,
 }
 
 /// The procedures of an actor.
-fn procedures_of(names: &Names, scope: &Scope) -> Result<Vec<BoundProc>, Front>
+fn procedures_of(names: &Names, scope: &Scope) -> Result<Procs, Front>
     ensures { FindsProcs result (source_in scope.now) (names_view names.now) }
 {
     match procedures(names, &scope.actor.members) {
@@ -65,7 +66,7 @@ pub(crate) fn routines_of(
 }
 
 /// What is inside procedures.
-fn check_inside_procedures(names: &Names, procs: &[BoundProc], scope: &Scope) -> Result<(), Front>
+fn check_inside_procedures(names: &Names, procs: &Procs, scope: &Scope) -> Result<(), Front>
     ensures { Finds result (procs_found (source_in scope.now) (map proc_view procs.now) (names_view names.now)) }
 {
     match check_procedures(names, procs, &scope.actor.members, false) {
@@ -78,7 +79,7 @@ fn check_inside_procedures(names: &Names, procs: &[BoundProc], scope: &Scope) ->
 pub(crate) fn check_routines(
     names: &Names,
     funs: &[DeclaredFun],
-    procs: &[BoundProc],
+    procs: &Procs,
     scope: &Scope,
 ) -> Result<(), Front>
     requires { fun_decls funs.now ≡ all_funs (source_in scope.now) }

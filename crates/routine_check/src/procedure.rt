@@ -11,9 +11,8 @@ ghost use Rattle.routine_check.specs.Heads.{AreSeen, formals_view};
 
 use crate::formal::{FoundFormals, formals};
 use cal_ast::Procedure;
-use cal_model::BoundProc;
 use const_eval::{Inside, KindFault, Names};
-use stmt_check::block;
+use stmt_check::{Procs, block};
 
 /// What is inside a procedure: its locals and its statements, which may call these procedures. Nothing is said of it if
 /// its formals break a rule. What isn't constant is passed over if `passes`.
@@ -25,7 +24,7 @@ use stmt_check::block;
 #[tactic(auto, using(stmt_check::proofs::Said::said_none))]
 pub fn check_procedure(
     names: &Names,
-    procs: &[BoundProc],
+    procs: &Procs,
     p: &Procedure,
     passes: bool,
 ) -> Result<(), KindFault>
@@ -42,7 +41,7 @@ pub fn check_procedure(
 /// What is inside a procedure of these formals.
 fn inside(
     names: &Names,
-    procs: &[BoundProc],
+    procs: &Procs,
     formals: &FoundFormals,
     p: &Procedure,
     passes: bool,

@@ -13,8 +13,8 @@ use crate::formal::formals;
 use crate::function::{check_function, head};
 use crate::procedure::check_procedure;
 use cal_ast::Member;
-use cal_model::BoundProc;
 use const_eval::{KindFault, Names};
+use stmt_check::Procs;
 
 /// The heads of the functions among members.
 ///
@@ -83,7 +83,7 @@ pub fn check_functions(names: &Names, members: &[Member]) -> Result<(), KindFaul
 #[tactic(auto, using(stmt_check::proofs::Said::said_none, stmt_check::proofs::Said::said_on, stmt_check::proofs::Said::said_next))]
 pub fn check_procedures(
     names: &Names,
-    procs: &[BoundProc],
+    procs: &Procs,
     members: &[Member],
     passes: bool,
 ) -> Result<(), KindFault>

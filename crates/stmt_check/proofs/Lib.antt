@@ -3,3 +3,4 @@ pub mod Checked
 pub mod Said
 pub mod Walks
 pub mod StmtWeights
+mod FirstPlaces

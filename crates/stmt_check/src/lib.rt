@@ -9,9 +9,11 @@ mod assign;
 mod inner_vars;
 mod part;
 mod proc_call;
+mod procs;
 mod stmt;
 
 pub use assign::kinds;
 pub use inner_vars::{check_vars, vars};
 pub use part::{check_stored, is_passed, passed, stored, test};
+pub use procs::Procs;
 pub use stmt::{block, optional_stmts, stmts};

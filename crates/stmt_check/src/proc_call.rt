@@ -1,7 +1,7 @@
 //! Calls of procedures.
 #![tactic(auto, using(crate::proofs::Judged::breaks_on))]
 
-ghost use Rattle.std.specs.Prelude.{◌≡◌, map, option_map};
+ghost use Rattle.std.specs.Prelude.{map};
 ghost use Rattle.cal_ast.specs.Tree.{listed};
 ghost use Rattle.cal_ast.specs.View.{expr_tree};
 ghost use Rattle.cal_model.specs.Statement.{proc_named};
@@ -12,8 +12,8 @@ ghost use Rattle.cal_check.specs.Violations.{broken, said};
 ghost use Rattle.stmt_check.specs.Judging.{Checks};
 
 use crate::part::passed;
+use crate::procs::Procs;
 use cal_ast::Expr;
-use cal_model::BoundProc;
 use const_eval::{KindFault, Names, arguments_fit};
 use rvc_base::Rule;
 
@@ -21,7 +21,7 @@ use rvc_base::Rule;
 #[tactic(auto, using(crate::proofs::Said::said_none))]
 pub(crate) fn call(
     names: &Names,
-    procs: &[BoundProc],
+    procs: &Procs,
     name: &str,
     args: &[Expr],
     at: u32,
@@ -40,7 +40,7 @@ pub(crate) fn call(
 /// A call of a procedure.
 fn first_call(
     names: &Names,
-    procs: &[BoundProc],
+    procs: &Procs,
     name: &str,
     args: &[Expr],
     at: u32,
@@ -48,7 +48,7 @@ fn first_call(
     ensures { Checks result (broken (call_judged (proc_named name.now (map proc_view procs.now))
         (listed (map expr_tree args.now)) at (names_view names.now))) }
 {
-    let Some(proc) = proc_in(name, procs) else {
+    let Some(proc) = procs.get(name) else {
         return Err(KindFault::Broken {
             rule: Rule::UNKNOWN_NAME,
             at,
@@ -61,19 +61,4 @@ fn first_call(
         rule: Rule::WRONG_NUMBER_OF_ARGUMENTS,
         at,
     })
-}
-
-/// The first procedure of the name.
-fn proc_in<'a>(name: &str, procs: &'a [BoundProc]) -> Option<&'a BoundProc>
-    ensures { option_map (λ p. proc_view p.now) result
-        ≡ proc_named name.now (map proc_view procs.entry.now) }
-{
-    let mut rest = procs;
-    'procs: while let Some((first, others)) = rest.split_first() {
-        if first.name.as_str() == name {
-            return Some(first);
-        }
-        rest = others;
-    }
-    None
 }

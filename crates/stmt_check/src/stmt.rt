@@ -18,13 +18,13 @@ use crate::assign::assign;
 use crate::inner_vars::check_vars;
 use crate::part::{counter, number, test};
 use crate::proc_call::call;
+use crate::procs::Procs;
 use cal_ast::{Expr, Ident, Stmt, StmtForm, TypeExpr, VarDecl};
-use cal_model::BoundProc;
 use const_eval::{Inside, KindFault, Names, Variables};
 
 /// A statement.
 #[cycle(stmt)]
-fn stmt(names: &Names, procs: &[BoundProc], s: &Stmt, passes: bool) -> Result<(), KindFault>
+fn stmt(names: &Names, procs: &Procs, s: &Stmt, passes: bool) -> Result<(), KindFault>
     ensures { Checks result
         (said passes (statement_broken (stmt_tree s.now) (map proc_view procs.now) (names_view names.now))) }
 {
@@ -56,12 +56,7 @@ fn stmt(names: &Names, procs: &[BoundProc], s: &Stmt, passes: bool) -> Result<()
 ///
 /// `Broken` if a statement breaks a rule: one of those that are broken, and its place. `Memory` if memory runs out.
 #[cycle(stmt)]
-pub fn stmts(
-    names: &Names,
-    procs: &[BoundProc],
-    body: &[Stmt],
-    passes: bool,
-) -> Result<(), KindFault>
+pub fn stmts(names: &Names, procs: &Procs, body: &[Stmt], passes: bool) -> Result<(), KindFault>
     ensures { Checks result (said passes (statement_broken (listed (map stmt_tree body.now))
         (map proc_view procs.now) (names_view names.now))) }
 {
@@ -77,7 +72,7 @@ pub fn stmts(
 #[cycle(stmt)]
 pub fn optional_stmts(
     names: &Names,
-    procs: &[BoundProc],
+    procs: &Procs,
     body: &Option<Vec<Stmt>>,
     passes: bool,
 ) -> Result<(), KindFault>
@@ -94,7 +89,7 @@ pub fn optional_stmts(
 #[cycle(stmt)]
 fn if_stmt(
     names: &Names,
-    procs: &[BoundProc],
+    procs: &Procs,
     e: &Expr,
     yes: &[Stmt],
     no: &Option<Vec<Stmt>>,
@@ -113,7 +108,7 @@ fn if_stmt(
 #[cycle(stmt)]
 fn branches(
     names: &Names,
-    procs: &[BoundProc],
+    procs: &Procs,
     yes: &[Stmt],
     no: &Option<Vec<Stmt>>,
     passes: bool,
@@ -130,7 +125,7 @@ fn branches(
 #[cycle(stmt)]
 fn while_stmt(
     names: &Names,
-    procs: &[BoundProc],
+    procs: &Procs,
     e: &Expr,
     body: &[Stmt],
     passes: bool,
@@ -147,7 +142,7 @@ fn while_stmt(
 #[cycle(stmt)]
 fn foreach_stmt(
     names: &Names,
-    procs: &[BoundProc],
+    procs: &Procs,
     shape: &TypeExpr,
     name: &Ident,
     from: &Expr,
@@ -169,7 +164,7 @@ fn foreach_stmt(
 #[cycle(stmt)]
 fn behind(
     names: &Names,
-    procs: &[BoundProc],
+    procs: &Procs,
     variables: &Variables,
     body: &[Stmt],
     passes: bool,
@@ -194,7 +189,7 @@ fn behind(
 #[cycle(stmt)]
 pub fn block(
     names: &Names,
-    procs: &[BoundProc],
+    procs: &Procs,
     declared: &[VarDecl],
     body: &[Stmt],
     passes: bool,

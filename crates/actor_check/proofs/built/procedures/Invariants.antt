@@ -10,7 +10,7 @@ use Rattle.actor_check.proofs.built.procedures.Given as goal
 abbrev pub invariant-members : goal.invariant-members
 invariant-members l = record {
   formals : formals_broken (procs_in (members_tree l.rest)) (names_view l.names) ≡ formals_broken (procs_in (members_tree l.initial.rest)) (names_view l.names);
-  procs : behind (map proc_view l.found.items) (all_fine (procs_of (procs_in (members_tree l.rest)) (names_view l.names)))
+  procs : behind (map proc_view l.found) (all_fine (procs_of (procs_in (members_tree l.rest)) (names_view l.names)))
       ≡ all_fine (procs_of (procs_in (members_tree l.initial.rest)) (names_view l.names));
 }
 

@@ -14,8 +14,8 @@ returns-in-Ok-check_routines c = λ gs owner parts held.
     let names = names_view c.args.names.now in
     let all : AreBareParts c.in-Ok.bare c.args.held c.args.header c.args.routines c.args.scope.now names gs owner =
     record { kept = c.in-Ok.ensures; parts = parts; values = held } in
-    let fine : routines_found s (map proc_view c.args.routines.procs.items) names ≡ [] =
-    subst (λ ps. routines_found s (map proc_view ps) names ≡ []) (c.deref.ensures.value ∙ c.in-Ok.ensures.procs) c.in-Ok-check_routines.ensures in
+    let fine : routines_found s (map proc_view c.args.routines.procs) names ≡ [] =
+    subst (λ ps. routines_found s (map proc_view ps) names ≡ []) c.in-Ok.ensures.procs c.in-Ok-check_routines.ensures in
     c.kept_actor.ensures c.args.held c.args.header c.args.routines gs owner all fine
 
 pub returns-in-Err : goal.returns-in-Err
@@ -26,7 +26,6 @@ returns-in-Err c = λ gs owner parts held.
     let f = c.in-Err.fault in
     let all : AreBareParts bare c.args.held c.args.header c.args.routines scope names gs owner =
     record { kept = c.in-Ok.ensures; parts = parts; values = held } in
-    let broken : IsCause f (routines_found (source_in scope) (map proc_view bare.procs.items) names) =
-    subst (λ ps. IsCause f (routines_found (source_in scope) (map proc_view ps) names)) c.deref.ensures.value c.in-Err.ensures in
+    let broken : IsCause f (routines_found (source_in scope) (map proc_view bare.procs) names) = c.in-Err.ensures in
     c.inside_fault.ensures c.args.held c.args.header c.args.routines gs owner all
     (routines_inside f bare c.args.held c.args.header c.args.routines scope names gs owner all broken)

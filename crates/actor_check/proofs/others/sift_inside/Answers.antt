@@ -16,8 +16,7 @@ returns-in_err-sift_routines c = λ held header routines gs owner parts.
     let scope = c.args.scope.now in
     let names = names_view c.args.names.now in
     let same : c.from_residual.result ≡ Err f = search rules in
-    let found : Sifts (Err f) (routines_found (source_in scope) (map proc_view bare.procs.items) names) =
-    subst (λ ps. Sifts (Err f) (routines_found (source_in scope) (map proc_view ps) names)) c.deref.ensures.value c.in_err-sift_routines.ensures in
+    let found : Sifts (Err f) (routines_found (source_in scope) (map proc_view bare.procs) names) = c.in_err-sift_routines.ensures in
     subst (λ r. SiftsAll r (source_in scope) gs owner) (sym same) (routines_said bare held header routines scope names gs owner parts f found)
 
 pub returns-in_err-check_scalars : goal.returns-in_err-check_scalars
@@ -28,7 +27,7 @@ returns-in_err-check_scalars c = λ held header routines gs owner parts.
     let names = names_view c.args.names.now in
     let same : c.from_residual-in_err-check_scalars.result ≡ Err f = search rules in
     let broken : IsCause f (scalars_found (source_in scope) (map var_view bare.vars.items)) =
-    subst (λ xs. IsCause f (scalars_found (source_in scope) (map var_view xs))) c.deref-2.ensures.value c.in_err-check_scalars.ensures in
+    subst (λ xs. IsCause f (scalars_found (source_in scope) (map var_view xs))) c.deref.ensures.value c.in_err-check_scalars.ensures in
     subst (λ r. SiftsAll r (source_in scope) gs owner) (sym same) (scalars_said bare held header routines scope names gs owner parts f broken)
 
 pub returns : goal.returns
@@ -36,8 +35,7 @@ returns c = λ held header routines gs owner parts.
     let bare = c.args.bare.now in
     let scope = c.args.scope.now in
     let names = names_view c.args.names.now in
-    let found : Sifts (Ok tt) (routines_found (source_in scope) (map proc_view bare.procs.items) names) =
-    subst (λ ps. Sifts (Ok tt) (routines_found (source_in scope) (map proc_view ps) names)) c.deref.ensures.value c.in_ok-sift_routines.ensures in
+    let found : Sifts (Ok tt) (routines_found (source_in scope) (map proc_view bare.procs) names) = c.in_ok-sift_routines.ensures in
     let scalars : scalars_found (source_in scope) (map var_view bare.vars.items) ≡ [] =
-    subst (λ xs. scalars_found (source_in scope) (map var_view xs) ≡ []) c.deref-2.ensures.value c.in_ok-check_scalars.ensures in
+    subst (λ xs. scalars_found (source_in scope) (map var_view xs) ≡ []) c.deref.ensures.value c.in_ok-check_scalars.ensures in
     own_said bare held header routines scope names gs owner parts c.sift_members.result found scalars c.sift_members.ensures
