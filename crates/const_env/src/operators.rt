@@ -16,6 +16,10 @@ use rvc_base::arithmetic::{add, div, mul, neg, rem, shl, shr, sub};
 use rvc_base::{Num, Trap};
 
 /// A number as it is written.
+///
+/// # Errors
+///
+/// `Trap` if it is greater than numbers are.
 pub fn literal(number: u128) -> Result<Value, Stop>
     ensures { (left : ℕ) → Evaluates value_view result left (computed (whole (pos number)) left) }
 {
@@ -35,7 +39,11 @@ fn computed(found: Result<Num, Trap>) -> Result<Value, Stop>
     }
 }
 
-/// An operation with one operand.
+/// What an operation with one operand gives.
+///
+/// # Errors
+///
+/// `Trap` if it traps; `Clashes` if the operand is of another kind than it asks.
 pub fn prefixed(op: PrefixOp, value: &Value) -> Result<Value, Stop>
     ensures { (left : ℕ) → Evaluates value_view result left
         (prefixed op (value_view value.now) left) }
@@ -95,7 +103,11 @@ pub fn decides(op: BinOp, value: &Value) -> bool
     }
 }
 
-/// An operation with two operands.
+/// What an operation with two operands gives.
+///
+/// # Errors
+///
+/// `Trap` if it traps; `Clashes` if an operand is of another kind than it asks.
 pub fn applied(op: BinOp, first: &Value, second: &Value) -> Result<Value, Stop>
     ensures { (left : ℕ) → Evaluates value_view result left
         (applied op (value_view first.now) (value_view second.now) left) }
@@ -184,6 +196,10 @@ fn of_truths(op: BinOp, a: bool, b: bool) -> Result<Value, Stop>
 }
 
 /// The item of a list at a place.
+///
+/// # Errors
+///
+/// `Trap` if the list has no such place; `Clashes` if the base is no list, or the place no number.
 pub fn indexed(base: Value, place: &Value) -> Result<Value, Stop>
     ensures { (left : ℕ) → Evaluates value_view result left
         (indexed (value_view base) (value_view place.now) left) }
