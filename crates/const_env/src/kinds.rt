@@ -17,7 +17,7 @@ use cal_model::{Kind, MAX_LIST_SCALARS, Value, Values};
 use rvc_base::{Memory, Rule, Scalar};
 use std::alloc::Global;
 
-/// Kinds don't match.
+/// The fault that kinds don't match, at an offset.
 pub fn wrong_kind(at: u32) -> KindFault
     ensures { result ≡ KindFault.Broken wrong_kind at }
 {
@@ -165,7 +165,7 @@ impl Fit {
 
 // ---- lists
 
-/// A product, or one more than the limit of a list if it is more.
+/// The product of two counts, or one more than the limit of a list if it is more.
 pub fn product(a: u32, b: u32) -> u32
     ensures { result ≡ capped (a * b) }
 {
@@ -187,7 +187,11 @@ fn scalars(k: &Kind) -> u32
     }
 }
 
-/// A list of so many items of a kind.
+/// The kind of lists of so many items of a kind.
+///
+/// # Errors
+///
+/// `Broken` if their scalars are more than a list may have; `Memory` if memory runs out.
 pub fn list_of_kind(alloc: Global, size: usize, k: Kind, at: u32) -> Result<Kind, KindFault>
     ensures { Judges kind_view result (list_of_kind size (kind_view k) at) }
 {
@@ -208,6 +212,10 @@ pub fn list_of_kind(alloc: Global, size: usize, k: Kind, at: u32) -> Result<Kind
 // ---- operations
 
 /// The kind that an operation with one operand gives.
+///
+/// # Errors
+///
+/// `Broken` if the operand is of another kind than the operation asks.
 pub fn prefix_kind(op: PrefixOp, k: &Kind, at: u32) -> Result<Kind, KindFault>
     ensures { Judges kind_view result (prefix_kind op (kind_view k.now) at) }
 {
@@ -234,6 +242,10 @@ fn number_kind(k: &Kind, at: u32) -> Result<Kind, KindFault>
 }
 
 /// The kind that an operation with two operands gives.
+///
+/// # Errors
+///
+/// `Broken` if the operands aren't of the kinds that the operation asks.
 pub fn binary_kind(op: BinOp, k: &Kind, l: &Kind, at: u32) -> Result<Kind, KindFault>
     ensures { Judges kind_view result (binary_kind op (kind_view k.now) (kind_view l.now) at) }
 {
@@ -320,6 +332,10 @@ pub fn item_kind(base: Kind, place: &Kind, at: u32) -> Result<Kind, KindFault>
 }
 
 /// The kind of a choice between two branches, by a condition's kind.
+///
+/// # Errors
+///
+/// `Broken` if the condition is no truth value, or the branches aren't of one kind.
 pub fn branch_kind(test: &Kind, yes: Kind, no: &Kind, at: u32) -> Result<Kind, KindFault>
     ensures { Judges kind_view result
         (branch_kind (kind_view test.now) (kind_view yes) (kind_view no.now) at) }

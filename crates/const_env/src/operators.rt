@@ -19,6 +19,10 @@ use rvc_base::{Num, Trap};
 use std::alloc::Global;
 
 /// A number as it is written.
+///
+/// # Errors
+///
+/// `Trap` if it is greater than numbers are.
 pub fn literal(number: u128) -> Result<Value, Stop>
     ensures { (left : ℕ) → Evaluates value_view result left (computed (whole (pos number)) left) }
 {
@@ -38,7 +42,11 @@ fn computed(found: Result<Num, Trap>) -> Result<Value, Stop>
     }
 }
 
-/// An operation with one operand.
+/// What an operation with one operand gives.
+///
+/// # Errors
+///
+/// `Trap` if it traps; `Clashes` if the operand is of another kind than it asks.
 pub fn prefixed(op: PrefixOp, value: &Value) -> Result<Value, Stop>
     ensures { (left : ℕ) → Evaluates value_view result left
         (prefixed op (value_view value.now) left) }
@@ -98,7 +106,11 @@ pub fn decides(op: BinOp, value: &Value) -> bool
     }
 }
 
-/// An operation with two operands.
+/// What an operation with two operands gives.
+///
+/// # Errors
+///
+/// `Trap` if it traps; `Clashes` if an operand is of another kind than it asks.
 pub fn applied(op: BinOp, first: &Value, second: &Value) -> Result<Value, Stop>
     ensures { (left : ℕ) → Evaluates value_view result left
         (applied op (value_view first.now) (value_view second.now) left) }
@@ -187,6 +199,11 @@ fn of_truths(op: BinOp, a: bool, b: bool) -> Result<Value, Stop>
 }
 
 /// The item of a list at a place, as a value of its own.
+///
+/// # Errors
+///
+/// `Trap` if the list has no such place; `Clashes` if the base is no list, or the place no number. `Memory` if memory
+/// runs out.
 pub fn indexed(alloc: Global, base: &Value, place: &Value) -> Result<Value, Stop>
     ensures { (left : ℕ) → Evaluates value_view result left
         (indexed (value_view base.now) (value_view place.now) left) }

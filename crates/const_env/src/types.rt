@@ -16,7 +16,9 @@ use rvc_base::{DEFAULT_SIZE, MAX_SIZE, Num, Scalar, conv};
 #[derive(Clone, Copy)]
 pub struct Counting {
     pub t: Option<Scalar>,
+    /// The first number.
     pub low: Num,
+    /// The last number; if it is below the first, there are none.
     pub high: Num,
 }
 
@@ -36,6 +38,7 @@ impl Counting {
 pub struct Given {
     /// Whether it is given the type of its items.
     pub has_items: bool,
+    /// Its size, if it is given one that isn't below 0.
     pub size: Option<u128>,
 }
 
@@ -90,7 +93,7 @@ fn size_of(value: &Value) -> Option<u128>
     }
 }
 
-/// The number that a value is.
+/// The number that a value is, if it is one.
 pub fn number(value: &Value) -> Option<Num>
     ensures { result ≡ number_in (value_view value.now) }
 {
@@ -101,7 +104,7 @@ pub fn number(value: &Value) -> Option<Num>
     }
 }
 
-/// A number as it is stored.
+/// A number as it is stored in a type: as it is, if the type is a list.
 pub fn counted(t: Option<Scalar>, number: Num) -> Value
     requires { IsKept t }
     ensures { value_view result ≡ counted t number }
@@ -112,7 +115,11 @@ pub fn counted(t: Option<Scalar>, number: Num) -> Value
     }
 }
 
-/// The type of a name with these arguments.
+/// The type of a name with these arguments: None for a list.
+///
+/// # Errors
+///
+/// `Clashes` if no type has the name, or not with these arguments.
 pub fn type_named(name: &str, given: Given) -> Result<Option<Scalar>, Stop>
     ensures named { (left : ℕ) → Evaluates
         (λ kept. kept) result left (needed (kept_named name.now (given_view given)) left) }

@@ -11,6 +11,10 @@ use rvc_base::{Memory, Num, Scalar, conv};
 use std::alloc::Global;
 
 /// An equal value.
+///
+/// # Errors
+///
+/// `Memory` if memory runs out.
 #[cycle(copy)]
 pub fn copy(alloc: Global, value: &Value) -> Result<Value, Memory>
     ensures { IfOk result (λ copied. value_view copied ≡ value_view value.now) }
