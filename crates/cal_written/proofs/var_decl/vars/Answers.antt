@@ -1,8 +1,4 @@
-use Rattle.std.proofs.Common.{◌≡◌, subst, rules}
-use Rattle.cal_ast.specs.View.{var_tree}
-use Rattle.cal_check.specs.Written.{var_written, with_inner}
-use Rattle.cal_model.specs.Kinding.{with_known}
-use Rattle.const_env.specs.Counting.{known_variable, names_view, variable_view}
+use Rattle.const_env.specs.Counting.{names_view}
 use Rattle.cal_written.specs.Seeing.{seen_behind}
 use Rattle.cal_check.proofs.Lists.{none-left}
 use Rattle.cal_written.proofs.VarSteps.{vars_done, vars_next}

@@ -3,12 +3,11 @@ use Rattle.std.specs.Prelude.{IfOk}
 use Rattle.cal_ast.specs.Tree.{listed}
 use Rattle.cal_ast.specs.View.{port_tree}
 use Rattle.cal_check.proofs.Lists.{none-left}
-use Rattle.cal_check.specs.Routines.{formal_judged, formals_judged}
-use Rattle.cal_model.specs.Kinding.{Fine}
+use Rattle.cal_check.specs.Routines.{formals_judged}
 use Rattle.cal_model.specs.Sound.{with_locals}
 use Rattle.cal_model.specs.View.{local_view}
 use Rattle.const_env.specs.Counting.{names_view}
-use Rattle.const_env.specs.Judging.{Breaks, Judges}
+use Rattle.const_env.specs.Judging.{Judges}
 use Rattle.cal_written.specs.Seeing.{seen_behind}
 use Rattle.routine_build.proofs.FormalSteps.{formals_break, formals_done, formals_next}
 use Rattle.routine_build.proofs.formal.formals.Goals as goal

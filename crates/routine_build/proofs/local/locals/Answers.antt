@@ -1,9 +1,6 @@
-use Rattle.std.proofs.Common.{◌≡◌, subst, rules}
-use Rattle.cal_ast.specs.View.{var_tree}
 use Rattle.cal_check.proofs.Lists.{none-left}
 use Rattle.const_env.specs.Counting.{names_view}
 use Rattle.cal_written.specs.Seeing.{seen_behind}
-use Rattle.routine_build.specs.Declaring.{IsLocal}
 use Rattle.routine_build.proofs.LocalSteps.{locals_done, locals_next}
 use Rattle.routine_build.proofs.local.locals.Goals as goal
 

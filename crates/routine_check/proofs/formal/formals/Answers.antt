@@ -1,9 +1,3 @@
-use Rattle.std.proofs.Common.{◌≡◌, subst, rules}
-use Rattle.cal_ast.specs.View.{port_tree}
-use Rattle.cal_model.specs.Kinding.{Fine}
-use Rattle.cal_model.specs.View.{local_view}
-use Rattle.cal_check.specs.Routines.{formal_judged}
-use Rattle.stmt_check.specs.Declaring.{seen_behind}
 use Rattle.routine_check.proofs.Walks.{formals_next}
 use Rattle.routine_check.proofs.formal.formals.Goals as goal
 
