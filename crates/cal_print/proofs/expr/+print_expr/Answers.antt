@@ -26,39 +26,39 @@ print_gen-returns t c =
     (then c.put-3.ensures c.print_expr-2.ensures)))))
     (gen_is c.args.generator.now)
 
-pub print_expr-returns-put-in-If-4 : goal.print_expr-returns-put-in-If-4
-print_expr-returns-put-in-If-4 t c =
+pub print_expr-returns-in-If : goal.print_expr-returns-in-If
+print_expr-returns-in-If t c =
     as_tree (if_expr (expr_tree c.deref-in-If.result.now) (expr_tree c.deref-in-If-2.result.now) (expr_tree c.deref-in-If-3.result.now) c.args.e.now.at) (expr_tree c.args.e.now)
-    (then c.put-in-If.ensures (then c.print_expr-in-If.ensures
-    (then c.put-in-If-2.ensures (then c.print_expr-in-If-2.ensures
-    (then c.put-in-If-3.ensures (then c.print_expr-in-If-3.ensures
+    (then c.put-in-If.ensures (then c.print_expr.ensures
+    (then c.put-in-If-2.ensures (then c.print_expr-in-If.ensures
+    (then c.put-in-If-3.ensures (then c.print_expr-in-If-2.ensures
     c.put-in-If-4.ensures))))))
     (expr_if c.args.e.now c.in-If.test c.in-If.yes c.in-If.no c.deref-in-If.result.now c.deref-in-If-2.result.now c.deref-in-If-3.result.now c.in-If.is c.deref-in-If.ensures c.deref-in-If-2.ensures c.deref-in-If-3.ensures)
 
-pub print_expr-returns-put-in-Comp-3 : goal.print_expr-returns-put-in-Comp-3
-print_expr-returns-put-in-Comp-3 t c =
+pub print_expr-returns-in-Comp : goal.print_expr-returns-in-Comp
+print_expr-returns-in-Comp t c =
     as_tree (comp (expr_tree c.deref-in-Comp.result.now) (listed (map gen_tree c.deref-in-Comp-2.result.now)) c.args.e.now.at) (expr_tree c.args.e.now)
     (then c.put-in-Comp.ensures (then c.print_expr-in-Comp.ensures
-    (then c.put-in-Comp-2.ensures (then c.print_gens-in-Comp.ensures
+    (then c.put-in-Comp-2.ensures (then c.print_gens.ensures
     c.put-in-Comp-3.ensures))))
     (expr_comp c.args.e.now c.in-Comp.item c.in-Comp.gens c.deref-in-Comp.result.now c.deref-in-Comp-2.result.now c.in-Comp.is c.deref-in-Comp.ensures c.deref-in-Comp-2.ensures.value)
 
-pub print_expr-returns-print_between-in-Index : goal.print_expr-returns-print_between-in-Index
-print_expr-returns-print_between-in-Index t c =
+pub print_expr-returns-in-Index : goal.print_expr-returns-in-Index
+print_expr-returns-in-Index t c =
     as_tree (index (expr_tree c.deref-in-Index.result.now) (expr_tree c.deref-in-Index-2.result.now) c.args.e.now.at) (expr_tree c.args.e.now)
-    (then c.print_operand-in-Index.ensures
+    (then c.print_operand.ensures
     c.print_between-in-Index.ensures)
     (expr_index c.args.e.now c.in-Index.base c.in-Index.place c.deref-in-Index.result.now c.deref-in-Index-2.result.now c.in-Index.is c.deref-in-Index.ensures c.deref-in-Index-2.ensures)
 
-pub print_expr-returns-print_operand-in-Prefix : goal.print_expr-returns-print_operand-in-Prefix
-print_expr-returns-print_operand-in-Prefix t c =
+pub print_expr-returns-in-Prefix : goal.print_expr-returns-in-Prefix
+print_expr-returns-in-Prefix t c =
     as_tree (prefix c.in-Prefix.op (expr_tree c.deref-in-Prefix.result.now) c.args.e.now.at) (expr_tree c.args.e.now)
     (then (reword c.put-in-Prefix.ensures (ap (λ l. l ∷ []) c.prefix_word.ensures))
     c.print_operand-in-Prefix.ensures)
     (expr_prefix c.args.e.now c.in-Prefix.op c.in-Prefix.of c.deref-in-Prefix.result.now c.in-Prefix.is c.deref-in-Prefix.ensures)
 
-pub print_expr-returns-print_operand-in-Binary-2 : goal.print_expr-returns-print_operand-in-Binary-2
-print_expr-returns-print_operand-in-Binary-2 t c =
+pub print_expr-returns-in-Binary : goal.print_expr-returns-in-Binary
+print_expr-returns-in-Binary t c =
     as_tree (binary c.in-Binary.op (expr_tree c.deref-in-Binary.result.now) (expr_tree c.deref-in-Binary-2.result.now) c.args.e.now.at) (expr_tree c.args.e.now)
     (then c.print_operand-in-Binary.ensures
     (then (reword c.put-in-Binary.ensures (ap (λ l. l ∷ []) c.binary_word.ensures))
@@ -74,7 +74,7 @@ pub print_exprs-loop-e-preserved : goal.print_exprs-loop-e-preserved
 print_exprs-loop-e-preserved t c =
     loop_step expr_tree (following Lexeme.Comma) (λ x. Lexeme.Comma ∷ words x) (λ ys y. following_more Lexeme.Comma (map expr_tree ys) (expr_tree y))
     c.in-Some.others.now c.e-item.result c.loop-e.e-index c.loop-e-test.true c.e-item.is c.loop-e.invariant
-    (then c.put.ensures c.print_expr-2.ensures)
+    (then c.put.ensures c.print_expr-in-loop-e.ensures)
 
 pub print_gens-returns : goal.print_gens-returns
 print_gens-returns t c =
@@ -85,18 +85,18 @@ pub print_gens-loop-generator-preserved : goal.print_gens-loop-generator-preserv
 print_gens-loop-generator-preserved t c =
     loop_step gen_tree (following Lexeme.Comma) (λ x. Lexeme.Comma ∷ words x) (λ ys y. following_more Lexeme.Comma (map gen_tree ys) (gen_tree y))
     c.in-Some.others.now c.generator-item.result c.loop-generator.generator-index c.loop-generator-test.true c.generator-item.is c.loop-generator.invariant
-    (then c.put.ensures c.print_gen-2.ensures)
+    (then c.put.ensures c.print_gen-in-loop-generator.ensures)
 
 pub print_type_args-returns : goal.print_type_args-returns
 print_type_args-returns t c =
     let split : c.args.args.now ≡ c.in-Some.first.now ∷ c.in-Some.others.now = search rules in
     reword (then c.put.ensures
     (then (joined_all type_arg_tree Lexeme.Comma c.args.args.now c.in-Some.first.now c.in-Some.others.now c.loop-arg.arg-index split c.loop-arg-test.false c.print_type_arg.ensures c.loop-arg.invariant)
-    c.put-3.ensures))
+    c.put-2.ensures))
     (sym (where_some type_arg_tree c.args.args.now c.in-Some.first.now c.in-Some.others.now (Lexeme.LeftParen ∷ joined Lexeme.Comma (listed (map type_arg_tree c.args.args.now)) ++ (Lexeme.RightParen ∷ [])) split))
 
 pub print_type_args-loop-arg-preserved : goal.print_type_args-loop-arg-preserved
 print_type_args-loop-arg-preserved t c =
     loop_step type_arg_tree (following Lexeme.Comma) (λ x. Lexeme.Comma ∷ words x) (λ ys y. following_more Lexeme.Comma (map type_arg_tree ys) (type_arg_tree y))
     c.in-Some.others.now c.arg-item.result c.loop-arg.arg-index c.loop-arg-test.true c.arg-item.is c.loop-arg.invariant
-    (then c.put-2.ensures c.print_type_arg-2.ensures)
+    (then c.put-in-loop-arg.ensures c.print_type_arg-in-loop-arg.ensures)

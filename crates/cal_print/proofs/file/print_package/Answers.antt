@@ -7,5 +7,5 @@ use Rattle.cal_print.proofs.file.print_package.Goals as goal
 
 pub returns-in-Some : goal.returns-in-Some
 returns-in-Some c =
-    reword (then c.put-in-Some.ensures (then c.print_tag-in-Some.ensures c.put-in-Some-2.ensures))
+    reword (then c.put.ensures (then c.print_tag.ensures c.put-in-Some.ensures))
     (ap (λ named. packaged (optional (option_map tag_tree named))) (sym c.in-Some.is))

@@ -8,7 +8,7 @@ use Rattle.cal_print.proofs.member.print_member.Goals as goal
 
 pub returns-in-Var : goal.returns-in-Var
 returns-in-Var c =
-    one_var c.args.member.now c.in-Var.v c.in-Var.is (then c.print-in-Var.ensures c.put-in-Var.ensures)
+    one_var c.args.member.now c.in-Var.v c.in-Var.is (then c.print.ensures c.put.ensures)
 
 pub returns-in-Function : goal.returns-in-Function
 returns-in-Function c = one_function c.args.member.now c.in-Function.f c.in-Function.is c.print_function.ensures

@@ -14,4 +14,4 @@ pub loop-part-preserved : goal.loop-part-preserved
 loop-part-preserved g c =
     loop_step g.T.Part.tree (following (lexeme_of c.args.mark)) (λ x. lexeme_of c.args.mark ∷ words x) (λ ys y. following_more (lexeme_of c.args.mark) (map g.T.Part.tree ys) (g.T.Part.tree y))
     c.in-Some.others.now c.part-item.result c.loop-part.part-index c.loop-part-test.true c.part-item.is c.loop-part.invariant
-    (then c.put.ensures c.print-2.ensures)
+    (then c.put.ensures c.print-in-loop-part.ensures)

@@ -5,7 +5,7 @@ use Rattle.cal_print.specs.Canon.{words, label}
 use Rattle.cal_print.proofs.Texts.{then, reword}
 use Rattle.cal_print.proofs.part.print_label.Goals as goal
 
-pub returns-put-in-Some : goal.returns-put-in-Some
-returns-put-in-Some g c =
-    reword (then c.print-in-Some.ensures c.put-in-Some.ensures)
+pub returns-in-Some : goal.returns-in-Some
+returns-in-Some g c =
+    reword (then c.print.ensures c.put.ensures)
     (ap (λ part. label (optional (option_map g.T.Part.tree part))) (sym c.in-Some.is))

@@ -9,18 +9,18 @@ use Rattle.cal_print.proofs.Loops.{words_more, loop_step}
 use Rattle.cal_print.proofs.StmtForms.{stmt_if, stmt_while, stmt_foreach, stmt_block}
 use Rattle.cal_print.proofs.stmt.+print_stmt.Goals as goal
 
-pub print_stmt-returns-put-in-If : goal.print_stmt-returns-put-in-If
-print_stmt-returns-put-in-If t c =
+pub print_stmt-returns-in-If : goal.print_stmt-returns-in-If
+print_stmt-returns-in-If t c =
     as_tree (if_stmt (expr_tree c.in-If.test) (listed (map stmt_tree c.deref-in-If.result.now)) (body_tree c.in-If.no) c.args.stmt.now.at) (stmt_tree c.args.stmt.now)
     (between_then Lexeme.If (words (expr_tree c.in-If.test)) Lexeme.Then (words (listed (map stmt_tree c.deref-in-If.result.now)) ++ under Lexeme.Else (body_tree c.in-If.no) ++ (Lexeme.End ∷ []))
-    c.print_between-in-If.ensures
-    (then (then c.print_stmts-in-If.ensures
-    c.print_body-in-If.ensures)
-    c.put-in-If.ensures))
+    c.print_between.ensures
+    (then (then c.print_stmts.ensures
+    c.print_body.ensures)
+    c.put.ensures))
     (stmt_if c.args.stmt.now c.in-If.test c.in-If.yes c.in-If.no c.deref-in-If.result.now c.in-If.is c.deref-in-If.ensures.value)
 
-pub print_stmt-returns-put-in-While : goal.print_stmt-returns-put-in-While
-print_stmt-returns-put-in-While t c =
+pub print_stmt-returns-in-While : goal.print_stmt-returns-in-While
+print_stmt-returns-in-While t c =
     as_tree (while_stmt (expr_tree c.in-While.test) (listed (map stmt_tree c.deref-in-While.result.now)) c.args.stmt.now.at) (stmt_tree c.args.stmt.now)
     (between_then Lexeme.While (words (expr_tree c.in-While.test)) Lexeme.Do (words (listed (map stmt_tree c.deref-in-While.result.now)) ++ (Lexeme.End ∷ []))
     c.print_between-in-While.ensures
@@ -28,21 +28,21 @@ print_stmt-returns-put-in-While t c =
     c.put-in-While.ensures))
     (stmt_while c.args.stmt.now c.in-While.test c.in-While.body c.deref-in-While.result.now c.in-While.is c.deref-in-While.ensures.value)
 
-pub print_stmt-returns-put-in-Foreach : goal.print_stmt-returns-put-in-Foreach
-print_stmt-returns-put-in-Foreach t c =
+pub print_stmt-returns-in-Foreach : goal.print_stmt-returns-in-Foreach
+print_stmt-returns-in-Foreach t c =
     as_tree (foreach_stmt (type_tree c.in-Foreach.shape) (ident_tree c.in-Foreach.name) (expr_tree c.in-Foreach.from) (expr_tree c.in-Foreach.to) (listed (map stmt_tree c.deref-in-Foreach.result.now)) c.args.stmt.now.at) (stmt_tree c.args.stmt.now)
     (head_then (words (type_tree c.in-Foreach.shape)) (words (ident_tree c.in-Foreach.name)) (words (expr_tree c.in-Foreach.from)) (words (expr_tree c.in-Foreach.to))
     (words (listed (map stmt_tree c.deref-in-Foreach.result.now)) ++ (Lexeme.End ∷ []))
-    c.print_foreach-in-Foreach.ensures
+    c.print_foreach.ensures
     (then c.print_stmts-in-Foreach.ensures
     c.put-in-Foreach.ensures))
     (stmt_foreach c.args.stmt.now c.in-Foreach.shape c.in-Foreach.name c.in-Foreach.from c.in-Foreach.to c.in-Foreach.body c.deref-in-Foreach.result.now c.in-Foreach.is c.deref-in-Foreach.ensures.value)
 
-pub print_stmt-returns-put-in-Block-2 : goal.print_stmt-returns-put-in-Block-2
-print_stmt-returns-put-in-Block-2 t c =
+pub print_stmt-returns-in-Block : goal.print_stmt-returns-in-Block
+print_stmt-returns-in-Block t c =
     as_tree (block (listed (map var_tree c.deref-in-Block.result.now)) (listed (map stmt_tree c.deref-in-Block-2.result.now)) c.args.stmt.now.at) (stmt_tree c.args.stmt.now)
     (then c.put-in-Block.ensures
-    (then (then c.print_block_vars-in-Block.ensures
+    (then (then c.print_block_vars.ensures
     c.print_stmts-in-Block.ensures)
     c.put-in-Block-2.ensures))
     (stmt_block c.args.stmt.now c.in-Block.vars c.in-Block.body c.deref-in-Block.result.now c.deref-in-Block-2.result.now c.in-Block.is c.deref-in-Block.ensures.value c.deref-in-Block-2.ensures.value)
