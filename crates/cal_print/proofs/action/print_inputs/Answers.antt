@@ -14,5 +14,5 @@ returns-then-action c =
 
 pub returns : goal.returns
 returns c =
-    reword (then c.put.ensures (said_of pattern_tree (joined Lexeme.Comma) c.deref.ensures.value c.print_joined.ensures))
+    reword (then c.put-2.ensures (said_of pattern_tree (joined Lexeme.Comma) c.deref.ensures.value c.print_joined.ensures))
     (ap (λ first. input_words first (listed (map pattern_tree c.args.action.now.patterns.items))) (sym c.if-action.false))

@@ -3,4 +3,4 @@ use Rattle.cal_print.proofs.Texts.{whole}
 use Rattle.cal_print.proofs.file.print_file.Goals as goal
 
 pub returns : goal.returns
-returns c = IfOk-weaker c.into_bytes.result _ _ (λ text. whole text.items c.new.ensures c.print_whole.ensures) c.into_bytes.ensures
+returns c = IfOk-weaker c.into_bytes.result _ _ (λ text. whole text.items c.new-out.ensures c.print_whole.ensures) c.into_bytes.ensures
