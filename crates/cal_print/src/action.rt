@@ -35,7 +35,8 @@ fn print_inputs(action: &Action, out: &mut Writer)
         (listed (map pattern_tree action.now.patterns.items))) out.new }
 {
     if action.initialize {
-        return out.put(Word::Initialize);
+        out.put(Word::Initialize);
+        return;
     }
     out.put(Word::Action);
     print_joined(&action.patterns, Word::Comma, out);

@@ -178,12 +178,12 @@ fn print_type_arg(arg: &TypeArg, out: &mut Writer)
         TypeArg::Shape { name, shape } => {
             print_ident(name, out);
             out.put(Word::Colon);
-            print_type(shape, out)
+            print_type(shape, out);
         }
         TypeArg::Value { name, value } => {
             print_ident(name, out);
             out.put(Word::Equal);
-            print_expr(value, out)
+            print_expr(value, out);
         }
     }
 }

@@ -59,13 +59,10 @@ fn print_whole(file: &File, out: &mut Writer)
 fn print_package(named: &Option<Tag>, out: &mut Writer)
     ensures { Writes out.old (packaged (optional (option_map tag_tree named.now))) out.new }
 {
-    match named {
-        Some(tag) => {
-            out.put(Word::Package);
-            print_tag(tag, out);
-            out.put(Word::Semicolon)
-        }
-        None => {}
+    if let Some(tag) = named {
+        out.put(Word::Package);
+        print_tag(tag, out);
+        out.put(Word::Semicolon);
     }
 }
 

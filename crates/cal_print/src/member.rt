@@ -101,7 +101,7 @@ fn print_member(member: &Member, out: &mut Writer)
     match member {
         Member::Var(v) => {
             v.print(out);
-            out.put(Word::Semicolon)
+            out.put(Word::Semicolon);
         }
         Member::Function(f) => print_function(f, out),
         Member::Procedure(p) => print_procedure(p, out),

@@ -65,12 +65,9 @@ pub(crate) fn print_introduced<T: Part>(word: Word, parts: &[T], out: &mut Write
 pub(crate) fn print_label<T: Part>(part: &Option<T>, out: &mut Writer)
     ensures { Writes out.old (label (optional (option_map T.tree part.now))) out.new }
 {
-    match part {
-        Some(part) => {
-            part.print(out);
-            out.put(Word::Colon);
-        }
-        None => {}
+    if let Some(part) = part {
+        part.print(out);
+        out.put(Word::Colon);
     }
 }
 
@@ -78,11 +75,8 @@ pub(crate) fn print_label<T: Part>(part: &Option<T>, out: &mut Writer)
 pub(crate) fn print_under(word: Word, e: &Option<Expr>, out: &mut Writer)
     ensures { Writes out.old (under (lexeme_of word) (optional_expr e.now)) out.new }
 {
-    match e {
-        Some(e) => {
-            out.put(word);
-            print_expr(e, out)
-        }
-        None => {}
+    if let Some(e) = e {
+        out.put(word);
+        print_expr(e, out);
     }
 }

@@ -73,12 +73,9 @@ pub(crate) fn print_stmts(stmts: &[Stmt], out: &mut Writer)
 pub(crate) fn print_body(word: Word, body: &Option<Vec<Stmt>>, out: &mut Writer)
     ensures { Writes out.old (under (lexeme_of word) (body_tree body.now)) out.new }
 {
-    match body {
-        Some(stmts) => {
-            out.put(word);
-            print_stmts(stmts, out)
-        }
-        None => {}
+    if let Some(stmts) = body {
+        out.put(word);
+        print_stmts(stmts, out);
     }
 }
 

@@ -12,8 +12,8 @@ use rvc_base::Memory;
 use std::alloc::Global;
 use std::marker::Model;
 
-/// A text that grows by tokens. Once memory ran out it grows no more, and there is no text: so who prints need not ask
-/// behind each token. Contracts see its bytes, or none once memory ran out.
+/// A text that grows by tokens. Once memory ran out it grows no more, so a caller need not ask behind each token.
+/// Contracts see its bytes, or none once memory ran out.
 #[derive(Drop)]
 pub(crate) struct Writer {
     text: Vec<u8>,

@@ -1,9 +1,8 @@
-use Rattle.std.proofs.Common.{[], ◌∷◌, ◌++◌, map, option_map, ap, sym, ◌∙◌}
+use Rattle.std.proofs.Common.{◌∷◌, map, option_map, sym}
 use Rattle.cal_ast.specs.Tree.{listed}
 use Rattle.cal_ast.specs.View.{body_tree, expr_tree, optional, output_tree, pattern_tree, tag_tree, var_tree}
 use Rattle.cal_lexer.specs.Lexeme.{Lexeme}
-use Rattle.cal_print.specs.Canon.{joined, label, under, where_any}
-use Rattle.cal_print.specs.Inputs.{input_words}
+use Rattle.cal_print.specs.Canon.{joined, where_any}
 use Rattle.cal_print.proofs.Texts.{then, reword}
 use Rattle.cal_print.proofs.Pieces.{said_of, action_words}
 use Rattle.cal_print.proofs.action.print_action.Goals as goal

@@ -1,9 +1,8 @@
-use Rattle.std.proofs.Common.{rules, ◌≡◌, [], ◌∷◌, ◌++◌, map, ap, sym, ◌∙◌}
+use Rattle.std.proofs.Common.{rules, ◌≡◌, [], ◌∷◌, ◌++◌, map, ap, sym}
 use Rattle.cal_ast.specs.Tree.{listed, if_expr, comp, index, prefix, binary, gen}
 use Rattle.cal_ast.specs.View.{expr_tree, gen_tree, type_tree, type_arg_tree, ident_tree}
 use Rattle.cal_lexer.specs.Lexeme.{Lexeme}
-use Rattle.cal_print.specs.Canon.{words, joined, following, paired, is_loose, word_of_prefix, word_of_binary}
-use Rattle.cal_lexer.specs.Words.{lexeme_of}
+use Rattle.cal_print.specs.Canon.{words, joined, following}
 use Rattle.cal_print.proofs.Texts.{then, reword, as_tree}
 use Rattle.cal_print.proofs.Loops.{following_more, loop_step, joined_all, where_some}
 use Rattle.cal_print.proofs.Forms.{gen_is, expr_if, expr_comp, expr_index, expr_prefix, expr_binary}

@@ -1,7 +1,6 @@
-use Rattle.std.proofs.Common.{[], ◌∷◌, ◌++◌, option_map, sym, ap, ◌∙◌}
+use Rattle.std.proofs.Common.{option_map, sym, ap}
 use Rattle.cal_ast.specs.View.{optional, tag_tree}
-use Rattle.cal_lexer.specs.Lexeme.{Lexeme}
-use Rattle.cal_print.specs.Canon.{packaged, words}
+use Rattle.cal_print.specs.Canon.{packaged}
 use Rattle.cal_print.proofs.Texts.{then, reword}
 use Rattle.cal_print.proofs.file.print_package.Goals as goal
 

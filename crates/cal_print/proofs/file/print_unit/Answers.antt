@@ -1,7 +1,5 @@
-use Rattle.std.proofs.Common.{[], ◌∷◌}
-use Rattle.cal_ast.specs.View.{ident_tree, member_tree}
-use Rattle.cal_lexer.specs.Lexeme.{Lexeme}
-use Rattle.cal_print.specs.Canon.{words, each_member}
+use Rattle.cal_ast.specs.View.{member_tree}
+use Rattle.cal_print.specs.Canon.{each_member}
 use Rattle.cal_print.proofs.Texts.{then}
 use Rattle.cal_print.proofs.Pieces.{said_of}
 use Rattle.cal_print.proofs.file.print_unit.Goals as goal

@@ -1,6 +1,5 @@
-use Rattle.std.proofs.Common.{option_map}
-use Rattle.cal_ast.specs.View.{file_body_tree, import_tree, optional, tag_tree}
-use Rattle.cal_print.specs.Canon.{packaged, words}
+use Rattle.cal_ast.specs.View.{import_tree}
+use Rattle.cal_print.specs.Canon.{words}
 use Rattle.cal_print.proofs.Texts.{then}
 use Rattle.cal_print.proofs.Pieces.{said_of}
 use Rattle.cal_print.proofs.file.print_whole.Goals as goal

@@ -1,7 +1,7 @@
-use Rattle.std.proofs.Common.{[], ◌∷◌}
-use Rattle.cal_ast.specs.View.{expr_tree, ident_tree, port_tree, type_tree, var_tree}
+use Rattle.std.proofs.Common.{◌∷◌}
+use Rattle.cal_ast.specs.View.{port_tree, var_tree}
 use Rattle.cal_lexer.specs.Lexeme.{Lexeme}
-use Rattle.cal_print.specs.Canon.{words, joined, where_any}
+use Rattle.cal_print.specs.Canon.{joined, where_any}
 use Rattle.cal_print.proofs.Texts.{then}
 use Rattle.cal_print.proofs.Pieces.{said_of}
 use Rattle.cal_print.proofs.member.print_function.Goals as goal

@@ -1,7 +1,3 @@
-use Rattle.std.proofs.Common.{[], ◌∷◌}
-use Rattle.cal_ast.specs.View.{var_tree}
-use Rattle.cal_lexer.specs.Lexeme.{Lexeme}
-use Rattle.cal_print.specs.Canon.{words}
 use Rattle.cal_print.proofs.Texts.{then}
 use Rattle.cal_print.proofs.Pieces.{one_var, one_function, one_procedure, one_action, one_schedule, one_priority}
 use Rattle.cal_print.proofs.member.print_member.Goals as goal

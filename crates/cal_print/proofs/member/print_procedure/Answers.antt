@@ -1,5 +1,5 @@
-use Rattle.std.proofs.Common.{[], ◌∷◌}
-use Rattle.cal_ast.specs.View.{ident_tree, port_tree, stmt_tree, var_tree}
+use Rattle.std.proofs.Common.{◌∷◌}
+use Rattle.cal_ast.specs.View.{port_tree, stmt_tree, var_tree}
 use Rattle.cal_lexer.specs.Lexeme.{Lexeme}
 use Rattle.cal_print.specs.Canon.{words, joined, where_any}
 use Rattle.cal_print.proofs.Texts.{then}

@@ -1,4 +1,4 @@
-use Rattle.std.proofs.Common.{rules, ◌≡◌, [], ◌∷◌, map}
+use Rattle.std.proofs.Common.{rules, ◌≡◌, ◌∷◌, map}
 use Rattle.cal_print.specs.Canon.{words, following}
 use Rattle.cal_lexer.specs.Words.{lexeme_of}
 use Rattle.cal_print.proofs.Texts.{then}

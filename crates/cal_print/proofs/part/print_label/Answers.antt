@@ -1,7 +1,6 @@
-use Rattle.std.proofs.Common.{[], ◌∷◌, ◌++◌, option_map, sym, ap, ◌∙◌}
+use Rattle.std.proofs.Common.{option_map, sym, ap}
 use Rattle.cal_ast.specs.View.{optional}
-use Rattle.cal_lexer.specs.Lexeme.{Lexeme}
-use Rattle.cal_print.specs.Canon.{words, label}
+use Rattle.cal_print.specs.Canon.{label}
 use Rattle.cal_print.proofs.Texts.{then, reword}
 use Rattle.cal_print.proofs.part.print_label.Goals as goal
 

@@ -2,7 +2,7 @@ use Rattle.std.proofs.Common.{[], ◌∷◌, ◌++◌, map}
 use Rattle.cal_ast.specs.Tree.{listed, if_stmt, while_stmt, foreach_stmt, block}
 use Rattle.cal_ast.specs.View.{expr_tree, type_tree, ident_tree, stmt_tree, var_tree, body_tree}
 use Rattle.cal_lexer.specs.Lexeme.{Lexeme}
-use Rattle.cal_print.specs.Canon.{words, joined, where_any, under}
+use Rattle.cal_print.specs.Canon.{words, under}
 use Rattle.cal_print.proofs.Texts.{then, as_tree}
 use Rattle.cal_print.proofs.Between.{between_then, head_then}
 use Rattle.cal_print.proofs.Loops.{words_more, loop_step}

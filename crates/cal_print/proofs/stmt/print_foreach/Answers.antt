@@ -1,5 +1,5 @@
 use Rattle.std.proofs.Common.{[], ◌∷◌, ◌++◌}
-use Rattle.cal_ast.specs.View.{expr_tree, type_tree, ident_tree}
+use Rattle.cal_ast.specs.View.{expr_tree}
 use Rattle.cal_lexer.specs.Lexeme.{Lexeme}
 use Rattle.cal_print.specs.Canon.{words}
 use Rattle.cal_print.proofs.Texts.{then}

@@ -1,7 +1,6 @@
-use Rattle.std.proofs.Common.{[], ◌∷◌}
-use Rattle.cal_ast.specs.View.{ident_tree, tag_tree}
+use Rattle.cal_ast.specs.View.{tag_tree}
 use Rattle.cal_lexer.specs.Lexeme.{Lexeme}
-use Rattle.cal_print.specs.Canon.{words, joined}
+use Rattle.cal_print.specs.Canon.{joined}
 use Rattle.cal_print.proofs.Texts.{then}
 use Rattle.cal_print.proofs.Pieces.{said_of}
 use Rattle.cal_print.proofs.action.MovePart.print.Goals as goal

@@ -1,4 +1,4 @@
-use Rattle.std.proofs.Common.{[], ◌∷◌, ◌++◌, map, option_map, ap, append_assoc, ◌∙◌}
+use Rattle.std.proofs.Common.{[], ◌∷◌, ◌++◌, map, option_map, ap, append_assoc}
 use Rattle.cal_ast.specs.Tree.{listed}
 use Rattle.cal_ast.specs.View.{expr_tree, ident_tree, optional, optional_expr}
 use Rattle.cal_lexer.specs.Lexeme.{Lexeme}

@@ -1,7 +1,6 @@
-use Rattle.std.proofs.Common.{[], ◌∷◌, option_map}
-use Rattle.cal_ast.specs.View.{ident_tree, optional, optional_expr}
+use Rattle.cal_ast.specs.View.{ident_tree}
 use Rattle.cal_lexer.specs.Lexeme.{Lexeme}
-use Rattle.cal_print.specs.Canon.{joined, label, under}
+use Rattle.cal_print.specs.Canon.{joined}
 use Rattle.cal_print.proofs.Texts.{then}
 use Rattle.cal_print.proofs.Pieces.{said_of}
 use Rattle.cal_print.proofs.action.PatternPart.print.Goals as goal

@@ -1,7 +1,5 @@
-use Rattle.std.proofs.Common.{[], ◌∷◌, option_map}
-use Rattle.cal_ast.specs.View.{ident_tree, optional}
-use Rattle.cal_lexer.specs.Lexeme.{Lexeme}
-use Rattle.cal_print.specs.Canon.{dotted, last_name}
+use Rattle.cal_ast.specs.View.{ident_tree}
+use Rattle.cal_print.specs.Canon.{dotted}
 use Rattle.cal_print.proofs.Texts.{then}
 use Rattle.cal_print.proofs.Pieces.{said_of}
 use Rattle.cal_print.proofs.file.ImportPart.print.Goals as goal

@@ -1,6 +1,4 @@
-use Rattle.cal_ast.specs.View.{ident_tree, type_tree}
 use Rattle.cal_lexer.specs.Lexeme.{Lexeme}
-use Rattle.cal_print.specs.Canon.{words}
 use Rattle.cal_print.proofs.Texts.{then}
 use Rattle.cal_print.proofs.Pieces.{said_start}
 use Rattle.cal_print.proofs.member.ParamPart.print.Goals as goal

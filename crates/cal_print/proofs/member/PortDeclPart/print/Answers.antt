@@ -1,5 +1,3 @@
-use Rattle.cal_ast.specs.View.{ident_tree, type_tree}
-use Rattle.cal_print.specs.Canon.{words}
 use Rattle.cal_print.proofs.Texts.{then}
 use Rattle.cal_print.proofs.member.PortDeclPart.print.Goals as goal
 
