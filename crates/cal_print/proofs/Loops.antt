@@ -1,5 +1,5 @@
 -- Loops over lists of parts.
-use Rattle.std.proofs.Common.{◌≡◌, ℕ, ◌+◌, ◌<◌, ◌≤◌, List, [], ◌∷◌, ◌++◌, map, take, get_or, length, suc, refl, ap, append_assoc, append-nil, sym, ◌∙◌, arith}
+use Rattle.std.proofs.Common.{◌≡◌, ℕ, ◌+◌, ◌<◌, ◌≤◌, List, [], ◌∷◌, ◌++◌, Option, map, take, get_or, length, suc, refl, ap, append_assoc, append-nil, sym, ◌∙◌, arith}
 use Rattle.std.proofs.Math.Seq.{take-suc}
 use Rattle.std.proofs.lemmas.List.{take_all, map-append}
 use Rattle.cal_ast.specs.Tree.{Tree, listed, nil, cons}
@@ -8,8 +8,8 @@ use Rattle.cal_ast.specs.declared.member.Member.{Member}
 use Rattle.cal_ast.specs.declared.member.Member.TheVariants as members
 use Rattle.cal_lexer.specs.Lexeme.{Lexeme}
 use Rattle.cal_print.specs.Canon.{words, joined, following, dotted, each_place, each_chain, each_member, where_any}
-use Rattle.cal_print.specs.Spelling.{text_of}
-use Rattle.cal_print.proofs.Texts.{said, then}
+use Rattle.cal_print.specs.Writes.{Writes}
+use Rattle.cal_print.proofs.Texts.{then, reword}
 
 -- One part more at the end of a list
 
@@ -41,24 +41,22 @@ take_more xs x i small is =
     ap (λ k. take k xs) next ∙ take-suc xs i x small ∙ ap (λ y. take i xs ++ (y ∷ [])) (sym is)
 
 -- a turn of a loop that prints one part more
-pub loop_step : {X : Type 0} (f : X → Tree) (F : Tree → List Lexeme) (step : Tree → List Lexeme) (more : (ys : List X) (y : X) → F (listed (map f ys ++ f y ∷ [])) ≡ F (listed (map f ys)) ++ step (f y))
-    (old a new : List ℕ) (xs : List X) (x : X) (i : ℕ) → i < length xs → x ≡ get_or xs i x
-    → a ≡ old ++ text_of (F (listed (map f (take i xs)))) → new ≡ a ++ text_of (step (f x)) → new ≡ old ++ text_of (F (listed (map f (take (i + 1) xs))))
-loop_step f F step more old a new xs x i small is before now =
-    (then (said (F (listed (map f (take i xs)))) before) (said (step (f x)) now)).is
-    ∙ ap (λ ws. old ++ text_of ws) (sym (more (take i xs) x) ∙ ap (λ ts. F (listed ts)) (sym (map-append f (take i xs) (x ∷ [])) ∙ ap (map f) (sym (take_more xs x i small is))))
+pub loop_step : {X : Type 0} {old a new : Option (List ℕ)} (f : X → Tree) (F : Tree → List Lexeme) (step : Tree → List Lexeme) (more : (ys : List X) (y : X) → F (listed (map f ys ++ f y ∷ [])) ≡ F (listed (map f ys)) ++ step (f y))
+    (xs : List X) (x : X) (i : ℕ) → i < length xs → x ≡ get_or xs i x
+    → Writes old (F (listed (map f (take i xs)))) a → Writes a (step (f x)) new → Writes old (F (listed (map f (take (i + 1) xs)))) new
+loop_step f F step more xs x i small is before now =
+    reword (then before now) (sym (more (take i xs) x) ∙ ap (λ ts. F (listed ts)) (sym (map-append f (take i xs) (x ∷ [])) ∙ ap (map f) (sym (take_more xs x i small is))))
 
 -- the end of a loop over all parts
-pub loop_all : {X : Type 0} (f : X → Tree) (F : Tree → List Lexeme) (old new : List ℕ) (xs : List X) (i : ℕ) → length xs ≤ i
-    → new ≡ old ++ text_of (F (listed (map f (take i xs)))) → new ≡ old ++ text_of (F (listed (map f xs)))
-loop_all f F old new xs i large h = h ∙ ap (λ ys. old ++ text_of (F (listed (map f ys)))) (take_all i xs large)
+pub loop_all : {X : Type 0} {old new : Option (List ℕ)} (f : X → Tree) (F : Tree → List Lexeme) (xs : List X) (i : ℕ) → length xs ≤ i
+    → Writes old (F (listed (map f (take i xs)))) new → Writes old (F (listed (map f xs))) new
+loop_all f F xs i large h = reword h (ap (λ ys. F (listed (map f ys))) (take_all i xs large))
 
 -- the first part, and then the others with a mark before each
-pub joined_all : {X : Type 0} (f : X → Tree) (mark : Lexeme) (old a new : List ℕ) (all : List X) (x : X) (xs : List X) (i : ℕ) → all ≡ x ∷ xs → length xs ≤ i
-    → a ≡ old ++ text_of (words (f x)) → new ≡ a ++ text_of (following mark (listed (map f (take i xs)))) → new ≡ old ++ text_of (joined mark (listed (map f all)))
-joined_all f mark old a new all x xs i split large first others =
-    (then (said (words (f x)) first) (said (following mark (listed (map f xs))) (loop_all f (following mark) a new xs i large others))).is
-    ∙ ap (λ ys. old ++ text_of (joined mark (listed (map f ys)))) (sym split)
+pub joined_all : {X : Type 0} {old a new : Option (List ℕ)} (f : X → Tree) (mark : Lexeme) (all : List X) (x : X) (xs : List X) (i : ℕ) → all ≡ x ∷ xs → length xs ≤ i
+    → Writes old (words (f x)) a → Writes a (following mark (listed (map f (take i xs)))) new → Writes old (joined mark (listed (map f all))) new
+joined_all f mark all x xs i split large first others =
+    reword (then first (loop_all f (following mark) xs i large others)) (ap (λ ys. joined mark (listed (map f ys))) (sym split))
 
 -- if there are parts, what introduces them stands
 pub where_some : {X : Type 0} (f : X → Tree) (all : List X) (x : X) (xs : List X) (ws : List Lexeme) → all ≡ x ∷ xs → where_any (listed (map f all)) ws ≡ ws

@@ -1,3 +1,4 @@
 pub mod Spelling
 pub mod Canon
 pub mod Inputs
+pub mod Writes

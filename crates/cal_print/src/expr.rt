@@ -1,11 +1,11 @@
 //! Expressions, types and generators.
 
-ghost use Rattle.std.specs.Prelude.{◌≡◌, ◌++◌, ◌∷◌, [], IfOk, map};
+ghost use Rattle.std.specs.Prelude.{◌++◌, ◌∷◌, [], map};
 ghost use Rattle.cal_ast.specs.Tree.{listed};
 ghost use Rattle.cal_ast.specs.View.{expr_tree, gen_tree, type_tree, type_arg_tree};
 ghost use Rattle.cal_lexer.specs.Lexeme.{Lexeme};
 ghost use Rattle.cal_print.specs.Canon.{words, joined, is_loose, paired, where_any};
-ghost use Rattle.cal_print.specs.Spelling.{text_of};
+ghost use Rattle.cal_print.specs.Writes.{Writes};
 ghost use Rattle.cal_lexer.specs.Words.{lexeme_of};
 
 use crate::name::print_ident;
@@ -14,12 +14,11 @@ use crate::part::Part;
 use crate::writer::Writer;
 use cal_ast::{Expr, ExprForm, Gen, TypeArg, TypeExpr};
 use cal_lexer::Word;
-use rvc_base::Memory;
 
 /// Prints an expression.
 #[cycle(print_expr)]
-pub(crate) fn print_expr(e: &Expr, out: &mut Writer) -> Result<(), Memory>
-    ensures { IfOk result (λ _. out.new ≡ out.old ++ text_of (words (expr_tree e.now))) }
+pub(crate) fn print_expr(e: &Expr, out: &mut Writer)
+    ensures { Writes out.old (words (expr_tree e.now)) out.new }
 {
     match &e.form {
         ExprForm::Number(value) => out.put_number(*value),
@@ -27,54 +26,47 @@ pub(crate) fn print_expr(e: &Expr, out: &mut Writer) -> Result<(), Memory>
         ExprForm::Bool(false) => out.put(Word::False),
         ExprForm::Name(text) => out.put_name(text.as_str()),
         ExprForm::Call { name, args } => {
-            out.put_name(name.as_str())?;
-            print_listed(Word::LeftParen, args, Word::RightParen, out)?;
-            Ok(())
+            out.put_name(name.as_str());
+            print_listed(Word::LeftParen, args, Word::RightParen, out);
         }
         ExprForm::Paren(inner) => print_between(Word::LeftParen, inner, Word::RightParen, out),
         ExprForm::If { test, yes, no } => {
-            out.put(Word::If)?;
-            print_expr(test, out)?;
-            out.put(Word::Then)?;
-            print_expr(yes, out)?;
-            out.put(Word::Else)?;
-            print_expr(no, out)?;
-            out.put(Word::End)?;
-            Ok(())
+            out.put(Word::If);
+            print_expr(test, out);
+            out.put(Word::Then);
+            print_expr(yes, out);
+            out.put(Word::Else);
+            print_expr(no, out);
+            out.put(Word::End);
         }
         ExprForm::List(items) => print_listed(Word::LeftBracket, items, Word::RightBracket, out),
         ExprForm::Comp { item, gens } => {
-            out.put(Word::LeftBracket)?;
-            print_expr(item, out)?;
-            out.put(Word::Colon)?;
-            print_gens(gens, out)?;
-            out.put(Word::RightBracket)?;
-            Ok(())
+            out.put(Word::LeftBracket);
+            print_expr(item, out);
+            out.put(Word::Colon);
+            print_gens(gens, out);
+            out.put(Word::RightBracket);
         }
         ExprForm::Index { base, place } => {
-            print_operand(base, out)?;
-            print_between(Word::LeftBracket, place, Word::RightBracket, out)?;
-            Ok(())
+            print_operand(base, out);
+            print_between(Word::LeftBracket, place, Word::RightBracket, out);
         }
         ExprForm::Prefix { op, of } => {
-            out.put(prefix_word(*op))?;
-            print_operand(of, out)?;
-            Ok(())
+            out.put(prefix_word(*op));
+            print_operand(of, out);
         }
         ExprForm::Binary { op, left, right } => {
-            print_operand(left, out)?;
-            out.put(binary_word(*op))?;
-            print_operand(right, out)?;
-            Ok(())
+            print_operand(left, out);
+            out.put(binary_word(*op));
+            print_operand(right, out);
         }
     }
 }
 
 /// Prints an operand or the base of an index, in parentheses if it is an operation or an `if`.
 #[cycle(print_expr)]
-fn print_operand(e: &Expr, out: &mut Writer) -> Result<(), Memory>
-    ensures { IfOk result (λ _. out.new
-        ≡ out.old ++ text_of (paired (is_loose (expr_tree e.now)) (words (expr_tree e.now)))) }
+fn print_operand(e: &Expr, out: &mut Writer)
+    ensures { Writes out.old (paired (is_loose (expr_tree e.now)) (words (expr_tree e.now))) out.new }
 {
     if stands_in_parens(e) {
         print_between(Word::LeftParen, e, Word::RightParen, out)
@@ -85,135 +77,113 @@ fn print_operand(e: &Expr, out: &mut Writer) -> Result<(), Memory>
 
 /// Prints an expression between two words.
 #[cycle(print_expr)]
-pub(crate) fn print_between(
-    opening: Word,
-    e: &Expr,
-    closing: Word,
-    out: &mut Writer,
-) -> Result<(), Memory>
-    ensures { IfOk result (λ _. out.new
-        ≡ out.old ++ text_of (lexeme_of opening ∷ words (expr_tree e.now) ++
-        (lexeme_of closing ∷ []))) }
+pub(crate) fn print_between(opening: Word, e: &Expr, closing: Word, out: &mut Writer)
+    ensures { Writes out.old (lexeme_of opening ∷ words (expr_tree e.now) ++
+        (lexeme_of closing ∷ [])) out.new }
 {
-    out.put(opening)?;
-    print_expr(e, out)?;
-    out.put(closing)?;
-    Ok(())
+    out.put(opening);
+    print_expr(e, out);
+    out.put(closing);
 }
 
 /// Prints expressions between two words, with a comma between each two expressions.
 #[cycle(print_expr)]
-pub(crate) fn print_listed(
-    opening: Word,
-    exprs: &[Expr],
-    closing: Word,
-    out: &mut Writer,
-) -> Result<(), Memory>
-    ensures { IfOk result (λ _. out.new
-        ≡ out.old ++ text_of (lexeme_of opening ∷ joined Lexeme.Comma
-        (listed (map expr_tree exprs.now)) ++ (lexeme_of closing ∷ []))) }
+pub(crate) fn print_listed(opening: Word, exprs: &[Expr], closing: Word, out: &mut Writer)
+    ensures { Writes out.old (lexeme_of opening ∷ joined Lexeme.Comma
+        (listed (map expr_tree exprs.now)) ++ (lexeme_of closing ∷ [])) out.new }
 {
-    out.put(opening)?;
-    print_exprs(exprs, out)?;
-    out.put(closing)?;
-    Ok(())
+    out.put(opening);
+    print_exprs(exprs, out);
+    out.put(closing);
 }
 
 /// Prints expressions with a comma between each two.
 #[cycle(print_expr)]
-pub(crate) fn print_exprs(exprs: &[Expr], out: &mut Writer) -> Result<(), Memory>
-    ensures { IfOk result (λ _. out.new
-        ≡ out.old ++ text_of (joined Lexeme.Comma (listed (map expr_tree exprs.now)))) }
+pub(crate) fn print_exprs(exprs: &[Expr], out: &mut Writer)
+    ensures { Writes out.old (joined Lexeme.Comma (listed (map expr_tree exprs.now))) out.new }
 {
     let Some((first, others)) = exprs.split_first() else {
-        return Ok(());
+        return;
     };
-    print_expr(first, out)?;
+    print_expr(first, out);
     for e in others {
-        out.put(Word::Comma)?;
-        print_expr(e, out)?;
+        out.put(Word::Comma);
+        print_expr(e, out);
     }
-    Ok(())
 }
 
 /// Prints generators with a comma between each two.
 #[cycle(print_expr)]
-fn print_gens(gens: &[Gen], out: &mut Writer) -> Result<(), Memory>
-    ensures { IfOk result (λ _. out.new
-        ≡ out.old ++ text_of (joined Lexeme.Comma (listed (map gen_tree gens.now)))) }
+fn print_gens(gens: &[Gen], out: &mut Writer)
+    ensures { Writes out.old (joined Lexeme.Comma (listed (map gen_tree gens.now))) out.new }
 {
     let Some((first, others)) = gens.split_first() else {
-        return Ok(());
+        return;
     };
-    print_gen(first, out)?;
+    print_gen(first, out);
     for generator in others {
-        out.put(Word::Comma)?;
-        print_gen(generator, out)?;
+        out.put(Word::Comma);
+        print_gen(generator, out);
     }
-    Ok(())
 }
 
 /// Prints `for shape name in from .. to`.
 #[cycle(print_expr)]
-fn print_gen(generator: &Gen, out: &mut Writer) -> Result<(), Memory>
-    ensures { IfOk result (λ _. out.new ≡ out.old ++ text_of (words (gen_tree generator.now))) }
+fn print_gen(generator: &Gen, out: &mut Writer)
+    ensures { Writes out.old (words (gen_tree generator.now)) out.new }
 {
-    out.put(Word::For)?;
-    print_type(&generator.shape, out)?;
-    print_ident(&generator.name, out)?;
-    out.put(Word::In)?;
-    print_expr(&generator.from, out)?;
-    out.put(Word::DotDot)?;
-    print_expr(&generator.to, out)?;
-    Ok(())
+    out.put(Word::For);
+    print_type(&generator.shape, out);
+    print_ident(&generator.name, out);
+    out.put(Word::In);
+    print_expr(&generator.from, out);
+    out.put(Word::DotDot);
+    print_expr(&generator.to, out);
 }
 
 /// Prints a type.
 #[cycle(print_expr)]
-pub(crate) fn print_type(shape: &TypeExpr, out: &mut Writer) -> Result<(), Memory>
-    ensures { IfOk result (λ _. out.new ≡ out.old ++ text_of (words (type_tree shape.now))) }
+pub(crate) fn print_type(shape: &TypeExpr, out: &mut Writer)
+    ensures { Writes out.old (words (type_tree shape.now)) out.new }
 {
-    print_ident(&shape.name, out)?;
-    print_type_args(&shape.args, out)?;
-    Ok(())
+    print_ident(&shape.name, out);
+    print_type_args(&shape.args, out);
 }
 
 /// Prints the arguments of a type in parentheses, with a comma between each two, or nothing if there are none.
 #[cycle(print_expr)]
-fn print_type_args(args: &[TypeArg], out: &mut Writer) -> Result<(), Memory>
-    ensures { IfOk result (λ _. out.new
-        ≡ out.old ++ text_of (where_any (listed (map type_arg_tree args.now))
+fn print_type_args(args: &[TypeArg], out: &mut Writer)
+    ensures { Writes out.old (where_any (listed (map type_arg_tree args.now))
         (Lexeme.LeftParen ∷ joined Lexeme.Comma (listed (map type_arg_tree args.now)) ++
-        (Lexeme.RightParen ∷ [])))) }
+        (Lexeme.RightParen ∷ []))) out.new }
 {
     let Some((first, others)) = args.split_first() else {
-        return Ok(());
+        return;
     };
-    out.put(Word::LeftParen)?;
-    print_type_arg(first, out)?;
+    out.put(Word::LeftParen);
+    print_type_arg(first, out);
     for arg in others {
-        out.put(Word::Comma)?;
-        print_type_arg(arg, out)?;
+        out.put(Word::Comma);
+        print_type_arg(arg, out);
     }
-    out.put(Word::RightParen)?;
-    Ok(())
+    out.put(Word::RightParen);
 }
 
 /// Prints `name : shape` or `name = value`.
 #[cycle(print_expr)]
-fn print_type_arg(arg: &TypeArg, out: &mut Writer) -> Result<(), Memory>
-    ensures { IfOk result (λ _. out.new ≡ out.old ++ text_of (words (type_arg_tree arg.now))) }
+fn print_type_arg(arg: &TypeArg, out: &mut Writer)
+    ensures { Writes out.old (words (type_arg_tree arg.now)) out.new }
 {
     match arg {
         TypeArg::Shape { name, shape } => {
-            print_ident(name, out)?;
-            out.put(Word::Colon)?;
-            print_type(shape, out)
+            print_ident(name, out);
+            out.put(Word::Colon);
+            print_type(shape, out);
         }
         TypeArg::Value { name, value } => {
-            print_ident(name, out)?;
-            out.put(Word::Equal)?;
-            print_expr(value, out)
+            print_ident(name, out);
+            out.put(Word::Equal);
+            print_expr(value, out);
         }
     }
 }
@@ -221,7 +191,7 @@ fn print_type_arg(arg: &TypeArg, out: &mut Writer) -> Result<(), Memory>
 impl Part for Expr {
     ghost tree = { expr_tree };
 
-    fn print(&self, out: &mut Writer) -> Result<(), Memory> {
+    fn print(&self, out: &mut Writer) {
         print_expr(self, out)
     }
 }

@@ -1,10 +1,10 @@
 //! Files: the package, the imports, and an actor or a unit.
 
-ghost use Rattle.std.specs.Prelude.{◌≡◌, ◌++◌, IfOk, map, option_map};
+ghost use Rattle.std.specs.Prelude.{◌≡◌, IfOk, map, option_map};
 ghost use Rattle.cal_ast.specs.Tree.{listed};
 ghost use Rattle.cal_ast.specs.View.{actor_tree, file_body_tree, file_tree, ident_tree, import_tree, optional, tag_tree, unit_tree};
 ghost use Rattle.cal_print.specs.Canon.{canon, words, dotted, last_name, packaged};
-ghost use Rattle.cal_print.specs.Spelling.{text_of};
+ghost use Rattle.cal_print.specs.Writes.{Writes};
 
 use crate::member::print_members;
 use crate::name::{print_ident, print_tag};
@@ -42,63 +42,54 @@ pub fn print_file(alloc: Global, file: &File) -> Result<Vec<u8>, Memory>
     ensures { IfOk result (λ text. text.items ≡ canon (file_tree file.now)) }
 {
     let mut out = Writer::new(alloc);
-    print_whole(file, &mut out)?;
-    Ok(out.into_bytes())
+    print_whole(file, &mut out);
+    out.into_bytes()
 }
 
 /// Prints a file.
-fn print_whole(file: &File, out: &mut Writer) -> Result<(), Memory>
-    ensures { IfOk result (λ _. out.new ≡ out.old ++ text_of (words (file_tree file.now))) }
+fn print_whole(file: &File, out: &mut Writer)
+    ensures { Writes out.old (words (file_tree file.now)) out.new }
 {
-    print_package(&file.package, out)?;
-    print_each(&file.imports, out)?;
-    print_body(&file.body, out)?;
-    Ok(())
+    print_package(&file.package, out);
+    print_each(&file.imports, out);
+    print_body(&file.body, out);
 }
 
 /// Prints `package tag ;`, or nothing if the file has no package.
-fn print_package(named: &Option<Tag>, out: &mut Writer) -> Result<(), Memory>
-    ensures { IfOk result (λ _. out.new
-        ≡ out.old ++ text_of (packaged (optional (option_map tag_tree named.now)))) }
+fn print_package(named: &Option<Tag>, out: &mut Writer)
+    ensures { Writes out.old (packaged (optional (option_map tag_tree named.now))) out.new }
 {
-    match named {
-        Some(tag) => {
-            out.put(Word::Package)?;
-            print_tag(tag, out)?;
-            out.put(Word::Semicolon)
-        }
-        None => Ok(()),
+    if let Some(tag) = named {
+        out.put(Word::Package);
+        print_tag(tag, out);
+        out.put(Word::Semicolon);
     }
 }
 
 impl Part for Import {
     ghost tree = { import_tree };
 
-    fn print(&self, out: &mut Writer) -> Result<(), Memory> {
-        out.put(Word::Import)?;
-        print_path(&self.path, out)?;
-        print_last(&self.last, out)?;
-        out.put(Word::Semicolon)?;
-        Ok(())
+    fn print(&self, out: &mut Writer) {
+        out.put(Word::Import);
+        print_path(&self.path, out);
+        print_last(&self.last, out);
+        out.put(Word::Semicolon);
     }
 }
 
 /// Prints names, each with a dot behind it.
-fn print_path(path: &[Ident], out: &mut Writer) -> Result<(), Memory>
-    ensures { IfOk result (λ _. out.new
-        ≡ out.old ++ text_of (dotted (listed (map ident_tree path.now)))) }
+fn print_path(path: &[Ident], out: &mut Writer)
+    ensures { Writes out.old (dotted (listed (map ident_tree path.now))) out.new }
 {
     for name in path {
-        print_ident(name, out)?;
-        out.put(Word::Dot)?;
+        print_ident(name, out);
+        out.put(Word::Dot);
     }
-    Ok(())
 }
 
 /// Prints the last name of an import, or `*`.
-fn print_last(last: &Option<Ident>, out: &mut Writer) -> Result<(), Memory>
-    ensures { IfOk result (λ _. out.new
-        ≡ out.old ++ text_of (last_name (optional (option_map ident_tree last.now)))) }
+fn print_last(last: &Option<Ident>, out: &mut Writer)
+    ensures { Writes out.old (last_name (optional (option_map ident_tree last.now))) out.new }
 {
     match last {
         Some(name) => print_ident(name, out),
@@ -107,8 +98,8 @@ fn print_last(last: &Option<Ident>, out: &mut Writer) -> Result<(), Memory>
 }
 
 /// Prints an actor or a unit.
-fn print_body(body: &Body, out: &mut Writer) -> Result<(), Memory>
-    ensures { IfOk result (λ _. out.new ≡ out.old ++ text_of (words (file_body_tree body.now))) }
+fn print_body(body: &Body, out: &mut Writer)
+    ensures { Writes out.old (words (file_body_tree body.now)) out.new }
 {
     match body {
         Body::Actor(a) => print_actor(a, out),
@@ -117,31 +108,29 @@ fn print_body(body: &Body, out: &mut Writer) -> Result<(), Memory>
 }
 
 /// Prints an actor.
-fn print_actor(actor: &Actor, out: &mut Writer) -> Result<(), Memory>
-    ensures { IfOk result (λ _. out.new ≡ out.old ++ text_of (words (actor_tree actor.now))) }
+fn print_actor(actor: &Actor, out: &mut Writer)
+    ensures { Writes out.old (words (actor_tree actor.now)) out.new }
 {
-    out.put(Word::Actor)?;
-    print_ident(&actor.name, out)?;
-    out.put(Word::LeftParen)?;
-    print_joined(&actor.params, Word::Comma, out)?;
-    out.put(Word::RightParen)?;
-    print_joined(&actor.ins, Word::Comma, out)?;
-    out.put(Word::LongDoubleArrow)?;
-    print_joined(&actor.outs, Word::Comma, out)?;
-    out.put(Word::Colon)?;
-    print_members(&actor.members, out)?;
-    out.put(Word::End)?;
-    Ok(())
+    out.put(Word::Actor);
+    print_ident(&actor.name, out);
+    out.put(Word::LeftParen);
+    print_joined(&actor.params, Word::Comma, out);
+    out.put(Word::RightParen);
+    print_joined(&actor.ins, Word::Comma, out);
+    out.put(Word::LongDoubleArrow);
+    print_joined(&actor.outs, Word::Comma, out);
+    out.put(Word::Colon);
+    print_members(&actor.members, out);
+    out.put(Word::End);
 }
 
 /// Prints a unit.
-fn print_unit(unit: &UnitFile, out: &mut Writer) -> Result<(), Memory>
-    ensures { IfOk result (λ _. out.new ≡ out.old ++ text_of (words (unit_tree unit.now))) }
+fn print_unit(unit: &UnitFile, out: &mut Writer)
+    ensures { Writes out.old (words (unit_tree unit.now)) out.new }
 {
-    out.put(Word::Unit)?;
-    print_ident(&unit.name, out)?;
-    out.put(Word::Colon)?;
-    print_members(&unit.members, out)?;
-    out.put(Word::End)?;
-    Ok(())
+    out.put(Word::Unit);
+    print_ident(&unit.name, out);
+    out.put(Word::Colon);
+    print_members(&unit.members, out);
+    out.put(Word::End);
 }

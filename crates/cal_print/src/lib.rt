@@ -1,5 +1,5 @@
 //! The printer: the canonical text of a tree.
-#![tactic(auto)]
+#![tactic(auto, using(crate::proofs::Texts::nothing))]
 
 mod action;
 mod expr;

@@ -1,19 +1,17 @@
 //! Names and dotted names.
 
-ghost use Rattle.std.specs.Prelude.{◌≡◌, ◌++◌, IfOk};
 ghost use Rattle.cal_ast.specs.View.{ident_tree, tag_tree};
 ghost use Rattle.cal_print.specs.Canon.{words};
-ghost use Rattle.cal_print.specs.Spelling.{text_of};
+ghost use Rattle.cal_print.specs.Writes.{Writes};
 
 use crate::part::{Part, print_joined};
 use crate::writer::Writer;
 use cal_ast::{Ident, Tag};
 use cal_lexer::Word;
-use rvc_base::Memory;
 
 /// Prints a name.
-pub(crate) fn print_ident(name: &Ident, out: &mut Writer) -> Result<(), Memory>
-    ensures { IfOk result (λ _. out.new ≡ out.old ++ text_of (words (ident_tree name.now))) }
+pub(crate) fn print_ident(name: &Ident, out: &mut Writer)
+    ensures { Writes out.old (words (ident_tree name.now)) out.new }
 {
     out.put_name(name.text.as_str())
 }
@@ -21,14 +19,14 @@ pub(crate) fn print_ident(name: &Ident, out: &mut Writer) -> Result<(), Memory>
 impl Part for Ident {
     ghost tree = { ident_tree };
 
-    fn print(&self, out: &mut Writer) -> Result<(), Memory> {
+    fn print(&self, out: &mut Writer) {
         print_ident(self, out)
     }
 }
 
 /// Prints a dotted name.
-pub(crate) fn print_tag(tag: &Tag, out: &mut Writer) -> Result<(), Memory>
-    ensures { IfOk result (λ _. out.new ≡ out.old ++ text_of (words (tag_tree tag.now))) }
+pub(crate) fn print_tag(tag: &Tag, out: &mut Writer)
+    ensures { Writes out.old (words (tag_tree tag.now)) out.new }
 {
     print_joined(&tag.parts, Word::Dot, out)
 }
@@ -36,7 +34,7 @@ pub(crate) fn print_tag(tag: &Tag, out: &mut Writer) -> Result<(), Memory>
 impl Part for Tag {
     ghost tree = { tag_tree };
 
-    fn print(&self, out: &mut Writer) -> Result<(), Memory> {
+    fn print(&self, out: &mut Writer) {
         print_tag(self, out)
     }
 }

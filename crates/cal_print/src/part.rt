@@ -1,103 +1,82 @@
 //! Lists of parts, and parts that may be missing.
 
-ghost use Rattle.std.specs.Prelude.{◌≡◌, ◌++◌, ◌∷◌, IfOk, map, option_map};
+ghost use Rattle.std.specs.Prelude.{◌∷◌, map, option_map};
 ghost use Rattle.cal_ast.specs.Tree.{listed};
 ghost use Rattle.cal_ast.specs.View.{optional, optional_expr};
 ghost use Rattle.cal_lexer.specs.Lexeme.{Lexeme};
 ghost use Rattle.cal_print.specs.Canon.{words, joined, where_any, label, under};
-ghost use Rattle.cal_print.specs.Spelling.{text_of};
+ghost use Rattle.cal_print.specs.Writes.{Writes};
 ghost use Rattle.cal_lexer.specs.Words.{lexeme_of};
 
 use crate::expr::print_expr;
 use crate::writer::Writer;
 use cal_ast::Expr;
 use cal_lexer::Word;
-use rvc_base::Memory;
 
 /// A part of a tree, which lists of parts hold.
 pub(crate) trait Part {
-    ghost use Rattle.std.specs.Prelude.{◌≡◌, ◌++◌, IfOk};
     ghost use Rattle.cal_ast.specs.Tree.{Tree};
     ghost use Rattle.cal_print.specs.Canon.{words};
-    ghost use Rattle.cal_print.specs.Spelling.{text_of};
+    ghost use Rattle.cal_print.specs.Writes.{Writes};
 
     ghost tree: { Self → Tree };
 
     /// Prints the part.
-    fn print(&self, out: &mut Writer) -> Result<(), Memory>
-        ensures { IfOk result (λ _. out.new ≡ out.old ++ text_of (words (tree self.now))) };
+    fn print(&self, out: &mut Writer)
+        ensures { Writes out.old (words (tree self.now)) out.new };
 }
 
 /// Prints parts one behind the other.
-pub(crate) fn print_each<T: Part>(parts: &[T], out: &mut Writer) -> Result<(), Memory>
-    ensures { IfOk result (λ _. out.new
-        ≡ out.old ++ text_of (words (listed (map T.tree parts.now)))) }
+pub(crate) fn print_each<T: Part>(parts: &[T], out: &mut Writer)
+    ensures { Writes out.old (words (listed (map T.tree parts.now))) out.new }
 {
     for part in parts {
-        part.print(out)?;
+        part.print(out);
     }
-    Ok(())
 }
 
 /// Prints parts with a mark between each two.
-pub(crate) fn print_joined<T: Part>(parts: &[T], mark: Word, out: &mut Writer) -> Result<(), Memory>
-    ensures { IfOk result (λ _. out.new
-        ≡ out.old ++ text_of (joined (lexeme_of mark) (listed (map T.tree parts.now)))) }
+pub(crate) fn print_joined<T: Part>(parts: &[T], mark: Word, out: &mut Writer)
+    ensures { Writes out.old (joined (lexeme_of mark) (listed (map T.tree parts.now))) out.new }
 {
     let Some((first, others)) = parts.split_first() else {
-        return Ok(());
+        return;
     };
-    first.print(out)?;
+    first.print(out);
     for part in others {
-        out.put(mark)?;
-        part.print(out)?;
+        out.put(mark);
+        part.print(out);
     }
-    Ok(())
 }
 
 /// Prints parts behind a word with a comma between each two, or nothing if there are none.
-pub(crate) fn print_introduced<T: Part>(
-    word: Word,
-    parts: &[T],
-    out: &mut Writer,
-) -> Result<(), Memory>
-    ensures { IfOk result (λ _. out.new
-        ≡ out.old ++ text_of (where_any (listed (map T.tree parts.now))
-        (lexeme_of word ∷ joined Lexeme.Comma (listed (map T.tree parts.now))))) }
+pub(crate) fn print_introduced<T: Part>(word: Word, parts: &[T], out: &mut Writer)
+    ensures { Writes out.old (where_any (listed (map T.tree parts.now))
+        (lexeme_of word ∷ joined Lexeme.Comma (listed (map T.tree parts.now)))) out.new }
 {
     if parts.is_empty() {
-        return Ok(());
+        return;
     }
-    out.put(word)?;
-    print_joined(parts, Word::Comma, out)?;
-    Ok(())
+    out.put(word);
+    print_joined(parts, Word::Comma, out);
 }
 
 /// Prints a part and a colon, or nothing if it is missing.
-pub(crate) fn print_label<T: Part>(part: &Option<T>, out: &mut Writer) -> Result<(), Memory>
-    ensures { IfOk result (λ _. out.new
-        ≡ out.old ++ text_of (label (optional (option_map T.tree part.now)))) }
+pub(crate) fn print_label<T: Part>(part: &Option<T>, out: &mut Writer)
+    ensures { Writes out.old (label (optional (option_map T.tree part.now))) out.new }
 {
-    match part {
-        Some(part) => {
-            part.print(out)?;
-            out.put(Word::Colon)?;
-            Ok(())
-        }
-        None => Ok(()),
+    if let Some(part) = part {
+        part.print(out);
+        out.put(Word::Colon);
     }
 }
 
 /// Prints an expression behind a word, or nothing if it is missing.
-pub(crate) fn print_under(word: Word, e: &Option<Expr>, out: &mut Writer) -> Result<(), Memory>
-    ensures { IfOk result (λ _. out.new
-        ≡ out.old ++ text_of (under (lexeme_of word) (optional_expr e.now))) }
+pub(crate) fn print_under(word: Word, e: &Option<Expr>, out: &mut Writer)
+    ensures { Writes out.old (under (lexeme_of word) (optional_expr e.now)) out.new }
 {
-    match e {
-        Some(e) => {
-            out.put(word)?;
-            print_expr(e, out)
-        }
-        None => Ok(()),
+    if let Some(e) = e {
+        out.put(word);
+        print_expr(e, out);
     }
 }

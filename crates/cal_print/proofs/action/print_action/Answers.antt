@@ -1,11 +1,9 @@
-use Rattle.std.proofs.Common.{[], ◌∷◌, ◌++◌, map, option_map, ap, sym, ◌∙◌}
+use Rattle.std.proofs.Common.{◌∷◌, map, option_map, sym}
 use Rattle.cal_ast.specs.Tree.{listed}
 use Rattle.cal_ast.specs.View.{body_tree, expr_tree, optional, output_tree, pattern_tree, tag_tree, var_tree}
 use Rattle.cal_lexer.specs.Lexeme.{Lexeme}
-use Rattle.cal_print.specs.Canon.{joined, label, under, where_any}
-use Rattle.cal_print.specs.Inputs.{input_words}
-use Rattle.cal_print.specs.Spelling.{text_of}
-use Rattle.cal_print.proofs.Texts.{said, then}
+use Rattle.cal_print.specs.Canon.{joined, where_any}
+use Rattle.cal_print.proofs.Texts.{then, reword}
 use Rattle.cal_print.proofs.Pieces.{said_of, action_words}
 use Rattle.cal_print.proofs.action.print_action.Goals as goal
 
@@ -16,11 +14,11 @@ returns c =
     let outputs = listed (map output_tree c.args.action.now.outputs.items) in
     let guards = listed (map expr_tree c.args.action.now.guards.items) in
     let vars = listed (map var_tree c.args.action.now.vars.items) in
-    (then (said (label name) c.in_ok-print_label.ensures) (then (said (input_words c.args.action.now.initialize patterns) c.in_ok-print_inputs.ensures)
-    (then (said (Lexeme.LongDoubleArrow ∷ []) c.in_ok-put.ensures)
-    (then (then (then (then (said_of output_tree (joined Lexeme.Comma) c.deref.ensures.value c.in_ok-print_joined.ensures)
-    (said_of expr_tree (λ xs. where_any xs (Lexeme.Guard ∷ joined Lexeme.Comma xs)) c.deref-2.ensures.value c.in_ok-print_introduced.ensures))
-    (said_of var_tree (λ xs. where_any xs (Lexeme.Var ∷ joined Lexeme.Comma xs)) c.deref-3.ensures.value c.in_ok-print_introduced-2.ensures))
-    (said (under Lexeme.Do (body_tree c.args.action.now.body)) c.in_ok-print_body.ensures))
-    (said (Lexeme.End ∷ []) c.in_ok-put-2.ensures))))).is
-    ∙ ap (λ ws. c.args.out.now ++ text_of ws) (sym (action_words name c.args.action.now.initialize patterns outputs guards vars (body_tree c.args.action.now.body) c.args.action.now.at))
+    reword (then c.print_label.ensures (then c.print_inputs.ensures
+    (then c.put.ensures
+    (then (then (then (then (said_of output_tree (joined Lexeme.Comma) c.deref.ensures.value c.print_joined.ensures)
+    (said_of expr_tree (λ xs. where_any xs (Lexeme.Guard ∷ joined Lexeme.Comma xs)) c.deref-2.ensures.value c.print_introduced.ensures))
+    (said_of var_tree (λ xs. where_any xs (Lexeme.Var ∷ joined Lexeme.Comma xs)) c.deref-3.ensures.value c.print_introduced-2.ensures))
+    c.print_body.ensures)
+    c.put-2.ensures))))
+    (sym (action_words name c.args.action.now.initialize patterns outputs guards vars (body_tree c.args.action.now.body) c.args.action.now.at))

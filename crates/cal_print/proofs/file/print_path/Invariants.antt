@@ -1,9 +1,9 @@
-use Rattle.std.proofs.Common.{◌≡◌, ◌++◌, map, take}
+use Rattle.std.proofs.Common.{map, take}
 use Rattle.cal_ast.specs.Tree.{listed}
 use Rattle.cal_ast.specs.View.{ident_tree}
 use Rattle.cal_print.specs.Canon.{dotted}
-use Rattle.cal_print.specs.Spelling.{text_of}
+use Rattle.cal_print.specs.Writes.{Writes}
 use Rattle.cal_print.proofs.file.print_path.Given as goal
 
 abbrev pub invariant-loop-name : goal.invariant-loop-name
-invariant-loop-name l = l.out ≡ l.initial.out ++ text_of (dotted (listed (map ident_tree (take l.name-index l.path))))
+invariant-loop-name l = Writes l.initial.out (dotted (listed (map ident_tree (take l.name-index l.path)))) l.out

@@ -1,12 +1,11 @@
-use Rattle.std.proofs.Common.{option_map}
-use Rattle.cal_ast.specs.View.{file_body_tree, import_tree, optional, tag_tree}
-use Rattle.cal_print.specs.Canon.{packaged, words}
-use Rattle.cal_print.proofs.Texts.{said, then}
+use Rattle.cal_ast.specs.View.{import_tree}
+use Rattle.cal_print.specs.Canon.{words}
+use Rattle.cal_print.proofs.Texts.{then}
 use Rattle.cal_print.proofs.Pieces.{said_of}
 use Rattle.cal_print.proofs.file.print_whole.Goals as goal
 
 pub returns : goal.returns
 returns c =
-    (then (then (said (packaged (optional (option_map tag_tree c.args.file.now.package))) c.in_ok-print_package.ensures)
-    (said_of import_tree words c.deref.ensures.value c.in_ok-print_each.ensures))
-    (said (words (file_body_tree c.args.file.now.body)) c.in_ok-print_body.ensures)).is
+    (then (then c.print_package.ensures
+    (said_of import_tree words c.deref.ensures.value c.print_each.ensures))
+    c.print_body.ensures)

@@ -1,8 +1,8 @@
-use Rattle.std.proofs.Common.{◌≡◌, ◌++◌, map, take}
+use Rattle.std.proofs.Common.{map, take}
 use Rattle.cal_ast.specs.Tree.{listed}
 use Rattle.cal_print.specs.Canon.{words}
-use Rattle.cal_print.specs.Spelling.{text_of}
+use Rattle.cal_print.specs.Writes.{Writes}
 use Rattle.cal_print.proofs.part.print_each.Given as goal
 
 abbrev pub invariant-loop-part : goal.invariant-loop-part
-invariant-loop-part g l = l.out ≡ l.initial.out ++ text_of (words (listed (map g.T.Part.tree (take l.part-index l.parts))))
+invariant-loop-part g l = Writes l.initial.out (words (listed (map g.T.Part.tree (take l.part-index l.parts)))) l.out

@@ -1,10 +1,9 @@
-use Rattle.std.proofs.Common.{[], ◌∷◌, ◌++◌, map, option_map, ap, append_assoc, ◌∙◌}
+use Rattle.std.proofs.Common.{[], ◌∷◌, ◌++◌, map, option_map, ap, append_assoc}
 use Rattle.cal_ast.specs.Tree.{listed}
 use Rattle.cal_ast.specs.View.{expr_tree, ident_tree, optional, optional_expr}
 use Rattle.cal_lexer.specs.Lexeme.{Lexeme}
 use Rattle.cal_print.specs.Canon.{joined, label, under}
-use Rattle.cal_print.specs.Spelling.{text_of}
-use Rattle.cal_print.proofs.Texts.{said, then}
+use Rattle.cal_print.proofs.Texts.{then, reword}
 use Rattle.cal_print.proofs.Pieces.{said_of}
 use Rattle.cal_print.proofs.action.OutputPart.print.Goals as goal
 
@@ -13,7 +12,7 @@ returns c =
     let port = label (optional (option_map ident_tree c.args.self.now.port)) in
     let values = joined Lexeme.Comma (listed (map expr_tree c.args.self.now.values.items)) in
     let repeat = under Lexeme.Repeat (optional_expr c.args.self.now.repeat) in
-    (then (said port c.in_ok-print_label.ensures)
-    (then (said_of expr_tree (λ xs. Lexeme.LeftBracket ∷ joined Lexeme.Comma xs ++ (Lexeme.RightBracket ∷ [])) c.deref.ensures.value c.in_ok-print_listed.ensures)
-    (said repeat c.in_ok-print_under.ensures))).is
-    ∙ ap (λ ws. c.args.out.now ++ text_of (port ++ (Lexeme.LeftBracket ∷ ws))) (append_assoc values (Lexeme.RightBracket ∷ []) repeat)
+    reword (then c.print_label.ensures
+    (then (said_of expr_tree (λ xs. Lexeme.LeftBracket ∷ joined Lexeme.Comma xs ++ (Lexeme.RightBracket ∷ [])) c.deref.ensures.value c.print_listed.ensures)
+    c.print_under.ensures))
+    (ap (λ ws. port ++ (Lexeme.LeftBracket ∷ ws)) (append_assoc values (Lexeme.RightBracket ∷ []) repeat))

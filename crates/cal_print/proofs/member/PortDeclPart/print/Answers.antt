@@ -1,7 +1,5 @@
-use Rattle.cal_ast.specs.View.{ident_tree, type_tree}
-use Rattle.cal_print.specs.Canon.{words}
-use Rattle.cal_print.proofs.Texts.{said, then}
+use Rattle.cal_print.proofs.Texts.{then}
 use Rattle.cal_print.proofs.member.PortDeclPart.print.Goals as goal
 
 pub returns : goal.returns
-returns c = (then (said (words (type_tree c.args.self.now.shape)) c.in_ok-print_type.ensures) (said (words (ident_tree c.args.self.now.name)) c.in_ok-print_ident.ensures)).is
+returns c = (then c.print_type.ensures c.print_ident.ensures)
