@@ -60,11 +60,7 @@ pub(crate) fn meant_inside<'a>(name: &str, inside: Option<&'a Inside<'a>>) -> Op
 }
 
 /// What a name means among variables and the generators inside them.
-fn meant_by<'a>(
-    name: &str,
-    variables: Option<&'a Variables>,
-    gens: &'a [Gen],
-) -> Option<Meant<'a>>
+fn meant_by<'a>(name: &str, variables: Option<&'a Variables>, gens: &'a [Gen]) -> Option<Meant<'a>>
     ensures { option_map meant_view result ≡ option_map use_of (known_as name.now (map known_variable
         (named_by gens.entry.now (declared_by (own_variables variables.entry) [])))) }
 {
