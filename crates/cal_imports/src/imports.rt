@@ -112,7 +112,7 @@ fn keep_unit(
     ensures found { Answers (λ _. names_of (unit_named class.now kept.new)) result
         (declared_in (sources set.now) class.now file at) }
 {
-    if kept.get(class).is_some() {
+    if kept.has(class) {
         return Ok(());
     }
     keep_new(alloc, set, file, at, class, kept)

@@ -1,6 +1,6 @@
 //! The names that units declare, kept so that they are made once for each unit.
 
-ghost use Rattle.std.specs.Prelude.{◌≡◌, [], ◌∷◌, ◌++◌, OnOk, None, option_map};
+ghost use Rattle.std.specs.Prelude.{◌≡◌, [], ◌∷◌, ◌++◌, OnOk, None, is_some, option_map};
 ghost use Rattle.cal_imports.specs.UnitNames.{unit_named, unit_with};
 
 use cal_scope::FileNames;
@@ -36,6 +36,13 @@ impl UnitNames {
             alloc,
             units: IndexMap::new(alloc),
         }
+    }
+
+    /// Whether the names of the unit of a class are kept.
+    pub(crate) fn has(&self, class: &str) -> bool
+        ensures { result ≡ is_some (unit_named class.now self.now) }
+    {
+        self.get(class).is_some()
     }
 
     /// The names of the unit of a class, if they are kept.
