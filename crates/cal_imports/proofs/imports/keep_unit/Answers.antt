@@ -5,7 +5,7 @@ use Rattle.cal_imports.specs.UnitNames.{unit_named}
 use Rattle.cal_imports.specs.View.{sources}
 use Rattle.cal_imports.proofs.imports.keep_unit.Goals as goal
 
-pub returns-then-is_some-clause-found : goal.returns-then-is_some-clause-found
-returns-then-is_some-clause-found c =
+pub returns-then-has-clause-found : goal.returns-then-has-clause-found
+returns-then-has-clause-found c =
     let has : is_some (unit_named c.args.class.now c.args.kept.now) ≡ true = search rules in
     kept_found (sources c.args.set.now) c.args.class.now c.args.file c.args.at c.args.kept.now c.requires has
