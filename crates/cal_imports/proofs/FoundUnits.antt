@@ -10,14 +10,9 @@ use Rattle.std.specs.declared.alloc.Global.{Global as Heap}
 use Rattle.indexmap.specs.IndexMap.{IndexMap, insert_entry}
 use Rattle.indexmap.proofs.CallerLemmas.{insert_entry-new}
 use Rattle.cal_scope.specs.Names.{Global}
-use Rattle.cal_imports.specs.Answer.{Gives, RefusedBy, and_then, in_file}
-use Rattle.cal_imports.specs.Brought.{import_brought, unit_brought, with_last_brought}
-use Rattle.cal_imports.specs.Sources.{Source, dotted, source_named}
+use Rattle.cal_imports.specs.Answer.{Gives}
+use Rattle.cal_imports.specs.Sources.{Source, source_named}
 use Rattle.cal_imports.specs.UnitNames.{AreDeclared, Unit, declared_by, declared_in, names_of, unit_named, unit_of, unit_with}
-use Rattle.cal_ast.specs.Tree as tree
-use Rattle.cal_ast.specs.Tree.{Tree}
-use Rattle.cal_imports.proofs.Answered.{refused_on, then_gives}
-use Rattle.cal_imports.specs.declared.fault.ImportFault.{ImportFault}
 use Rattle.cal_model.proofs.KindNames.{text-same}
 
 -- ---- the index
@@ -47,9 +42,6 @@ added_entry m k names class e h =
     ∙ ap (λ c. map unit_of m.entries ++ unit_with c names ∷ []) e
 
 -- ---- what is kept
-
-pub none_kept : (files : List Source) → AreDeclared files []
-none_kept files class names h = absurd (cc)
 
 some-same : {A : Type 0} (a b : A) → Some a ≡ Some b → a ≡ b
 some-same a b e = cc
@@ -119,22 +111,3 @@ module _ (files : List Source) (class : List ℕ) (file at : ℕ) where
           → declared_in files class file at ≡ Gives (names_of o)
       go (Some names) s f = f names refl file at
       go None s f = absurd (cc)
-
--- ---- what an import brings is made of what its unit declares
-
-brought_of : (o : Option Source) (file : ℕ) (last : Tree) (at : ℕ) (here : List Global)
-    → unit_brought o file last at here ≡ and_then (declared_by o file at) (λ unit. in_file file (with_last_brought last unit at here))
-brought_of None file last at here = refl
-brought_of (Some s) file last at here = refl
-
-pub import_is : (files : List Source) (file : ℕ) (path last : Tree) (at : ℕ) (here unit : List Global) → declared_in files (dotted path) file at ≡ Gives unit
-    → import_brought files file (tree.import_part path last at) here ≡ in_file file (with_last_brought last unit at here)
-import_is files file path last at here unit h =
-    brought_of (source_named (dotted path) files) file last at here
-    ∙ then_gives (declared_in files (dotted path) file at) unit (λ names. in_file file (with_last_brought last names at here)) h
-
-pub import_refused : (f : ImportFault) (files : List Source) (file : ℕ) (path last : Tree) (at : ℕ) (here : List Global) → RefusedBy f (declared_in files (dotted path) file at)
-    → RefusedBy f (import_brought files file (tree.import_part path last at) here)
-import_refused f files file path last at here h =
-    subst (RefusedBy f) (sym (brought_of (source_named (dotted path) files) file last at here))
-    (refused_on f (declared_in files (dotted path) file at) (λ names. in_file file (with_last_brought last names at here)) h)

@@ -1,4 +1,3 @@
-use Rattle.std.proofs.Common.{rules}
 use Rattle.cal_imports.proofs.FoundUnits.{new_found, new_kept, new_there}
 use Rattle.cal_imports.specs.View.{sources}
 use Rattle.cal_imports.proofs.imports.keep_new.Goals as goal
