@@ -103,9 +103,9 @@ const LATE: &[Instr] = &[
 
 /// The guards at 0 and 4, the firings at 8, 11 and 18. Cell 0 is the state variable.
 const COUNTDOWN: &[Instr] = &[
-    Instr::Load(0),
     Instr::Const(0),
-    Instr::Gt,
+    Instr::Load(0),
+    Instr::Lt,
     Instr::Answer,
     Instr::Load(0),
     Instr::Const(0),
