@@ -5,6 +5,7 @@ mod Walks
 mod Stacks
 mod Sizes
 mod FoundNodes
+mod FoundUnits
 mod Behind
 mod Rows
 mod Ordered

@@ -3,6 +3,7 @@ pub mod Sources
 pub mod Asked
 pub mod View
 pub mod Brought
+pub mod UnitNames
 pub mod OneFile
 pub mod Walk
 pub mod GraphView

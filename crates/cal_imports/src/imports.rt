@@ -1,13 +1,14 @@
 //! What all imports of a file bring, and what the file sees.
 #![tactic(auto, using(crate::proofs::Answered::refused_on, crate::proofs::Answered::placed_answers))]
 
-ghost use Rattle.std.specs.Prelude.{◌≡◌, [], ◌∷◌, ◌++◌, IfOk, string_bytes};
+ghost use Rattle.std.specs.Prelude.{◌≡◌, [], ◌∷◌, ◌++◌, IfOk, None, OnOk, is_some, string_bytes, true};
 ghost use Rattle.cal_ast.specs.View.{file_body_tree, import_tree};
 ghost use Rattle.cal_scope.specs.Judging.{Judges};
 ghost use Rattle.cal_imports.specs.Answer.{Answers, placed};
 ghost use Rattle.cal_imports.specs.Asked.{imports_tree};
 ghost use Rattle.cal_imports.specs.Brought.{import_brought, imports_brought, names_declared, names_seen};
 ghost use Rattle.cal_imports.specs.Sources.{dot};
+ghost use Rattle.cal_imports.specs.UnitNames.{AreDeclared, declared_in, names_of, unit_named};
 ghost use Rattle.cal_imports.specs.View.{source, sources};
 
 use crate::brought::{bring_last, see_all};
@@ -15,6 +16,7 @@ use crate::class_text::dotted;
 use crate::entry::Entry;
 use crate::fault::ImportFault;
 use crate::file_set::FileSet;
+use crate::unit_names::UnitNames;
 use cal_ast::{Body, Import};
 use cal_scope::{FileNames, ScopeFault};
 use rvc_base::{Memory, Rule};
@@ -54,30 +56,90 @@ fn names_declared(alloc: Global, class: &str, body: &Body) -> Result<FileNames, 
     }
 }
 
+/// The names that the unit of a class declares, for an import at a place in a file.
+fn unit_declared(
+    alloc: Global,
+    set: &FileSet,
+    file: u32,
+    at: u32,
+    class: &str,
+) -> Result<FileNames, ImportFault>
+    ensures { Answers (λ names. names) result (declared_in (sources set.now) class.now file at) }
+{
+    let Some(entry) = set.find(class) else {
+        return Err(ImportFault::Refused {
+            rule: Rule::IMPORT_NOT_FOUND,
+            file,
+            at,
+        });
+    };
+    in_file(entry.file, names_declared(alloc, class, &entry.tree.body))
+}
+
+/// Makes the names of the unit of a class, and keeps them.
+fn keep_new(
+    alloc: Global,
+    set: &FileSet,
+    file: u32,
+    at: u32,
+    class: &str,
+    kept: &mut UnitNames,
+) -> Result<(), ImportFault>
+    requires kept { AreDeclared (sources set.now) kept.old }
+    requires new { unit_named class.now kept.old ≡ None }
+    ensures kept { OnOk result (AreDeclared (sources set.now) kept.new) }
+    ensures there { OnOk result (is_some (unit_named class.now kept.new) ≡ true) }
+    ensures found { Answers (λ _. names_of (unit_named class.now kept.new)) result
+        (declared_in (sources set.now) class.now file at) }
+{
+    let names = unit_declared(alloc, set, file, at, class)?;
+    kept.add(class, names)?;
+    Ok(())
+}
+
+/// Makes the names of the unit of a class and keeps them, if they aren't kept.
+fn keep_unit(
+    alloc: Global,
+    set: &FileSet,
+    file: u32,
+    at: u32,
+    class: &str,
+    kept: &mut UnitNames,
+) -> Result<(), ImportFault>
+    requires { AreDeclared (sources set.now) kept.old }
+    ensures kept { OnOk result (AreDeclared (sources set.now) kept.new) }
+    ensures there { OnOk result (is_some (unit_named class.now kept.new) ≡ true) }
+    ensures found { Answers (λ _. names_of (unit_named class.now kept.new)) result
+        (declared_in (sources set.now) class.now file at) }
+{
+    if kept.has(class) {
+        return Ok(());
+    }
+    keep_new(alloc, set, file, at, class, kept)
+}
+
 /// Adds what an import in a file of a number brings to what those before it brought.
+///
+/// The names of its unit are made if they weren't by an import before it.
 fn bring_import(
     alloc: Global,
     set: &FileSet,
     file: u32,
     import: &Import,
+    kept: &mut UnitNames,
     names: &mut FileNames,
 ) -> Result<(), ImportFault>
-    ensures { Answers (λ _. names.new) result
+    requires { AreDeclared (sources set.now) kept.old }
+    ensures kept { OnOk result (AreDeclared (sources set.now) kept.new) }
+    ensures brought { Answers (λ _. names.new) result
         (import_brought (sources set.now) file (import_tree import.now) names.old) }
 {
     let class = dotted(alloc, &import.path)?;
-    let Some(entry) = set.find(class.as_str()) else {
-        return Err(ImportFault::Refused {
-            rule: Rule::IMPORT_NOT_FOUND,
-            file,
-            at: import.at,
-        });
+    keep_unit(alloc, set, file, import.at, class.as_str(), kept)?;
+    let Some(unit) = kept.get(class.as_str()) else {
+        unreachable!()
     };
-    let unit = in_file(
-        entry.file,
-        names_declared(alloc, class.as_str(), &entry.tree.body),
-    )?;
-    in_file(file, bring_last(names, &unit, &import.last, import.at))
+    in_file(file, bring_last(names, unit, &import.last, import.at))
 }
 
 /// Adds what imports in a file of a number bring, in order.
@@ -91,9 +153,10 @@ fn bring_imports(
     ensures { Answers (λ _. names.new) result
         (imports_brought (sources set.now) file (imports_tree list.now) names.old) }
 {
+    let mut kept = UnitNames::new(alloc);
     let mut rest = list;
     'imports: while let Some((first, others)) = rest.split_first() {
-        bring_import(alloc, set, file, first, names)?;
+        bring_import(alloc, set, file, first, &mut kept, names)?;
         rest = others;
     }
     Ok(())

@@ -28,6 +28,7 @@ mod public;
 mod recursion;
 mod scope;
 mod stmt_calls;
+mod unit_names;
 mod walk;
 
 pub use file_set::FileSet;

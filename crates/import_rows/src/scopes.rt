@@ -132,7 +132,7 @@ const SHOWN: &str =
     "; lib.U.k in 2: int k = 1; lib.U.g in 2: function g ( int x ) --> int : x + lib.U.k end";
 
 /// Actors whose imports bring names of the unit `lib.U`: one name, and all; for parameters and ports; hidden by a file's own
-/// declaration, and by an inner name; and the same thing twice.
+/// declaration, and by an inner name; the same thing twice; and one name by each of two imports.
 const BROUGHT: &str = "
 # actor A ( ) ==> : int x = lib.U.k ; end
 file A import lib.U.k; actor A() ==> : int x = k; end
@@ -151,6 +151,9 @@ file A import lib.U.*; actor A() ==> : function f(int k) --> int : k end end
 file lib.U package lib; unit U : int k = 1; function g(int x) --> int : x + k end end
 # actor A ( ) ==> : int x = lib.U.k ; end
 file A import lib.U.k; import lib.U.*; actor A() ==> : int x = k; end
+file lib.U package lib; unit U : int k = 1; function g(int x) --> int : x + k end end
+# actor A ( ) ==> : int x = lib.U.g ( lib.U.k ) ; end
+file A import lib.U.k; import lib.U.g; actor A() ==> : int x = g(k); end
 file lib.U package lib; unit U : int k = 1; function g(int x) --> int : x + k end end";
 
 #[test]
@@ -159,7 +162,8 @@ fn scopes_of_several_files(rt: HostRuntime) -> Result<(), Fail> {
 }
 
 /// Actors whose files are whole, with what they print as: a unit's declarations stand behind those that it imports, and each
-/// file is gathered once; an import leads to what it doesn't bring; calls that don't lead back.
+/// file is gathered once; an import leads to what it doesn't bring; single names of two units in turn; calls that don't lead
+/// back.
 const WHOLE: &str = "
 # actor A ( ) ==> : int x = 1 ; end
 file p.A package p; actor A() ==> : int x = 1; end
@@ -172,6 +176,10 @@ file U unit U : int u = 1; end
 file A import V.v; actor A() ==> : int x = v; end
 file V import U.*; unit V : int v = u; int t = 2; end
 file U unit U : int u = 1; end
+# actor A ( ) ==> : int x = U.u + V.v + U.w ; end; U.u in 2: int u = 1; U.w in 2: int w = 2; V.v in 3: int v = 3
+file A import U.u; import V.v; import U.w; actor A() ==> : int x = u + v + w; end
+file U unit U : int u = 1; int w = 2; end
+file V unit V : int v = 3; end
 # actor A ( ) ==> : function f ( int x ) --> int : g ( g ( x ) ) end function g ( int x ) --> int : x end end
 file A actor A() ==> : function f(int x) --> int : g(g(x)) end function g(int x) --> int : x end end";
 
@@ -188,6 +196,9 @@ const BROKEN: &str = "
 # S1 in 1 at 13
 file A import lib.U.m; actor A() ==> : end
 file lib.U package lib; unit U : int k = 1; function g(int x) --> int : x + k end end
+# S1 in 1 at 29
+file A import lib.U.k; import lib.U.m; actor A() ==> : end
+file lib.U package lib; unit U : int k = 1; function g(int x) --> int : x + k end end
 # S1 in 1 at 36
 file A import V.*; actor A() ==> : int x = u; end
 file V import U.*; unit V : int v = u; end
@@ -199,11 +210,18 @@ file V unit V : int v = u; end
 file A import lib.U.*; import V.k; actor A() ==> : int k = 3; end
 file lib.U package lib; unit U : int k = 1; function g(int x) --> int : x + k end end
 file V unit V : int k = 2; end
+# S2 in 1 at 27
+file A import U.u; import V.k; import U.k; actor A() ==> : end
+file U unit U : int u = 1; int k = 2; end
+file V unit V : int k = 3; end
 # S2 in 2 at 20
 file A import V.*; actor A() ==> : end
 file V unit V : int k = 1; int k = 2; end
 # S3 in 1 at 0
 file A import lib.U.k; actor A() ==> : end
+# S3 in 1 at 16
+file A import lib.U.k; import lib.V.k; actor A() ==> : end
+file lib.U package lib; unit U : int k = 1; end
 # S4 in 1 at 44
 file F actor F() ==> : function f(int x) --> int : f(x) end end
 # S4 in 1 at 85

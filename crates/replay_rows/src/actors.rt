@@ -4,7 +4,7 @@ use code_ir::{ActorCode, Admitted, Instr, admit, are_few, are_sized};
 use lowered_actor::{ActionCode, Lowered, Parts, StateCell};
 use priority_order::{Order, close};
 use rvc_base::{Memory, Num, Scalar};
-use schedule_fsm::{Fsm, build};
+use schedule_fsm::{Fsm, Step, build};
 use std::alloc::Global;
 
 #[derive(Clone, Copy, Debug, PartialEq, Eq)]
@@ -23,6 +23,8 @@ pub(crate) enum Named {
     Div,
     /// It takes two tokens of one port once. Then a token is divided by the next, as soon as the other port has two.
     Late,
+    /// It reads a token, then counts down from it: each number from the token to 1 is sent, and at 0 the next token is read.
+    Countdown,
 }
 
 const BYTE: Option<Scalar> = Some(Scalar::Uint(8));
@@ -99,6 +101,29 @@ const LATE: &[Instr] = &[
     Instr::Done,
 ];
 
+/// The guards at 0 and 4, the firings at 8, 11 and 18. Cell 0 is the state variable.
+const COUNTDOWN: &[Instr] = &[
+    Instr::Const(0),
+    Instr::Load(0),
+    Instr::Lt,
+    Instr::Answer,
+    Instr::Load(0),
+    Instr::Const(0),
+    Instr::Eq,
+    Instr::Answer,
+    Instr::Token(0, 0),
+    Instr::Store(0, BYTE),
+    Instr::Done,
+    Instr::Load(0),
+    Instr::Store(1, BYTE),
+    Instr::Load(0),
+    Instr::Const(1),
+    Instr::Sub,
+    Instr::Store(0, BYTE),
+    Instr::Done,
+    Instr::Done,
+];
+
 fn code(alloc: Global, instrs: &[Instr], entries: &[u32], cells: u32) -> Result<Admitted, Memory> {
     let code = ActorCode {
         instrs: Vec::from_slice(alloc, instrs)?,
@@ -121,6 +146,7 @@ fn admitted(alloc: Global, named: Named) -> Result<Admitted, Memory> {
         Named::Race => code(alloc, RACE, &[0, 4, 7], 2),
         Named::Div => code(alloc, DIV, &[0], 1),
         Named::Late => code(alloc, LATE, &[0, 4, 8, 11], 2),
+        Named::Countdown => code(alloc, COUNTDOWN, &[0, 4, 8, 11, 18], 2),
     }
 }
 
@@ -138,6 +164,31 @@ const RACES: &[(&[u32], &[u32], &[u32], u32, u32)] = &[
 const LATES: &[(&[u32], &[u32], &[u32], u32, u32)] = &[
     (&[2, 0], &[0], &[0], 8, 1),
     (&[2, 2], &[1], &[4], 11, 1),
+];
+
+const COUNTDOWNS: &[(&[u32], &[u32], &[u32], u32, u32)] = &[
+    (&[1], &[0], &[], 8, 1),
+    (&[0], &[1], &[0], 11, 1),
+    (&[0], &[0], &[4], 18, 1),
+];
+
+/// The moves of a countdown: it reads in the first state, and counts in the second.
+const COUNTS: &[Step] = &[
+    Step {
+        from: 0,
+        action: 0,
+        to: 1,
+    },
+    Step {
+        from: 1,
+        action: 1,
+        to: 1,
+    },
+    Step {
+        from: 1,
+        action: 2,
+        to: 0,
+    },
 ];
 
 /// Of each, the tokens that it takes and sends, its guards, its firing, and the first cell from which it sends.
@@ -164,6 +215,7 @@ fn actions(alloc: Global, named: Named) -> Result<Vec<ActionCode>, Memory> {
         Named::Join => shaped(alloc, JOINS),
         Named::Race => shaped(alloc, RACES),
         Named::Late => shaped(alloc, LATES),
+        Named::Countdown => shaped(alloc, COUNTDOWNS),
         _ => shaped(alloc, ONE_FOR_ONE),
     }
 }
@@ -171,6 +223,7 @@ fn actions(alloc: Global, named: Named) -> Result<Vec<ActionCode>, Memory> {
 fn automaton(alloc: Global, named: Named) -> Result<Fsm, Memory> {
     let built = match named {
         Named::Race | Named::Late => build(alloc, &[], &[true, true], 1),
+        Named::Countdown => build(alloc, COUNTS, &[false, false, false], 2),
         _ => build(alloc, &[], &[true], 1),
     };
     built.map_err(|_fault| Memory)
@@ -179,6 +232,7 @@ fn automaton(alloc: Global, named: Named) -> Result<Fsm, Memory> {
 fn order(alloc: Global, named: Named) -> Result<Order, Memory> {
     let closed = match named {
         Named::Race | Named::Late => close(alloc, &[(0, 1)], 2),
+        Named::Countdown => close(alloc, &[], 3),
         _ => close(alloc, &[], 1),
     };
     closed.map_err(|_fault| Memory)
@@ -190,7 +244,11 @@ fn saved(alloc: Global, named: Named) -> Result<Vec<StateCell>, Memory> {
     if kept(named) == 1 {
         saved.push(StateCell {
             cell: 0,
-            kind: Scalar::Uint(2),
+            kind: if named == Named::Countdown {
+                Scalar::Uint(8)
+            } else {
+                Scalar::Uint(2)
+            },
         })?;
     }
     Ok(saved)
@@ -199,7 +257,7 @@ fn saved(alloc: Global, named: Named) -> Result<Vec<StateCell>, Memory> {
 /// How many state variables there are.
 fn kept(named: Named) -> u32 {
     match named {
-        Named::Race | Named::Late => 1,
+        Named::Race | Named::Late | Named::Countdown => 1,
         _ => 0,
     }
 }

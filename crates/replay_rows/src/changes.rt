@@ -2,7 +2,7 @@
 
 use crate::networks::Net;
 use crate::replays::{Answer, Case, replay_case};
-use crate::rows::{INC, RING};
+use crate::rows::{COUNTDOWN, INC, RING, STALL, STALLS};
 use rvc_base::Memory;
 use std::alloc::Global;
 use trace_replay::Why;
@@ -107,6 +107,58 @@ const RING_ROWS: &[Row] = &[
     (Change::Exchanged, 7, Answer::Fails(7, Why::End)),
 ];
 
+const COUNTDOWN_ROWS: &[Row] = &[
+    (Change::LeftOut, 1, Answer::Fails(1, Why::Header)),
+    (Change::LeftOut, 2, Answer::Fails(2, Why::Header)),
+    (Change::LeftOut, 3, Answer::Fails(3, Why::NotExposed)),
+    (Change::LeftOut, 4, Answer::Fails(4, Why::NotExposed)),
+    (Change::LeftOut, 5, Answer::Fails(5, Why::NotExposed)),
+    (Change::LeftOut, 6, Answer::Fails(7, Why::End)),
+    (Change::LeftOut, 7, Answer::Fails(7, Why::End)),
+    (Change::LeftOut, 8, Answer::Fails(8, Why::Cut)),
+    (Change::Doubled, 1, Answer::Fails(2, Why::Header)),
+    (Change::Doubled, 2, Answer::Fails(3, Why::Header)),
+    (Change::Doubled, 3, Answer::Ends(Line::Quiet, 3, 3)),
+    (Change::Doubled, 4, Answer::Fails(5, Why::NotExposed)),
+    (Change::Doubled, 5, Answer::Fails(6, Why::NotExposed)),
+    (Change::Doubled, 6, Answer::Fails(7, Why::NotExposed)),
+    (Change::Doubled, 7, Answer::Ends(Line::Quiet, 3, 3)),
+    (Change::Doubled, 8, Answer::Fails(9, Why::After)),
+    (Change::Exchanged, 1, Answer::Fails(1, Why::Header)),
+    (Change::Exchanged, 2, Answer::Fails(2, Why::Header)),
+    (Change::Exchanged, 3, Answer::Fails(3, Why::NotExposed)),
+    (Change::Exchanged, 4, Answer::Fails(4, Why::NotExposed)),
+    (Change::Exchanged, 5, Answer::Fails(5, Why::NotExposed)),
+    (Change::Exchanged, 6, Answer::Ends(Line::Quiet, 3, 2)),
+    (Change::Exchanged, 7, Answer::Fails(7, Why::End)),
+];
+
+const STALL_ROWS: &[Row] = &[
+    (Change::LeftOut, 1, Answer::Fails(1, Why::Header)),
+    (Change::LeftOut, 2, Answer::Fails(2, Why::Header)),
+    (Change::LeftOut, 3, Answer::Fails(3, Why::Header)),
+    (Change::LeftOut, 4, Answer::Fails(4, Why::Header)),
+    (Change::LeftOut, 5, Answer::Fails(5, Why::NotExposed)),
+    (Change::LeftOut, 6, Answer::Fails(7, Why::End)),
+    (Change::LeftOut, 7, Answer::Fails(7, Why::End)),
+    (Change::LeftOut, 8, Answer::Fails(8, Why::Cut)),
+    (Change::Doubled, 1, Answer::Fails(2, Why::Header)),
+    (Change::Doubled, 2, Answer::Fails(3, Why::Header)),
+    (Change::Doubled, 3, Answer::Fails(4, Why::Header)),
+    (Change::Doubled, 4, Answer::Fails(5, Why::Header)),
+    (Change::Doubled, 5, Answer::Ends(STALL, 1, 3)),
+    (Change::Doubled, 6, Answer::Fails(7, Why::NoRoom)),
+    (Change::Doubled, 7, Answer::Ends(STALL, 1, 3)),
+    (Change::Doubled, 8, Answer::Fails(9, Why::After)),
+    (Change::Exchanged, 1, Answer::Fails(1, Why::Header)),
+    (Change::Exchanged, 2, Answer::Fails(2, Why::Header)),
+    (Change::Exchanged, 3, Answer::Fails(3, Why::Header)),
+    (Change::Exchanged, 4, Answer::Fails(4, Why::Header)),
+    (Change::Exchanged, 5, Answer::Fails(5, Why::NotExposed)),
+    (Change::Exchanged, 6, Answer::Fails(8, Why::End)),
+    (Change::Exchanged, 7, Answer::Fails(7, Why::End)),
+];
+
 /// What a trace comes to of which one line is changed.
 fn answer_to(alloc: Global, net: Net, input: &[u8], text: &str, row: Row) -> Answer {
     let (change, number, _) = row;
@@ -137,6 +189,22 @@ fn a_changed_line_of_one_actor(rt: HostRuntime) {
 fn a_changed_line_of_two_actors(rt: HostRuntime) {
     for &row in RING_ROWS {
         let found = answer_to(rt.alloc(), Net::Ring, &[], RING, row);
+        assert!(rt; found == row.2, "{row:?} {found:?}");
+    }
+}
+
+#[test]
+fn a_changed_line_of_an_actor_with_a_schedule(rt: HostRuntime) {
+    for &row in COUNTDOWN_ROWS {
+        let found = answer_to(rt.alloc(), Net::Countdown, &[1], COUNTDOWN, row);
+        assert!(rt; found == row.2, "{row:?} {found:?}");
+    }
+}
+
+#[test]
+fn a_changed_line_before_a_stall(rt: HostRuntime) {
+    for &row in STALL_ROWS {
+        let found = answer_to(rt.alloc(), Net::Pair, &[1, 2, 3, 4], STALLS, row);
         assert!(rt; found == row.2, "{row:?} {found:?}");
     }
 }

@@ -15,6 +15,8 @@ pub(crate) enum Net {
     Wide,
     /// One actor that divides.
     Div,
+    /// One actor with a schedule and guards, which counts down from each token.
+    Countdown,
     /// Two actors that send each other a token.
     Ring,
     /// Two ways of different length meet, one of which holds one token.
@@ -91,7 +93,7 @@ const LATE: &[Row] = &[
 
 fn rows(named: Net) -> &'static [Row] {
     match named {
-        Net::Inc | Net::Wide | Net::Div => ONE,
+        Net::Inc | Net::Wide | Net::Div | Net::Countdown => ONE,
         Net::Ring => RING,
         Net::Pair => PAIR,
         Net::Beside => BESIDE,
@@ -105,6 +107,7 @@ fn instances(named: Net) -> &'static [Named] {
     match named {
         Net::Inc | Net::Wide => &[Named::Inc],
         Net::Div => &[Named::Div],
+        Net::Countdown => &[Named::Countdown],
         Net::Ring => &[Named::Race, Named::Race],
         Net::Pair => &[Named::Copy, Named::Sum, Named::Join],
         Net::Beside | Net::Short | Net::Behind => {
@@ -119,6 +122,7 @@ fn paths(named: Net) -> &'static [&'static str] {
     match named {
         Net::Inc | Net::Wide => &["Inc Inc"],
         Net::Div => &["Div Div"],
+        Net::Countdown => &["d Countdown"],
         Net::Ring => &["p Race", "q Race"],
         Net::Pair => &["c Copy", "s Sum", "j Join"],
         Net::Beside | Net::Short | Net::Behind => &["c Copy", "s Sum", "j Join", "r Race"],

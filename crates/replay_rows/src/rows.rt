@@ -11,10 +11,16 @@ pub(crate) const INC: &str = "rvc-trace 1 1 2\ni 0 Inc Inc\nr\nf 0 0\nf 0 0\nf 0
 
 pub(crate) const RING: &str = "rvc-trace 1 2 2\ni 0 p Race\ni 1 q Race\nr\nf 0 1\nf 1 1\nr\nq\n";
 
+pub(crate) const COUNTDOWN: &str =
+    "rvc-trace 1 1 2\ni 0 d Countdown\nr\nf 0 0\nf 0 1\nf 0 2\nr\nq\n";
+
+pub(crate) const STALLS: &str =
+    "rvc-trace 1 3 5\ni 0 c Copy\ni 1 s Sum\ni 2 j Join\nr\nf 0 0\nr\ns 0 0 3\n";
+
 pub(crate) const GROWS_TO_4: &str =
     "rvc-trace 2 3 5 4\ni 0 c Copy\ni 1 s Sum\ni 2 j Join\nr\nf 0 0\nr\ng 3 2\nr\nf 0 0\nr\nf 1 0\nr\nf 2 0\nr\nf 0 0\nr\ng 3 4\nr\nf 0 0\nr\nf 1 0\nr\nf 2 0\nr\nq\n";
 
-const STALL: Line = Line::Stall {
+pub(crate) const STALL: Line = Line::Stall {
     inst: 0,
     action: 0,
     link: 3,
@@ -67,10 +73,24 @@ const ROWS: &[Row] = &[
     ),
     (Net::Ring, &[], 0, RING, Answer::Ends(Line::Quiet, 2, 2)),
     (
+        Net::Countdown,
+        &[1],
+        0,
+        COUNTDOWN,
+        Answer::Ends(Line::Quiet, 3, 2),
+    ),
+    (
+        Net::Countdown,
+        &[2, 0, 1],
+        0,
+        "rvc-trace 1 1 2\ni 0 d Countdown\nr\nf 0 0\nf 0 1\nf 0 1\nf 0 2\nf 0 0\nf 0 2\nf 0 0\nf 0 1\nf 0 2\nr\nq\n",
+        Answer::Ends(Line::Quiet, 9, 2),
+    ),
+    (
         Net::Pair,
         &[1, 2, 3, 4],
         0,
-        "rvc-trace 1 3 5\ni 0 c Copy\ni 1 s Sum\ni 2 j Join\nr\nf 0 0\nr\ns 0 0 3\n",
+        STALLS,
         Answer::Ends(STALL, 1, 2),
     ),
     // Links that grow.
