@@ -7,4 +7,3 @@ mod Callless
 mod SameFuns
 mod OneRound
 mod OneMore
-mod Keys

@@ -11,7 +11,6 @@ mod constants;
 mod declared;
 mod growing;
 mod known;
-mod name_set;
 mod needs;
 mod seen;
 

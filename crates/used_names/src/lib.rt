@@ -14,5 +14,6 @@ mod stmts;
 mod used;
 
 pub use kept::{keep_funs, keep_vars};
+pub use name_set::NameSet;
 pub use outer::{OuterDecl, OuterForm};
 pub use used::{UsedNames, used_names};
