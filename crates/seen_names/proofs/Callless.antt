@@ -1,14 +1,14 @@
 -- Parts that call no function.
-use Rattle.std.proofs.Common.{◌≡◌, ℕ, Bool, true, false, List, [], refl, ap, ◌∙◌}
+use Rattle.std.proofs.Common.{◌≡◌, true, List, refl, ap, ◌∙◌}
 use Rattle.cal_ast.specs.Places.{begins}
 use Rattle.cal_ast.specs.Tree as tree
 use Rattle.cal_ast.specs.Tree.{Tree}
-use Rattle.cal_model.specs.Kinding.{Judged, Fine, Broken, Known, Names, and_so, kind, one_kind, type_judged}
+use Rattle.cal_model.specs.Kinding.{Judged, Fine, Broken, Known, and_so, kind, one_kind}
 use Rattle.cal_model.specs.Value.{Kind, Shape, kind_of_type}
-use Rattle.cal_check.specs.Constants.{early_kind, early_type, not_yet, start_value, value_given}
+use Rattle.cal_check.specs.Constants.{early_kind, not_yet, start_value, value_given}
 use Rattle.cal_check.specs.Routines.{FunDecl}
 use Rattle.cal_check.specs.Variables.{come, come_if, come_of, seen}
-use Rattle.seen_names.specs.Calls.{StartsAreSame, TypesAreSame, calls_any}
+use Rattle.seen_names.specs.Calls.{StartsAreSame, TypesAreSame}
 use Rattle.seen_names.specs.Known.{names_alone}
 use Rattle.seen_names.proofs.Bare.{Any, SaysOnly, none_called}
 use Rattle.seen_names.proofs.SameKinds.{MeanSame, constant-same, kind-same, type-same}

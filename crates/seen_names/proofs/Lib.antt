@@ -7,3 +7,4 @@ mod Callless
 mod SameFuns
 mod OneRound
 mod OneMore
+mod Settled

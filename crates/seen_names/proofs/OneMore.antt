@@ -1,13 +1,12 @@
 -- Names that become known while what is seen of them is kept.
-use Rattle.std.proofs.Common.{◌≡◌, ℕ, Bool, true, false, ◌||◌, List, [], ◌∷◌, refl, sym, ap, subst, ◌∙◌, Option, None, Some}
+use Rattle.std.proofs.Common.{◌≡◌, Bool, true, false, ◌||◌, List, [], ◌∷◌, refl, sym, ap, subst, ◌∙◌, Option, None, Some}
 use Rattle.std.specs.Prelude.{if◌then◌else◌, option_map}
 use Rattle.cal_model.specs.Kinding.{Known, Names}
 use Rattle.cal_model.specs.Tags.{is_seen}
 use Rattle.cal_check.specs.Routines.{FunDecl}
 use Rattle.cal_check.specs.Variables.{seen}
 use Rattle.const_eval.specs.Held.{Kept as Environment, globals_of, held, names_in}
-use Rattle.seen_names.specs.Known.{names_alone}
-use Rattle.seen_names.specs.Needs.{AreThose, IsKept, Kept, Needed, grown, may_change, needs_of, with_alone, with_global, with_grown}
+use Rattle.seen_names.specs.Needs.{AreThose, IsKept, Kept, grown, may_change, needs_of, with_alone, with_global, with_grown}
 use Rattle.seen_names.proofs.OneRound.{one_more}
 
 or_left : (a b : Bool) → (a || b) ≡ false → a ≡ false

@@ -1,6 +1,6 @@
 -- Functions in which nothing that must be constant calls one: one round finds them, and a name that isn't said there
 -- changes none of them.
-use Rattle.std.proofs.Common.{◌≡◌, ℕ, suc, Bool, true, false, List, [], ◌∷◌, length, map, refl, sym, ap, subst, ◌∙◌, Option, None, Some}
+use Rattle.std.proofs.Common.{◌≡◌, ℕ, suc, Bool, true, false, List, [], ◌∷◌, length, refl, sym, ap, Some}
 use Rattle.std.specs.Prelude.{if◌then◌else◌}
 use Rattle.std.specs.Str.{bytes_eq}
 use Rattle.std.proofs.lemmas.List.{length-map}
@@ -14,7 +14,6 @@ use Rattle.seen_names.specs.Needs.{AreEnough, needs_of}
 use Rattle.seen_names.specs.declared.declared.DeclaredFun.{DeclaredFun}
 use Rattle.seen_names.proofs.Bare.{Any, need_all}
 use Rattle.seen_names.proofs.SameFuns.{after-same, over-same}
-use Rattle.seen_names.proofs.SameKinds.{MeanSame}
 
 -- ---- rounds
 

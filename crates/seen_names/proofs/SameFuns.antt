@@ -1,14 +1,14 @@
 -- Functions over names of which those that they say in what must be constant mean the same, if they call none there.
-use Rattle.std.proofs.Common.{◌≡◌, ℕ, zero, suc, Bool, true, false, List, [], ◌∷◌, refl, sym, ap, subst, ◌∙◌, Option, None, Some}
+use Rattle.std.proofs.Common.{◌≡◌, ℕ, zero, suc, Bool, true, false, List, [], ◌∷◌, refl, ap, subst, ◌∙◌, None, Some}
 use Rattle.cal_ast.specs.Places.{begins}
 use Rattle.cal_ast.specs.Tree as tree
 use Rattle.cal_ast.specs.Tree.{Tree}
 use Rattle.cal_model.specs.Actor.{Fun, Local}
-use Rattle.cal_model.specs.Kinding.{Judged, Fine, Broken, Names, and_so, constant_number, counter, kind, type_judged, with_counters, with_known}
+use Rattle.cal_model.specs.Kinding.{Judged, Fine, Broken, Names, and_so, counter, kind, type_judged, with_counters, with_known}
 use Rattle.cal_model.specs.Sound.{kind_of_judged, known_local, with_locals}
 use Rattle.cal_model.specs.Value.{Shape}
 use Rattle.cal_check.specs.Routines.{FunDecl, Head, formal_judged, formal_of, formals_judged, fun_if, fun_judged, fun_of, funs_after, funs_over, head_judged, local_of, locals_of, result_judged, shape_of, single, single_type, start_of, with_fun}
-use Rattle.cal_check.specs.Statements.{behind, names_behind, type_of_var}
+use Rattle.cal_check.specs.Statements.{behind, names_behind}
 use Rattle.cal_check.specs.Written.{behind_vars, by_number, constant_written, gens_written, with_inner, written}
 use Rattle.seen_names.proofs.Bare.{AllSay, SaysOnly}
 use Rattle.seen_names.proofs.SameKinds.{MeanSame, and-same, counters-same, kind-same, more-same, number-same, type-same}

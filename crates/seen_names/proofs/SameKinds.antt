@@ -1,5 +1,5 @@
 -- Kinds and types of what calls no function, over names of which those that it says mean the same.
-use Rattle.std.proofs.Common.{◌≡◌, ℕ, ◌*◌, Bool, true, false, List, [], ◌∷◌, ◌++◌, refl, sym, ap, ◌∙◌, Option, None, Some}
+use Rattle.std.proofs.Common.{◌≡◌, ℕ, ◌*◌, true, List, [], ◌∷◌, ◌++◌, refl, ap, ◌∙◌, Option, None, Some}
 use Rattle.std.specs.Prelude.{if◌then◌else◌}
 use Rattle.std.specs.Str.{bytes_eq}
 use Rattle.rvc_base.specs.Turns.{max_turns}
@@ -7,13 +7,13 @@ use Rattle.rvc_base.specs.Rules.{unknown_name}
 use Rattle.cal_ast.specs.Places.{begins}
 use Rattle.cal_ast.specs.Tree as tree
 use Rattle.cal_ast.specs.Tree.{Tree}
-use Rattle.cal_model.specs.Value.{Kind, NumKind, BoolKind, ListKind, Shape, Value}
+use Rattle.cal_model.specs.Value.{Kind, NumKind, BoolKind, ListKind}
 use Rattle.cal_model.specs.Env.{find}
 use Rattle.cal_model.specs.Expression.{span}
 use Rattle.cal_model.specs.Kinding.{Judged, Fine, Broken, Known, Names, OfShape, OfSize, and_so, binary_kind, branch_kind, constant, constant_calls, constant_number, constants, counter, counts, elements_in, is_word, item_kind, kind, kinds, known_as, list_kind, list_of_kind, meant_by, number_given, prefix_kind, type_arguments, type_judged, type_with, with_counters, with_known}
 use Rattle.cal_model.proofs.KindNames.{find-constant}
 use Rattle.seen_names.proofs.Bare.{SaysOnly}
-use Rattle.seen_names.proofs.SameValues.{SeeSame, eval-same}
+use Rattle.seen_names.proofs.SameValues.{eval-same}
 
 pub and-same : {A B : Type 0} (o p : Judged A) (f g : A → Judged B) → o ≡ p → ((a : A) → f a ≡ g a) → and_so o f ≡ and_so p g
 and-same {A} {B} o p f g e h = ap (λ j. and_so j f) e ∙ go p

@@ -1,5 +1,5 @@
 -- Evaluation of what calls no function, over environments in which the names that it says mean the same.
-use Rattle.std.proofs.Common.{◌≡◌, ℕ, zero, suc, ◌+ℤ◌, ℤ, pos, true, false, List, [], ◌∷◌, refl, ap, ◌∙◌, Option, None, Some}
+use Rattle.std.proofs.Common.{◌≡◌, ℕ, zero, suc, ◌+ℤ◌, ℤ, pos, true, false, List, refl, ap, ◌∙◌, Some}
 use Rattle.std.specs.Prelude.{if◌then◌else◌}
 use Rattle.std.specs.Str.{bytes_eq}
 use Rattle.rvc_base.specs.Turns.{max_turns}

@@ -13,6 +13,7 @@ mod growing;
 mod known;
 mod needs;
 mod seen;
+mod settling;
 
 pub use calls::{calls_alone_need_functions, calls_any, type_calls_any};
 pub use declared::{DeclaredFun, names_differ};
