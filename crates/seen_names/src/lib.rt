@@ -14,6 +14,7 @@ mod known;
 mod needs;
 mod seen;
 mod settling;
+mod using;
 
 pub use calls::{calls_alone_need_functions, calls_any, type_calls_any};
 pub use declared::{DeclaredFun, names_differ};
