@@ -88,11 +88,7 @@ fn advance(
         → funs_over (fun_decls funs.now) (names_in env.new) ≡ (held env.new).funs) }
 {
     let next = round(alloc, at_rest, known, funs, env)?;
-    let stay = if calls {
-        funs_stay(alloc, env, &next, funs)
-    } else {
-        Ok(false)
-    };
+    let stay = funs_stay(alloc, calls, env, &next, funs);
     *env = next;
     stay
 }

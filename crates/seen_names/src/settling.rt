@@ -60,9 +60,10 @@ fn fun_stays(before: &Names, next: &Names, f: DeclaredFun) -> Result<bool, Memor
 }
 
 /// Whether functions are the same over the names and the functions of another environment. A yes is right; what is the
-/// same may get a no.
+/// same may get a no. It isn't sought unless a function is called where something must be constant.
 pub(crate) fn funs_stay(
     alloc: Global,
+    calls: bool,
     before: &Env,
     next: &Env,
     funs: &[DeclaredFun],
@@ -70,6 +71,9 @@ pub(crate) fn funs_stay(
     ensures { IfOk result (λ stay. stay ≡ true → funs_over (fun_decls funs.now) (names_in before.now)
         ≡ funs_over (fun_decls funs.now) (names_in next.now)) }
 {
+    if !calls {
+        return Ok(false);
+    }
     let names = Names::outermost(alloc, before);
     let others = Names::outermost(alloc, next);
     for f in funs {
