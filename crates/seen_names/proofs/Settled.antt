@@ -1,14 +1,14 @@
 -- Rounds that find what the round before them found: all further ones find the same.
-use Rattle.std.proofs.Common.{◌≡◌, ℕ, zero, suc, ◌+◌, ◌-◌, ◌≤◌, List, [], ◌∷◌, length, refl, sym, ap, ◌∙◌, arith}
+use Rattle.std.proofs.Common.{◌≡◌, ℕ, zero, suc, ◌+◌, ◌-◌, ◌≤◌, List, [], ◌∷◌, length, refl, sym, ap, subst, ◌∙◌, arith}
 use Rattle.std.proofs.lemmas.List.{length-map}
 use Rattle.cal_model.specs.Actor.{Fun}
 use Rattle.cal_model.specs.Kinding.{Known, Names}
-use Rattle.const_eval.specs.Held.{Kept, held, names_in}
+use Rattle.const_eval.specs.Held.{Kept, globals_of, held, names_in}
 use Rattle.cal_check.specs.Routines.{FunDecl, fun_judged, funs_after, funs_over, with_fun}
 use Rattle.cal_check.specs.Variables.{seen}
 use Rattle.seen_names.specs.Known.{fun_decl, fun_decls, names_alone}
 use Rattle.seen_names.specs.declared.declared.DeclaredFun.{DeclaredFun}
-use Rattle.seen_names.proofs.Rounds.{AreRounds, names_so}
+use Rattle.seen_names.proofs.Rounds.{AreRounds, names_so, rounds_more}
 
 -- so many rounds more
 further : ℕ → ℕ → ℕ
@@ -39,6 +39,20 @@ rounds_settled n funs known env l h s =
     let stays : funs_over all (record (names_alone known) { funs = funs_after n all (names_alone known) }) ≡ funs_after n all (names_alone known) =
     ap (funs_over all) (sym names) ∙ s ∙ h.funs in
     names ∙ ap (λ fs. record { globals = known; locals = []; funs = fs }) (sym (all_stay all (names_alone known) n (length all) few stays))
+
+-- one round more ..
+pub one_further : (n : ℕ) (funs : List DeclaredFun) (known : List Known) (old new : Kept) → AreRounds n (fun_decls funs) known old → globals_of new ≡ known
+    → (held new).funs ≡ funs_over (fun_decls funs) (names_in old) → AreRounds (n + 1) (fun_decls funs) known new
+one_further n funs known old new h globals found =
+    let more : suc n ≡ n + 1 = omega arith in
+    subst (λ k. AreRounds k (fun_decls funs) known new) more (rounds_more n (fun_decls funs) known old new h globals found)
+
+-- .. behind which functions stay
+pub last_round : (n : ℕ) (funs : List DeclaredFun) (known : List Known) (old new : Kept) → n + 1 ≤ length funs → AreRounds n (fun_decls funs) known old → globals_of new ≡ known
+    → (held new).funs ≡ funs_over (fun_decls funs) (names_in old) → funs_over (fun_decls funs) (names_in new) ≡ (held new).funs
+    → names_in new ≡ seen (fun_decls funs) known
+last_round n funs known old new l h globals found stay =
+    rounds_settled (n + 1) funs known new l (one_further n funs known old new h globals found) stay
 
 -- ---- the same functions over other names
 

@@ -95,6 +95,7 @@ fn advance(
 
 /// Adds all functions to names without functions. A head may call functions in its sizes, so there may be as many rounds
 /// as functions; they are over once one of them finds what the one before it found.
+#[tactic(auto, using(crate::proofs::Settled::last_round, crate::proofs::Settled::one_further))]
 fn add_funs(
     alloc: Global,
     at_rest: bool,

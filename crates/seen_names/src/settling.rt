@@ -1,6 +1,6 @@
 //! Whether functions are the same over two environments.
 
-ghost use Rattle.std.specs.Prelude.{◌≡◌, IfOk, List, true};
+ghost use Rattle.std.specs.Prelude.{◌≡◌, ◌∷◌, IfOk, List, true};
 ghost use Rattle.cal_ast.specs.View.{function_tree};
 ghost use Rattle.cal_check.specs.Routines.{fun_judged, funs_over, with_fun};
 ghost use Rattle.cal_model.specs.Actor.{Fun};

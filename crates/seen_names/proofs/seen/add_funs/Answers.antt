@@ -1,8 +1,7 @@
-use Rattle.std.proofs.Common.{◌≡◌, ◌≤◌, length, [], subst, arith}
+use Rattle.std.proofs.Common.{◌≡◌, [], subst, arith}
 use Rattle.const_eval.specs.Held.{last_first}
 use Rattle.seen_names.specs.Known.{fun_decls, known_at}
 use Rattle.seen_names.proofs.Rounds.{AreRounds, rounds_enough}
-use Rattle.seen_names.proofs.Settled.{rounds_settled}
 use Rattle.seen_names.proofs.seen.add_funs.Goals as goal
 
 pub returns : goal.returns
