@@ -20,10 +20,7 @@ use same_functions::same_function;
 use std::alloc::Global;
 
 /// Whether a function stays that was found so before.
-fn found_stays(
-    found: &BoundFun,
-    judged: Result<BoundFun, KindFault>,
-) -> Result<bool, Memory>
+fn found_stays(found: &BoundFun, judged: Result<BoundFun, KindFault>) -> Result<bool, Memory>
     ensures { IfOk result (λ stays. (j : Judged Fun) → Judges fun_view judged j → stays ≡ true
         → (more : List Fun) → fun_view found.now ∷ more ≡ with_fun j more) }
 {
