@@ -11,7 +11,7 @@ use Rattle.seen_names.specs.declared.declared.DeclaredFun.{DeclaredFun}
 use Rattle.seen_names.proofs.Rounds.{AreRounds, names_so, rounds_more}
 
 -- so many rounds more
-further : ℕ → ℕ → ℕ
+abbrev further : ℕ → ℕ → ℕ
 further zero n = n
 further (suc k) n = suc (further k n)
 
