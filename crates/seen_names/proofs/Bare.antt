@@ -1,10 +1,11 @@
--- What must be constant in a part calls no function, and says only such names.
-use Rattle.std.proofs.Common.{◌≡◌, ℕ, Bool, true, false, ◌||◌, List, [], ◌∷◌, ◌++◌, refl, sym, ap, ◌∙◌}
+-- What must be constant in a part says only such names, and calls functions only if that is allowed.
+use Rattle.std.proofs.Common.{◌≡◌, ℕ, Bool, true, false, ◌||◌, List, [], ◌∷◌, ◌++◌, refl, ap}
 use Rattle.std.specs.Prelude.{if◌then◌else◌}
 use Rattle.std.specs.Str.{bytes_eq}
 use Rattle.cal_ast.specs.Tree as tree
 use Rattle.cal_ast.specs.Tree.{Tree}
 use Rattle.cal_check.specs.Routines.{FunDecl}
+use Rattle.cal_check.specs.Uses.{OnlyUses}
 use Rattle.cal_model.specs.Tags.{is_seen, with_seen}
 use Rattle.cal_model.proofs.KindNames.{text-same}
 use Rattle.seen_names.specs.Calls.{calls_any}
@@ -15,34 +16,34 @@ If true A = A
 If false A = Unit {0}
 
 -- all of the part must be constant, or only the sizes and the bounds in it
-abbrev pub SaysOnly : (P : List ℕ → Type 0) → Bool → Tree → Type 0
-SaysOnly P constant (tree.variable text at) = If constant (P text)
-SaysOnly P constant (tree.call text args at) = If constant ⊥ × SaysOnly P constant args
-SaysOnly P constant (tree.cons t ts) = SaysOnly P constant t × SaysOnly P constant ts
-SaysOnly P constant (tree.present t) = SaysOnly P constant t
-SaysOnly P constant (tree.paren e at) = SaysOnly P constant e
-SaysOnly P constant (tree.if_expr test first other at) =
-    SaysOnly P constant test × SaysOnly P constant first × SaysOnly P constant other
-SaysOnly P constant (tree.list items at) = SaysOnly P constant items
-SaysOnly P constant (tree.comp item gens at) = SaysOnly P constant item × SaysOnly P true gens
-SaysOnly P constant (tree.gen shape x from to at) =
-    SaysOnly P true shape × SaysOnly P true from × SaysOnly P true to
-SaysOnly P constant (tree.index base place at) =
-    SaysOnly P constant base × SaysOnly P constant place
-SaysOnly P constant (tree.prefix op e at) = SaysOnly P constant e
-SaysOnly P constant (tree.binary op l r at) = SaysOnly P constant l × SaysOnly P constant r
-SaysOnly P constant (tree.type_of x args at) = SaysOnly P true args
-SaysOnly P constant (tree.shape_arg x shape) = SaysOnly P true shape
-SaysOnly P constant (tree.value_arg x value) = SaysOnly P true value
-SaysOnly P constant (tree.port shape x at) = SaysOnly P true shape
-SaysOnly P constant (tree.var shape x start changes at) = SaysOnly P true shape × SaysOnly P false start
-SaysOnly P constant (tree.function x formals result vars body at) =
-    SaysOnly P false formals × SaysOnly P true result × SaysOnly P false vars × SaysOnly P false body
-SaysOnly P constant other = Unit {0}
+abbrev pub SaysOnly : (P : List ℕ → Type 0) (C : Type 0) → Bool → Tree → Type 0
+SaysOnly P C constant (tree.variable text at) = If constant (P text)
+SaysOnly P C constant (tree.call text args at) = If constant C × SaysOnly P C constant args
+SaysOnly P C constant (tree.cons t ts) = SaysOnly P C constant t × SaysOnly P C constant ts
+SaysOnly P C constant (tree.present t) = SaysOnly P C constant t
+SaysOnly P C constant (tree.paren e at) = SaysOnly P C constant e
+SaysOnly P C constant (tree.if_expr test first other at) =
+    SaysOnly P C constant test × SaysOnly P C constant first × SaysOnly P C constant other
+SaysOnly P C constant (tree.list items at) = SaysOnly P C constant items
+SaysOnly P C constant (tree.comp item gens at) = SaysOnly P C constant item × SaysOnly P C true gens
+SaysOnly P C constant (tree.gen shape x from to at) =
+    SaysOnly P C true shape × SaysOnly P C true from × SaysOnly P C true to
+SaysOnly P C constant (tree.index base place at) =
+    SaysOnly P C constant base × SaysOnly P C constant place
+SaysOnly P C constant (tree.prefix op e at) = SaysOnly P C constant e
+SaysOnly P C constant (tree.binary op l r at) = SaysOnly P C constant l × SaysOnly P C constant r
+SaysOnly P C constant (tree.type_of x args at) = SaysOnly P C true args
+SaysOnly P C constant (tree.shape_arg x shape) = SaysOnly P C true shape
+SaysOnly P C constant (tree.value_arg x value) = SaysOnly P C true value
+SaysOnly P C constant (tree.port shape x at) = SaysOnly P C true shape
+SaysOnly P C constant (tree.var shape x start changes at) = SaysOnly P C true shape × SaysOnly P C false start
+SaysOnly P C constant (tree.function x formals result vars body at) =
+    SaysOnly P C false formals × SaysOnly P C true result × SaysOnly P C false vars × SaysOnly P C false body
+SaysOnly P C constant other = Unit {0}
 
-abbrev pub AllSay : (P : List ℕ → Type 0) → List FunDecl → Type 0
-AllSay P [] = Unit {0}
-AllSay P (f ∷ fs) = SaysOnly P false f.decl × AllSay P fs
+abbrev pub AllSay : (P : List ℕ → Type 0) (C : Type 0) → List FunDecl → Type 0
+AllSay P C [] = Unit {0}
+AllSay P C (f ∷ fs) = SaysOnly P C false f.decl × AllSay P C fs
 
 abbrev pub Any : List ℕ → Type 0
 Any name = Unit {0}
@@ -57,7 +58,7 @@ or_right : (a b : Bool) → (a || b) ≡ false → b ≡ false
 or_right true b h = cc
 or_right false b h = h
 
-pub none_called : (t : Tree) → calls_any t ≡ false → SaysOnly Any true t
+pub none_called : (t : Tree) → calls_any t ≡ false → SaysOnly Any ⊥ true t
 none_called (tree.number n at) h = tt
 none_called (tree.truth b at) h = tt
 none_called (tree.variable name at) h = tt
@@ -191,11 +192,11 @@ module _ (P : List ℕ → Type 0) where
   none_made false n a = tt
 
   -- two parts in a row
-  both : (b c : Bool) (t u : Tree) (n : Needed) → (Allows (with_needs b t n) → SaysOnly P b t) → (Allows (with_needs c u (with_needs b t n)) → SaysOnly P c u)
-      → Allows (with_needs c u (with_needs b t n)) → SaysOnly P b t × SaysOnly P c u
+  both : (b c : Bool) (t u : Tree) (n : Needed) → (Allows (with_needs b t n) → SaysOnly P ⊥ b t) → (Allows (with_needs c u (with_needs b t n)) → SaysOnly P ⊥ c u)
+      → Allows (with_needs c u (with_needs b t n)) → SaysOnly P ⊥ b t × SaysOnly P ⊥ c u
   both b c t u n f g a = (f (before (with_needs b t n) (with_needs c u (with_needs b t n)) (grows c u (with_needs b t n)) a), g a)
 
-  says : (constant : Bool) (t : Tree) (n : Needed) → Allows (with_needs constant t n) → SaysOnly P constant t
+  says : (constant : Bool) (t : Tree) (n : Needed) → Allows (with_needs constant t n) → SaysOnly P ⊥ constant t
   says constant (tree.variable text at) n a = name_said constant text n a
   says constant (tree.call text args at) n a = (
     none_made constant n (before (with_call constant n) (with_needs constant args (with_call constant n)) (grows constant args (with_call constant n)) a),
@@ -237,12 +238,40 @@ module _ (P : List ℕ → Type 0) where
   grow_all [] n = same n
   grow_all (f ∷ fs) n = and_then n (with_needs false f.decl n) (with_funs_needs fs (with_needs false f.decl n)) (grows false f.decl n) (grow_all fs (with_needs false f.decl n))
 
-  all_say : (fs : List FunDecl) (n : Needed) → Allows (with_funs_needs fs n) → AllSay P fs
+  all_say : (fs : List FunDecl) (n : Needed) → Allows (with_funs_needs fs n) → AllSay P ⊥ fs
   all_say [] n a = tt
   all_say (f ∷ fs) n a =
       let m = with_needs false f.decl n in
       (says false f.decl n (before m (with_funs_needs fs m) (grow_all fs m) a), all_say fs m a)
 
 -- functions say only what they need, if they call nothing there
-pub need_all : (P : List ℕ → Type 0) (fs : List FunDecl) → ((x : List ℕ) → is_seen x (needs_of fs).names ≡ true → P x) → (needs_of fs).calls ≡ false → AllSay P fs
+pub need_all : (P : List ℕ → Type 0) (fs : List FunDecl) → ((x : List ℕ) → is_seen x (needs_of fs).names ≡ true → P x) → (needs_of fs).calls ≡ false → AllSay P ⊥ fs
 need_all P fs h i = all_say P fs nothing (record { names = h; calls = i })
+
+-- ---- parts that use only such names, and may call
+
+if_so : {A : Type 0} (b : Bool) → A → If b A
+if_so true a = a
+if_so false a = tt
+
+pub uses_says : (P : List ℕ → Type 0) (constant : Bool) (t : Tree) → OnlyUses P t → SaysOnly P (Unit {0}) constant t
+uses_says P constant (tree.variable text at) u = if_so constant u
+uses_says P constant (tree.call text args at) u = (if_so constant tt, uses_says P constant args u.1)
+uses_says P constant (tree.cons t ts) u = (uses_says P constant t u.0, uses_says P constant ts u.1)
+uses_says P constant (tree.present t) u = uses_says P constant t u
+uses_says P constant (tree.paren e at) u = uses_says P constant e u
+uses_says P constant (tree.if_expr test first other at) u = (uses_says P constant test u.0, uses_says P constant first u.1, uses_says P constant other u.2)
+uses_says P constant (tree.list items at) u = uses_says P constant items u
+uses_says P constant (tree.comp item gens at) u = (uses_says P constant item u.0, uses_says P true gens u.1)
+uses_says P constant (tree.gen shape x from to at) u = (uses_says P true shape u.0, uses_says P true from u.1, uses_says P true to u.2)
+uses_says P constant (tree.index base place at) u = (uses_says P constant base u.0, uses_says P constant place u.1)
+uses_says P constant (tree.prefix op e at) u = uses_says P constant e u
+uses_says P constant (tree.binary op l r at) u = (uses_says P constant l u.0, uses_says P constant r u.1)
+uses_says P constant (tree.type_of x args at) u = uses_says P true args u
+uses_says P constant (tree.shape_arg x shape) u = uses_says P true shape u
+uses_says P constant (tree.value_arg x value) u = uses_says P true value u
+uses_says P constant (tree.port shape x at) u = uses_says P true shape u
+uses_says P constant (tree.var shape x start changes at) u = (uses_says P true shape u.0, uses_says P false start u.1)
+uses_says P constant (tree.function x formals result vars body at) u =
+    (uses_says P false formals u.0, uses_says P true result u.1, uses_says P false vars u.2, uses_says P false body u.3)
+uses_says P constant other u = tt

@@ -5,6 +5,7 @@ mod SameValues
 mod SameKinds
 mod Callless
 mod SameFuns
+mod SameAnswers
 mod OneRound
 mod OneMore
-mod Keys
+mod Settled

@@ -1,5 +1,5 @@
 -- Functions that are found in rounds.
-use Rattle.std.proofs.Common.{◌≡◌, ℕ, zero, suc, ◌+◌, ◌<◌, Bool, true, false, not, List, [], ◌∷◌, ◌++◌, map, refl, sym, ap, subst, ◌∙◌, arith, append_assoc, append-nil, length, drop, get_or, Option, None, Some}
+use Rattle.std.proofs.Common.{◌≡◌, ℕ, suc, ◌+◌, ◌<◌, Bool, true, false, not, List, [], ◌∷◌, ◌++◌, map, refl, sym, ap, subst, ◌∙◌, arith, append_assoc, append-nil, length, drop, get_or, Option, None, Some}
 use Rattle.std.specs.Prelude.{◌&&◌, ◌||◌, if◌then◌else◌}
 use Rattle.std.specs.Str.{bytes_eq}
 use Rattle.std.proofs.Math.Seq.{drop-cons}
@@ -14,7 +14,7 @@ use Rattle.const_env.specs.Held.{Kept, globals_of, held, last_first, names_in}
 use Rattle.cal_check.specs.Actors.{at_rest}
 use Rattle.cal_check.specs.Routines.{FunDecl, fun_judged, funs_after, funs_over, with_fun}
 use Rattle.cal_check.specs.Variables.{seen}
-use Rattle.seen_names.specs.Known.{AreNew, all_known, is_named_in, known_at, known_view, names_alone, names_differ, value_seen}
+use Rattle.seen_names.specs.Known.{AreNew, all_known, is_named_in, known_at, known_view, names_alone, names_differ}
 use Rattle.seen_names.specs.Needs.{AreEnough}
 use Rattle.seen_names.specs.declared.known.KnownName.{KnownName}
 

@@ -1,19 +1,22 @@
--- Kinds and types of what calls no function, over names of which those that it says mean the same.
-use Rattle.std.proofs.Common.{◌≡◌, ℕ, ◌*◌, Bool, true, false, List, [], ◌∷◌, ◌++◌, refl, sym, ap, ◌∙◌, Option, None, Some}
+-- Kinds and types over names of which those that a part says mean the same; of what calls no function, or functions that
+-- are the same and give the same.
+use Rattle.std.proofs.Common.{◌≡◌, ℕ, ◌*◌, true, false, List, [], ◌∷◌, ◌++◌, refl, ap, ◌∙◌, Option, None, Some}
 use Rattle.std.specs.Prelude.{if◌then◌else◌}
 use Rattle.std.specs.Str.{bytes_eq}
 use Rattle.rvc_base.specs.Turns.{max_turns}
-use Rattle.rvc_base.specs.Rules.{unknown_name}
+use Rattle.rvc_base.specs.Rules.{unknown_name, wrong_number_of_arguments}
 use Rattle.cal_ast.specs.Places.{begins}
 use Rattle.cal_ast.specs.Tree as tree
 use Rattle.cal_ast.specs.Tree.{Tree}
-use Rattle.cal_model.specs.Value.{Kind, NumKind, BoolKind, ListKind, Shape, Value}
+use Rattle.cal_model.specs.Value.{Kind, NumKind, BoolKind, ListKind, Values, kind_of_scalar, kind_of_type}
 use Rattle.cal_model.specs.Env.{find}
+use Rattle.cal_model.specs.Actor.{Fun, Local}
+use Rattle.cal_model.specs.Call.{calls_of, fun_named}
 use Rattle.cal_model.specs.Expression.{span}
-use Rattle.cal_model.specs.Kinding.{Judged, Fine, Broken, Known, Names, OfShape, OfSize, and_so, binary_kind, branch_kind, constant, constant_calls, constant_number, constants, counter, counts, elements_in, is_word, item_kind, kind, kinds, known_as, list_kind, list_of_kind, meant_by, number_given, prefix_kind, type_arguments, type_judged, type_with, with_counters, with_known}
+use Rattle.cal_model.specs.Kinding.{Judged, Fine, Broken, Known, Names, OfShape, OfSize, and_so, arguments_fit, binary_kind, branch_kind, constant, constant_calls, constant_number, constants, counter, counts, elements_in, is_word, item_kind, kind, kinds, known_as, list_kind, list_of_kind, meant_by, number_given, one_kind, prefix_kind, type_arguments, type_judged, type_with, with_counters, with_known}
 use Rattle.cal_model.proofs.KindNames.{find-constant}
 use Rattle.seen_names.proofs.Bare.{SaysOnly}
-use Rattle.seen_names.proofs.SameValues.{SeeSame, eval-same}
+use Rattle.seen_names.proofs.SameValues.{eval-same}
 
 pub and-same : {A B : Type 0} (o p : Judged A) (f g : A → Judged B) → o ≡ p → ((a : A) → f a ≡ g a) → and_so o f ≡ and_so p g
 and-same {A} {B} o p f g e h = ap (λ j. and_so j f) e ∙ go p
@@ -22,19 +25,39 @@ and-same {A} {B} o p f g e h = ap (λ j. and_so j f) e ∙ go p
     go (Fine a) = h a
     go (Broken rule at) = refl
 
-found-same : (name : List ℕ) (xs ys : List Known) → known_as name xs ≡ known_as name ys → find name (constants xs) ≡ find name (constants ys)
+pub found-same : (name : List ℕ) (xs ys : List Known) → known_as name xs ≡ known_as name ys → find name (constants xs) ≡ find name (constants ys)
 found-same name xs ys h =
     let f = find-constant name xs in
     let g = find-constant name ys in
     cc
 
-module _ (P : List ℕ → Type 0) where
-  -- the names of which P holds mean the same
-  abbrev pub MeanSame : Names → Names → Type 0
-  MeanSame n m = (name : List ℕ) → P name → meant_by name n ≡ meant_by name m
+abbrev of_call : Option Fun → Tree → ℕ → Names → Judged Kind
+of_call o args at names = elim o [
+  | None ↦ Broken unknown_name at
+  | Some f ↦ and_so (arguments_fit args f.formals names)
+      (λ as_many. if as_many then Fine (kind_of_scalar f.result)
+      else Broken wrong_number_of_arguments at)
+]
+
+call-same : (o : Option Fun) (args : Tree) (at : ℕ) (n m : Names) → ((fs : List Local) → arguments_fit args fs n ≡ arguments_fit args fs m) → of_call o args at n ≡ of_call o args at m
+call-same None args at n m h = refl
+call-same (Some f) args at n m h =
+    ap (λ j. and_so j (λ as_many. if as_many then Fine (kind_of_scalar f.result) else Broken wrong_number_of_arguments at)) (h f.formals)
+
+module _ (P : List ℕ → Type 0) (C : Type 0) where
+  -- the names of which P holds mean the same; if calls are allowed, functions are the same and give the same
+  pub record MeanSame (n m : Names) : Type 0 where
+    pub names : (name : List ℕ) → P name → meant_by name n ≡ meant_by name m
+    pub funs : C → n.funs ≡ m.funs
+    pub given : C → (name : List ℕ) (args : Values) (left : ℕ)
+        → calls_of n.funs (constants n.globals) name args left ≡ calls_of m.funs (constants m.globals) name args left
 
   pub more-same : (x : Known) (n m : Names) → MeanSame n m → MeanSame (with_known x n) (with_known x m)
-  more-same x n m s name p = ap (λ o. if bytes_eq x.name name then Some x else o) (s name p)
+  more-same x n m s = record {
+    names = λ name p. ap (λ o. if bytes_eq x.name name then Some x else o) (s.names name p);
+    funs = s.funs;
+    given = s.given;
+  }
 
   pub counters-same : (gens : Tree) (n m : Names) → MeanSame n m → MeanSame (with_counters gens n) (with_counters gens m)
   counters-same (tree.cons (tree.gen shape (tree.ident name place) from to at) gens) n m s =
@@ -43,12 +66,12 @@ module _ (P : List ℕ → Type 0) where
 
   -- ---- constants
 
-  pub constant-same : (e : Tree) (n m : Names) → MeanSame n m → SaysOnly P true e → constant e n ≡ constant e m
+  pub constant-same : (e : Tree) (n m : Names) → MeanSame n m → SaysOnly P C true e → constant e n ≡ constant e m
   constant-same e n m s r =
-      eval-same P (constant_calls n) (constant_calls m) e (record { globals = constants (n.locals ++ n.globals); locals = [] }) (record { globals = constants (m.locals ++ m.globals); locals = [] }) max_turns
-      (λ name p. found-same name (n.locals ++ n.globals) (m.locals ++ m.globals) (s name p)) r
+      eval-same P C (constant_calls n) (constant_calls m) e (record { globals = constants (n.locals ++ n.globals); locals = [] }) (record { globals = constants (m.locals ++ m.globals); locals = [] }) max_turns
+      (record { names = λ name p. found-same name (n.locals ++ n.globals) (m.locals ++ m.globals) (s.names name p); given = s.given }) r
 
-  pub number-same : (e : Tree) (n m : Names) → MeanSame n m → SaysOnly P true e → kind e n ≡ kind e m → constant_number (kind e n) e n ≡ constant_number (kind e m) e m
+  pub number-same : (e : Tree) (n m : Names) → MeanSame n m → SaysOnly P C true e → kind e n ≡ kind e m → constant_number (kind e n) e n ≡ constant_number (kind e m) e m
   number-same e n m s r k = ap (λ j. constant_number j e n) k ∙ go (kind e m)
     where
       go : (j : Judged Kind) → constant_number j e n ≡ constant_number j e m
@@ -63,11 +86,12 @@ module _ (P : List ℕ → Type 0) where
   kind_meant o at = elim o [ None ↦ Broken unknown_name at | Some x ↦ Fine x.kind ]
 
   mutual
-    pub kind-same : (e : Tree) (n m : Names) → MeanSame n m → SaysOnly P true e → kind e n ≡ kind e m
+    pub kind-same : (e : Tree) (n m : Names) → MeanSame n m → SaysOnly P C true e → kind e n ≡ kind e m
     kind-same (tree.number v at) n m s r = refl
     kind-same (tree.truth b at) n m s r = refl
-    kind-same (tree.variable name at) n m s r = ap (λ o. kind_meant o at) (s name r)
-    kind-same (tree.call name args at) n m s r = absurd r.0
+    kind-same (tree.variable name at) n m s r = ap (λ o. kind_meant o at) (s.names name r)
+    kind-same (tree.call name args at) n m s r =
+        ap (λ fs. of_call (fun_named name fs) args at n) (s.funs r.0) ∙ call-same (fun_named name m.funs) args at n m (λ fs. fit-same args fs n m s r.1)
     kind-same (tree.paren e at) n m s r = kind-same e n m s r
     kind-same (tree.if_expr test first other at) n m s r =
         and-same (kind test n) (kind test m) _ _ (kind-same test n m s r.0)
@@ -84,13 +108,23 @@ module _ (P : List ℕ → Type 0) where
         and-same (kind l n) (kind l m) _ _ (kind-same l n m s r.0) (λ k. ap (λ j. and_so j (λ q. binary_kind op k q at)) (kind-same o n m s r.1))
     kind-same other n m s r = refl
 
-    kinds-same : (es : Tree) (n m : Names) → MeanSame n m → SaysOnly P true es → kinds es n ≡ kinds es m
+    kinds-same : (es : Tree) (n m : Names) → MeanSame n m → SaysOnly P C true es → kinds es n ≡ kinds es m
     kinds-same tree.nil n m s r = refl
     kinds-same (tree.cons e es) n m s r =
         and-same (kind e n) (kind e m) _ _ (kind-same e n m s r.0) (λ k. ap (λ j. and_so j (λ ks. Fine (k ∷ ks))) (kinds-same es n m s r.1))
     kinds-same other n m s r = refl
 
-    elements-same : (gens : Tree) (n m : Names) → MeanSame n m → SaysOnly P true gens → elements_in gens n ≡ elements_in gens m
+    fit-same : (args : Tree) (fs : List Local) (n m : Names) → MeanSame n m → SaysOnly P C true args → arguments_fit args fs n ≡ arguments_fit args fs m
+    fit-same tree.nil [] n m s r = refl
+    fit-same tree.nil (f ∷ fs) n m s r = refl
+    fit-same (tree.cons e es) [] n m s r =
+        and-same (kind e n) (kind e m) _ _ (kind-same e n m s r.0) (λ k. ap (λ j. and_so j (λ as_many. Fine false)) (fit-same es [] n m s r.1))
+    fit-same (tree.cons e es) (f ∷ fs) n m s r =
+        and-same (kind e n) (kind e m) _ _ (kind-same e n m s r.0)
+        (λ k. and-same (one_kind (kind_of_type f.shape) k (begins e)) (one_kind (kind_of_type f.shape) k (begins e)) _ _ refl (λ l. fit-same es fs n m s r.1))
+    fit-same other fs n m s r = refl
+
+    elements-same : (gens : Tree) (n m : Names) → MeanSame n m → SaysOnly P C true gens → elements_in gens n ≡ elements_in gens m
     elements-same tree.nil n m s r = refl
     elements-same (tree.cons (tree.gen shape (tree.ident name place) from to at) gens) n m s r =
         and-same (type_judged shape n) (type_judged shape m) _ _ (type-same shape n m s r.0.0)
@@ -101,12 +135,12 @@ module _ (P : List ℕ → Type 0) where
         (elements-same gens (with_known (counter name) n) (with_known (counter name) m) (more-same (counter name) n m s) r.1)))))
     elements-same other n m s r = refl
 
-    pub type-same : (shape : Tree) (n m : Names) → MeanSame n m → SaysOnly P true shape → type_judged shape n ≡ type_judged shape m
+    pub type-same : (shape : Tree) (n m : Names) → MeanSame n m → SaysOnly P C true shape → type_judged shape n ≡ type_judged shape m
     type-same (tree.type_of (tree.ident name place) args at) n m s r =
         ap (λ j. if is_word name then and_so j (λ given. type_with name given at) else Broken unknown_name place) (type-arguments-same args n m s r)
     type-same other n m s r = refl
 
-    type-arguments-same : (args : Tree) (n m : Names) → MeanSame n m → SaysOnly P true args → type_arguments args n ≡ type_arguments args m
+    type-arguments-same : (args : Tree) (n m : Names) → MeanSame n m → SaysOnly P C true args → type_arguments args n ≡ type_arguments args m
     type-arguments-same tree.nil n m s r = refl
     type-arguments-same (tree.cons (tree.shape_arg (tree.ident name place) shape) args) n m s r =
         and-same (type_judged shape n) (type_judged shape m) _ _ (type-same shape n m s r.0)

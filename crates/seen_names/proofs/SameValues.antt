@@ -1,5 +1,6 @@
--- Evaluation of what calls no function, over environments in which the names that it says mean the same.
-use Rattle.std.proofs.Common.{◌≡◌, ℕ, zero, suc, ◌+ℤ◌, ℤ, pos, true, false, List, [], ◌∷◌, refl, ap, ◌∙◌, Option, None, Some}
+-- Evaluation over environments in which the names that a part says mean the same; what calls no function, or functions
+-- that give the same.
+use Rattle.std.proofs.Common.{◌≡◌, ℕ, zero, suc, ◌+ℤ◌, ℤ, pos, true, false, List, refl, ap, ◌∙◌, Some}
 use Rattle.std.specs.Prelude.{if◌then◌else◌}
 use Rattle.std.specs.Str.{bytes_eq}
 use Rattle.rvc_base.specs.Turns.{max_turns}
@@ -49,25 +50,30 @@ each-same (suc n) i f g left h =
     then-same (f i left) (g i left) _ _ (h i left) (λ vs m.
     ap (λ o. and_then o (λ ws k. Gives (joined vs ws) k)) (each-same n (i +ℤ pos 1) f g m h))
 
-module _ (P : List ℕ → Type 0) where
-  -- ---- environments
-
-  -- the names of which P holds mean the same
-  abbrev pub SeeSame : Env → Env → Type 0
-  SeeSame x y = (name : List ℕ) → P name → look_up name x ≡ look_up name y
-
-  more-same : (z : Var) (x y : Env) → SeeSame x y → SeeSame (with_local z x) (with_local z y)
-  more-same z x y s name p = ap (λ o. if bytes_eq z.name name then Some z.value else o) (s name p)
-
+module _ (P : List ℕ → Type 0) (C : Type 0) where
   module _ (c d : Calls) where
+    -- ---- environments
+
+    -- the names of which P holds mean the same, and functions give the same if calls are allowed
+    pub record SeeSame (x y : Env) : Type 0 where
+      pub names : (name : List ℕ) → P name → look_up name x ≡ look_up name y
+      pub given : C → (name : List ℕ) (args : Values) (left : ℕ) → c x.globals name args left ≡ d y.globals name args left
+
+    pub more-same : (z : Var) (x y : Env) → SeeSame x y → SeeSame (with_local z x) (with_local z y)
+    more-same z x y s = record {
+      names = λ name p. ap (λ o. if bytes_eq z.name name then Some z.value else o) (s.names name p);
+      given = s.given;
+    }
+
     -- ---- evaluation
 
     mutual
-      pub eval-same : (e : Tree) (x y : Env) (left : ℕ) → SeeSame x y → SaysOnly P true e → eval e c x left ≡ eval e d y left
+      pub eval-same : (e : Tree) (x y : Env) (left : ℕ) → SeeSame x y → SaysOnly P C true e → eval e c x left ≡ eval e d y left
       eval-same (tree.number n at) x y left s r = refl
       eval-same (tree.truth b at) x y left s r = refl
-      eval-same (tree.variable name at) x y left s r = ap (λ o. known o left) (s name r)
-      eval-same (tree.call name args at) x y left s r = absurd r.0
+      eval-same (tree.variable name at) x y left s r = ap (λ o. known o left) (s.names name r)
+      eval-same (tree.call name args at) x y left s r =
+          then-same (eval_all args c x left) (eval_all args d y left) _ _ (all-same args x y left s r.1) (λ vs m. turn-same m _ _ (λ k. s.given r.0 name vs k))
       eval-same (tree.paren e at) x y left s r = eval-same e x y left s r
       eval-same (tree.if_expr test first other at) x y left s r =
           then-same (eval test c x left) (eval test d y left) _ _ (eval-same test x y left s r.0) (λ v m.
@@ -84,14 +90,14 @@ module _ (P : List ℕ → Type 0) where
           then-same (eval l c x left) (eval l d y left) _ _ (eval-same l x y left s r.0) (λ v m. right-same op v _ _ m (λ k. eval-same o x y k s r.1))
       eval-same other x y left s r = refl
 
-      all-same : (es : Tree) (x y : Env) (left : ℕ) → SeeSame x y → SaysOnly P true es → eval_all es c x left ≡ eval_all es d y left
+      all-same : (es : Tree) (x y : Env) (left : ℕ) → SeeSame x y → SaysOnly P C true es → eval_all es c x left ≡ eval_all es d y left
       all-same tree.nil x y left s r = refl
       all-same (tree.cons e es) x y left s r =
           then-same (eval e c x left) (eval e d y left) _ _ (eval-same e x y left s r.0) (λ v m.
           ap (λ o. and_then o (λ vs k. Gives (Cons v vs) k)) (all-same es x y m s r.1))
       all-same other x y left s r = refl
 
-      elements-same : (gens : Tree) (f g : Env → ℕ → Out Value) (x y : Env) (left : ℕ) → SeeSame x y → SaysOnly P true gens
+      elements-same : (gens : Tree) (f g : Env → ℕ → Out Value) (x y : Env) (left : ℕ) → SeeSame x y → SaysOnly P C true gens
           → ((v w : Env) (k : ℕ) → SeeSame v w → f v k ≡ g w k) → elements gens f c x left ≡ elements gens g d y left
       elements-same tree.nil f g x y left s r h = turn-same left _ _ (λ m. ap (λ o. and_then o (λ v k. Gives (one v) k)) (h x y m s))
       elements-same (tree.cons (tree.gen shape (tree.ident name place) from to at) gens) f g x y left s r h =
@@ -104,12 +110,12 @@ module _ (P : List ℕ → Type 0) where
           (more-same (variable name t false (stored t (Num i))) x y s) r.1 h)))))
       elements-same other f g x y left s r h = refl
 
-      type-same : (shape : Tree) (x y : Env) (left : ℕ) → SeeSame x y → SaysOnly P true shape → type_meant shape c x left ≡ type_meant shape d y left
+      type-same : (shape : Tree) (x y : Env) (left : ℕ) → SeeSame x y → SaysOnly P C true shape → type_meant shape c x left ≡ type_meant shape d y left
       type-same (tree.type_of (tree.ident name place) args at) x y left s r =
           ap (λ o. and_then o (λ given m. needed (type_named name given) m)) (args-same args x y left s r)
       type-same other x y left s r = refl
 
-      args-same : (args : Tree) (x y : Env) (left : ℕ) → SeeSame x y → SaysOnly P true args → args_given args c x left ≡ args_given args d y left
+      args-same : (args : Tree) (x y : Env) (left : ℕ) → SeeSame x y → SaysOnly P C true args → args_given args c x left ≡ args_given args d y left
       args-same tree.nil x y left s r = refl
       args-same (tree.cons (tree.shape_arg name shape) args) x y left s r =
           then-same (type_meant shape c x left) (type_meant shape d y left) _ _ (type-same shape x y left s r.0) (λ t m.

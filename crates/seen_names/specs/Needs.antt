@@ -15,6 +15,7 @@ use Rattle.cal_ast.specs.declared.member.PortDecl.{PortDecl}
 use Rattle.cal_ast.specs.declared.member.VarDecl.{VarDecl}
 use Rattle.cal_model.specs.Kinding.{Known, Names}
 use Rattle.cal_model.specs.Tags.{is_seen, with_seen}
+use Rattle.cal_check.specs.Actors.{uses}
 use Rattle.cal_check.specs.Routines.{FunDecl, funs_after}
 use Rattle.cal_check.specs.Variables.{seen}
 use Rattle.const_env.specs.Held.{Kept as Environment, names_in}
@@ -73,6 +74,11 @@ with_funs_needs (f ∷ fs) n = with_funs_needs fs (with_needs false f.decl n)
 abbrev pub needs_of : List FunDecl → Needed
 needs_of fs = with_funs_needs fs nothing
 
+-- some function uses the name, as a variable or a function, anywhere
+abbrev pub any_uses : List ℕ → List FunDecl → Bool
+any_uses name [] = false
+any_uses name (f ∷ fs) = uses name f.decl || any_uses name fs
+
 -- ---- what calls answer
 
 abbrev pub AddsTo : Result (Unit {0}) Memory → (Needed → Needed) → (old new : Needed) → Type 0
@@ -119,10 +125,12 @@ AreEnough n fs = (names : Names) → funs_after n fs names ≡ funs_after (lengt
 
 -- ---- names that become known
 
--- what is kept of names: without functions, what the functions need, and the names with the functions, if they were made
+-- what is kept of names: without functions, what the functions need and use, and the names with the functions, if they were
+-- made
 pub record Kept : Type 0 where
   pub alone : Names
   pub needs : Needed
+  pub used : List (List ℕ)
   pub seen : Option Names
 
 abbrev pub AreThose : Option Names → Names → Type 0
@@ -133,12 +141,14 @@ AreThose (Some found) names = found ≡ names
 pub record Growing : Type 0 where
   pub alone : Environment
   pub needs : Needed
+  pub used : List (List ℕ)
   pub seen : Option Environment
 
 abbrev pub kept_in : Growing → Kept
 kept_in names = record {
   alone = names_in names.alone;
   needs = names.needs;
+  used = names.used;
   seen = option_map names_in names.seen;
 }
 
@@ -146,25 +156,26 @@ kept_in names = record {
 pub record IsKept (kept : Kept) (fs : List FunDecl) (known : List Known) : Type 0 where
   pub alone : kept.alone ≡ names_alone known
   pub needs : kept.needs ≡ needs_of fs
+  pub used : (x : List ℕ) → is_seen x kept.used ≡ any_uses x fs
   pub seen : AreThose kept.seen (seen fs known)
 
--- a function may be another once a name is known
-abbrev pub may_change : Needed → List ℕ → Bool
-may_change needs name = needs.calls || is_seen name needs.names
+-- A function may be another once a name is known: what it calls where something must be constant may use the name.
+abbrev pub may_change : Needed → (used : List (List ℕ)) → List ℕ → Bool
+may_change needs used name =
+    if needs.calls then is_seen name used else is_seen name needs.names
 
 abbrev pub with_global : Known → Names → Names
 with_global x names = record names { globals = x ∷ names.globals }
 
 -- the names with the functions, once one name more is known
-abbrev pub grown : Known → Needed → Option Names → Option Names
-grown x needs names = if may_change needs x.name then None else option_map (with_global x) names
+abbrev pub grown : Known → Needed → (used : List (List ℕ)) → Option Names → Option Names
+grown x needs used names =
+    if may_change needs used x.name then None else option_map (with_global x) names
 
 -- one name more is known alone, and with the functions
 
 abbrev pub with_alone : Known → Kept → Kept
-with_alone x kept =
-    record { alone = with_global x kept.alone; needs = kept.needs; seen = kept.seen }
+with_alone x kept = record kept { alone = with_global x kept.alone }
 
 abbrev pub with_grown : Known → Kept → Kept
-with_grown x kept =
-    record { alone = kept.alone; needs = kept.needs; seen = grown x kept.needs kept.seen }
+with_grown x kept = record kept { seen = grown x kept.needs kept.used kept.seen }

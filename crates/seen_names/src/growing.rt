@@ -11,21 +11,25 @@ use crate::declared::DeclaredFun;
 use crate::known::{KnownName, add_name, names_alone};
 use crate::needs::Needs;
 use crate::seen::seen_over;
+use crate::using::names_used;
 use const_eval::Env;
 use rvc_base::Memory;
 use std::alloc::Global;
 use std::marker::Model;
+use used_names::NameSet;
 
 /// Names that become known one after the other: alone, and with all functions that are seen over them.
 ///
 /// The names with the functions are made when they are asked for, and stay. A name that becomes known is added to them,
-/// unless the sizes or the bounds in a function say it or call functions: then the functions may be others, and all of
-/// it is made anew when it is asked for next.
+/// unless the sizes or the bounds in a function say it, or, if these call functions, any function uses it: then the
+/// functions may be others, and all of it is made anew when it is asked for next.
 #[derive(Drop)]
 pub struct GrowingNames {
     alloc: Global,
     alone: Env,
     needs: Needs,
+    /// The names that the functions use anywhere.
+    used: NameSet,
     seen: Option<Env>,
 }
 
@@ -43,6 +47,7 @@ impl Model for GrowingNames {
     ghost view = { λ names. record {
       alone = names.alone;
       needs = names.needs;
+      used = names.used;
       seen = names.seen;
     } };
 }
@@ -62,10 +67,12 @@ impl GrowingNames {
     {
         let alone = names_alone(alloc, known)?;
         let needs = needs_of(alloc, funs)?;
+        let used = names_used(alloc, funs)?;
         Ok(GrowingNames {
             alloc,
             alone,
             needs,
+            used,
             seen: None,
         })
     }
@@ -145,8 +152,12 @@ impl GrowingNames {
 
     /// Whether a function may be another once a name is known.
     fn may_change(&self, x: &KnownName) -> bool
-        ensures { result ≡ may_change self.now.needs (known_view x.now).name }
+        ensures { result ≡ may_change self.now.needs self.now.used (known_view x.now).name }
     {
-        self.needs.calls() || self.needs.has(x.name.as_str())
+        let name = x.name.as_str();
+        if self.needs.calls() {
+            return self.used.contains(name);
+        }
+        self.needs.has(name)
     }
 }

@@ -11,9 +11,10 @@ mod constants;
 mod declared;
 mod growing;
 mod known;
-mod name_set;
 mod needs;
 mod seen;
+mod settling;
+mod using;
 
 pub use calls::{calls_alone_need_functions, calls_any, type_calls_any};
 pub use declared::{DeclaredFun, names_differ};

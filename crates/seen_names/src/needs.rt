@@ -4,10 +4,10 @@ ghost use Rattle.std.specs.Prelude.{◌≡◌, OnOk};
 ghost use Rattle.cal_model.specs.Tags.{is_seen};
 ghost use Rattle.seen_names.specs.Needs.{nothing, with_call, with_name};
 
-use crate::name_set::NameSet;
 use rvc_base::Memory;
 use std::alloc::Global;
 use std::marker::Model;
+use used_names::NameSet;
 
 /// The names that are said in what must be constant in functions, and whether a function is called there. What must be
 /// constant are the sizes of types and the bounds of generators.

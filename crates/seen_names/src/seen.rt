@@ -1,6 +1,6 @@
 //! Names with all functions that are seen over them.
 
-ghost use Rattle.std.specs.Prelude.{◌≡◌, ◌++◌, [], IfOk, OnOk, false, map, true};
+ghost use Rattle.std.specs.Prelude.{◌≡◌, ◌≤◌, ◌++◌, [], IfOk, OnOk, false, length, map, true};
 ghost use Rattle.cal_ast.specs.View.{function_tree};
 ghost use Rattle.cal_check.specs.Actors.{at_rest};
 ghost use Rattle.cal_check.specs.Routines.{fun_judged, funs_over, with_fun};
@@ -14,6 +14,7 @@ ghost use Rattle.seen_names.specs.Needs.{AreEnough, needs_of};
 use crate::constants::needs_of;
 use crate::declared::DeclaredFun;
 use crate::known::{KnownName, names_without};
+use crate::settling::funs_stay;
 use cal_model::types_are_kept;
 use const_eval::{Env, KindFault, Names};
 use routine_build::fun_of;
@@ -61,7 +62,8 @@ fn round(
 #[tactic(auto, using(crate::proofs::OneRound::all_rounds, crate::proofs::OneRound::one_round))]
 fn rounds_needed(funs: &[DeclaredFun], calls: bool) -> usize
     requires { calls ≡ (needs_of (fun_decls funs.now)).calls }
-    ensures { AreEnough result (fun_decls funs.now) }
+    ensures enough { AreEnough result (fun_decls funs.now) }
+    ensures few { result ≤ length funs.now }
 {
     if calls || funs.is_empty() {
         return funs.len();
@@ -69,7 +71,58 @@ fn rounds_needed(funs: &[DeclaredFun], calls: bool) -> usize
     1
 }
 
-/// The names with all functions. A head may call functions in its sizes, so there may be as many rounds as functions.
+/// One round more. Tells whether it is known that all further rounds find the same functions; it isn't sought if nothing
+/// that must be constant calls a function.
+fn advance(
+    alloc: Global,
+    at_rest: bool,
+    known: &[KnownName],
+    funs: &[DeclaredFun],
+    calls: bool,
+    env: &mut Env,
+) -> Result<bool, Memory>
+    requires { names_differ (fun_decls funs.now) ≡ true }
+    ensures names { OnOk result (globals_of env.new ≡ last_first (known_at at_rest) known.now []) }
+    ensures funs { OnOk result ((held env.new).funs ≡ funs_over (fun_decls funs.now) (names_in env.old)) }
+    ensures stay { IfOk result (λ stay. stay ≡ true
+        → funs_over (fun_decls funs.now) (names_in env.new) ≡ (held env.new).funs) }
+{
+    let next = round(alloc, at_rest, known, funs, env)?;
+    let stay = funs_stay(alloc, calls, env, &next, funs);
+    *env = next;
+    stay
+}
+
+/// Adds all functions to names without functions. A head may call functions in its sizes, so there may be as many rounds
+/// as functions; they are over once one of them finds what the one before it found.
+#[tactic(auto, using(crate::proofs::Settled::last_round, crate::proofs::Settled::one_further))]
+fn add_funs(
+    alloc: Global,
+    at_rest: bool,
+    known: &[KnownName],
+    funs: &[DeclaredFun],
+    calls: bool,
+    env: &mut Env,
+) -> Result<(), Memory>
+    requires differ { names_differ (fun_decls funs.now) ≡ true }
+    requires calls { calls ≡ (needs_of (fun_decls funs.now)).calls }
+    requires names { globals_of env.old ≡ last_first (known_at at_rest) known.now [] }
+    requires no_funs { (held env.old).funs ≡ [] }
+    ensures { OnOk result (names_in env.new
+        ≡ seen (fun_decls funs.now) (last_first (known_at at_rest) known.now [])) }
+{
+    let needed = rounds_needed(funs, calls);
+    let mut rounds = 0usize;
+    'rounds: while rounds < needed {
+        if advance(alloc, at_rest, known, funs, calls, env)? {
+            return Ok(());
+        }
+        rounds += 1;
+    }
+    Ok(())
+}
+
+/// The names with all functions.
 fn with_funs(
     alloc: Global,
     at_rest: bool,
@@ -83,12 +136,7 @@ fn with_funs(
         ≡ seen (fun_decls funs.now) (last_first (known_at at_rest) known.now [])) }
 {
     let mut env = names_without(alloc, at_rest, known)?;
-    let needed = rounds_needed(funs, calls);
-    let mut rounds = 0usize;
-    'rounds: while rounds < needed {
-        env = round(alloc, at_rest, known, funs, &env)?;
-        rounds += 1;
-    }
+    add_funs(alloc, at_rest, known, funs, calls, &mut env)?;
     Ok(env)
 }
 

@@ -6,6 +6,7 @@
 #![tactic(auto)]
 
 mod exprs;
+mod functions;
 mod kept;
 mod members;
 mod name_set;
@@ -13,6 +14,8 @@ mod outer;
 mod stmts;
 mod used;
 
+pub use functions::add_names_used;
 pub use kept::{keep_funs, keep_vars};
+pub use name_set::NameSet;
 pub use outer::{OuterDecl, OuterForm};
 pub use used::{UsedNames, used_names};

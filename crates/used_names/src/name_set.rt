@@ -12,7 +12,7 @@ use std::marker::Model;
 ///
 /// It is seen as the list of the names in order of first appearance, each once.
 #[derive(Drop)]
-pub(crate) struct NameSet {
+pub struct NameSet {
     alloc: Global,
     names: IndexSet<String>,
 }
@@ -27,7 +27,7 @@ impl Model for NameSet {
 
 impl NameSet {
     /// No names.
-    pub(crate) fn new(alloc: Global) -> NameSet
+    pub fn new(alloc: Global) -> NameSet
         ensures { result ≡ [] }
     {
         NameSet {
@@ -41,7 +41,7 @@ impl NameSet {
     /// # Errors
     ///
     /// `Memory` if memory runs out.
-    pub(crate) fn add(&mut self, name: &str) -> Result<(), Memory>
+    pub fn add(&mut self, name: &str) -> Result<(), Memory>
         ensures { OnOk result (self.new ≡ with_seen self.old name.now) }
     {
         let name = String::from_str(self.alloc, name)?;
@@ -50,7 +50,7 @@ impl NameSet {
     }
 
     /// Whether a name is there.
-    pub(crate) fn contains(&self, name: &str) -> bool
+    pub fn contains(&self, name: &str) -> bool
         ensures { result ≡ is_seen name.now self.now }
     {
         self.names.contains(name)

@@ -1,5 +1,5 @@
 -- Variables that call no function are judged over the names alone, and others over the names with the functions.
-use Rattle.std.proofs.Common.{◌≡◌, Bool, true, false, List, [], ◌∷◌, ◌++◌, map, refl, sym, ap, subst, ◌∙◌}
+use Rattle.std.proofs.Common.{◌≡◌, Bool, true, false, List, [], ◌∷◌, ◌++◌, refl, sym, ap, subst, ◌∙◌}
 use Rattle.std.specs.Prelude.{◌||◌, Some, option_map, if◌then◌else◌}
 use Rattle.std.specs.declared.result.Result.{Result}
 use Rattle.rvc_base.specs.declared.refusal.Front.{Front}

@@ -9,7 +9,7 @@ use Rattle.cal_model.specs.Value.{Shape, Value}
 use Rattle.cal_model.specs.Outcome.{Out}
 use Rattle.cal_model.specs.Expression.{eval}
 use Rattle.cal_model.specs.Call.{calls_of}
-use Rattle.cal_model.specs.Kinding.{Judged, Fine, Broken, Known, Names, constant, constants}
+use Rattle.cal_model.specs.Kinding.{Broken, Known, constant, constants}
 use Rattle.cal_model.specs.Kinding as kinding
 use Rattle.cal_model.specs.Laws.{ConstantIsValue}
 use Rattle.const_env.specs.Constants.{Constant, constants_among, other_constants, var_of}

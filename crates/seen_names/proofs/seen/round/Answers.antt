@@ -1,4 +1,4 @@
-use Rattle.std.proofs.Common.{◌≡◌, ◌+◌, ◌++◌, [], ◌∷◌, drop, map, sym, ap, subst, ◌∙◌, rules}
+use Rattle.std.proofs.Common.{◌≡◌, ◌+◌, ◌++◌, [], ◌∷◌, drop, subst}
 use Rattle.cal_ast.specs.View.{function_tree}
 use Rattle.cal_check.specs.Routines.{fun_judged, with_fun}
 use Rattle.const_env.specs.Held.{held, last_first, names_in}

@@ -2,7 +2,7 @@ use Rattle.std.proofs.Common.{◌-◌, ◌≤◌, []}
 use Rattle.const_env.specs.Held.{last_first}
 use Rattle.seen_names.specs.Known.{fun_decls, known_at}
 use Rattle.seen_names.proofs.Rounds.{AreRounds}
-use Rattle.seen_names.proofs.seen.with_funs.Given as goal
+use Rattle.seen_names.proofs.seen.add_funs.Given as goal
 
 abbrev pub invariant-rounds : goal.invariant-rounds
 invariant-rounds l = record {
