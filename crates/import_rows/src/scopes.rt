@@ -176,8 +176,8 @@ file U unit U : int u = 1; end
 file A import V.v; actor A() ==> : int x = v; end
 file V import U.*; unit V : int v = u; int t = 2; end
 file U unit U : int u = 1; end
-# actor A ( ) ==> : int x = U.u + V.v + U.w ; end; U.u in 2: int u = 1; U.w in 2: int w = 2; V.v in 3: int v = 3
-file A import U.u; import V.v; import U.w; actor A() ==> : int x = u + v + w; end
+# actor A ( ) ==> : int x = U.u + U.w ; int y = V.v ; end; U.u in 2: int u = 1; U.w in 2: int w = 2; V.v in 3: int v = 3
+file A import U.u; import V.v; import U.w; actor A() ==> : int x = u + w; int y = v; end
 file U unit U : int u = 1; int w = 2; end
 file V unit V : int v = 3; end
 # actor A ( ) ==> : function f ( int x ) --> int : g ( g ( x ) ) end function g ( int x ) --> int : x end end
@@ -210,7 +210,7 @@ file V unit V : int v = u; end
 file A import lib.U.*; import V.k; actor A() ==> : int k = 3; end
 file lib.U package lib; unit U : int k = 1; function g(int x) --> int : x + k end end
 file V unit V : int k = 2; end
-# S2 in 1 at 27
+# S2 in 1 at 24
 file A import U.u; import V.k; import U.k; actor A() ==> : end
 file U unit U : int u = 1; int k = 2; end
 file V unit V : int k = 3; end
