@@ -71,8 +71,8 @@ y[x]
 [y : for List(kind:bool) j in 0 .. 3]
 [y : for int j in 0 .. 3, for int k in 0 .. 3]";
 
-/// A function of a number of so many bits, with a local that starts with a text and a result of so many bits.
-fn function(a: Global, name: &str, size: u8, start: &str, result: u8) -> Result<BoundFun, Fail> {
+/// A function of a number of so many bits, with a local that starts with a text and a result of so many `bits`.
+fn function(a: Global, name: &str, size: u8, start: &str, bits: u8) -> Result<BoundFun, Fail> {
     let mut formals = Vec::new(a);
     formals.push(local(a, "x", size, None)?)?;
     let mut locals = Vec::new(a);
@@ -81,15 +81,15 @@ fn function(a: Global, name: &str, size: u8, start: &str, result: u8) -> Result<
         name: String::from_str(a, name)?,
         formals,
         locals,
-        result: Scalar::Int(result),
+        result: Scalar::Int(bits),
         body: expression(a, "x + y")?,
     })
 }
 
 /// Whether the function `f` of these parts is the one of 8 bits whose local starts with 1.
-fn is_first(a: Global, name: &str, size: u8, start: &str, result: u8) -> Result<bool, Fail> {
+fn is_first(a: Global, name: &str, size: u8, start: &str, bits: u8) -> Result<bool, Fail> {
     let one = function(a, "f", 8, "1", 8)?;
-    let other = function(a, name, size, start, result)?;
+    let other = function(a, name, size, start, bits)?;
     Ok(same_function(&one, &other))
 }
 
