@@ -53,7 +53,6 @@ if y then x else x end
 [x]
 [y]
 [y, x]
-[]
 x[y]
 x[x]
 y[x]
