@@ -8,5 +8,7 @@ here=$(cd -- "$(dirname -- "${BASH_SOURCE[0]}")" && pwd)
 top=$(cd -- "$here/../.." && pwd)
 "$top/rvc" --help >/dev/null 2>&1 || true
 program=$top/crates/rvc_cli/out/rvc_cli
+# As the script `rvc` does: a chain of calls takes stack.
+ulimit -S -s "$(ulimit -H -s)" 2>/dev/null || true
 [ -x "$program" ] || { echo "the program isn't built: run ./rvc first" >&2; exit 1; }
 PYTHONDONTWRITEBYTECODE=1 python3 "$here/measure.py" "$program" "${1:-100}" "${@:2}"

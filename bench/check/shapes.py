@@ -232,6 +232,11 @@ ROUTINES = {
         "", lambda k: "function f%d(int a) --> int : a end int x%d := f%d(1); " % (k, k, k)),
     "functions with a constant size, and such variables": actor(
         "int n = 8; ", lambda k: "function f%d(int(size=n) a) --> int : a end int x%d := f%d(1); " % (k, k, k)),
+    "functions with a constant size of their own, and such variables": actor(
+        "", lambda k: "int n%d = 8; function f%d(int(size=n%d) a) --> int : a end int x%d := f%d(1); " % (k, k, k, k, k)),
+    "functions with sizes that call a function, and such variables": actor(
+        "function n(int a) --> int : 8 end ",
+        lambda k: "function f%d(int(size=n(1)) a) --> int : a end int x%d := f%d(1); " % (k, k, k)),
     "functions with sizes that call a function": actor(
         "function n(int a) --> int : 8 end ", lambda k: "function f%d(int(size=n(1)) a) --> int : a end " % k),
     "functions of long expressions": actor(
