@@ -13,12 +13,7 @@ use rvc_base::Scalar;
 use std::alloc::{AllocError, Global};
 use std::test::Fail;
 
-pub(crate) fn local(
-    a: Global,
-    text: &str,
-    size: u8,
-    start: Option<Expr>,
-) -> Result<BoundLocal, AllocError>
+fn local(a: Global, text: &str, size: u8, start: Option<Expr>) -> Result<BoundLocal, AllocError>
     ensures { IfOk result (λ x. shape_view x.shape ≡ Single (scalar.Int size)) }
 {
     Ok(BoundLocal {

@@ -1,5 +1,5 @@
 //! Rows of expressions as text with their answers, over the public calls of `const_eval`: what they give, and of which kind
-//! they are; and which expressions and functions are the same, by `same_functions`. The lexer and the parser read them.
+//! they are. The lexer and the parser read them.
 //!
 //! Tests that stand beside a crate make it be proved twice.
 #![tactic(auto)]
@@ -10,8 +10,6 @@ mod functions;
 mod kinds;
 #[cfg(test)]
 mod rows;
-#[cfg(test)]
-mod same;
 #[cfg(test)]
 mod table;
 #[cfg(test)]

@@ -1,8 +1,8 @@
 //! Functions that are the same, and ones that differ in one part.
 
-use crate::functions::local;
-use crate::rows::expression;
-use cal_model::BoundFun;
+use crate::spelling::expression;
+use cal_ast::Expr;
+use cal_model::{BoundFun, BoundLocal, Shape};
 use rvc_base::Scalar;
 use same_functions::{same_expr, same_function};
 use std::alloc::Global;
@@ -69,6 +69,16 @@ y[x]
 [y : for List(type:bool) j in 0 .. 3]
 [y : for List(kind:bool) j in 0 .. 3]
 [y : for int j in 0 .. 3, for int k in 0 .. 3]";
+
+/// A formal or local of so many bits.
+fn local(a: Global, text: &str, size: u8, start: Option<Expr>) -> Result<BoundLocal, Fail> {
+    Ok(BoundLocal {
+        name: String::from_str(a, text)?,
+        shape: Shape::Scalar(Scalar::Int(size)),
+        start,
+        changes: false,
+    })
+}
 
 /// A function of a number of so many bits, with a local that starts with a text and a result of so many `bits`.
 fn function(a: Global, name: &str, size: u8, start: &str, bits: u8) -> Result<BoundFun, Fail> {
