@@ -261,7 +261,7 @@ BODIES = {
     "formals of a function": actor(
         "function f(int a0", lambda k: ", int a%d" % (k + 1), ") --> int : a0 end end"),
     "locals, and statements that use the first": halves(
-        "action In:[a] ==> var int l0 = 0", lambda k: ", int l%d = 0" % (k + 1), " do ", lambda k: "l0 := 1; ", "end end"),
+        "action In:[a] ==> var int l0 := 0", lambda k: ", int l%d := 0" % (k + 1), " do ", lambda k: "l0 := 1; ", "end end"),
     "procedures, and calls of the first": halves(
         "procedure p0(int a) begin end ", lambda k: "procedure p%d(int a) begin end " % (k + 1), "action In:[a] ==> do ",
         lambda k: "p0(1); ", "end end"),
