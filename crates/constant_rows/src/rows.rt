@@ -1,9 +1,10 @@
 //! One way from the text of an expression to its answer as text.
 
-ghost use Rattle.std.specs.Prelude.{◌≡◌, IfOk};
+ghost use Rattle.std.specs.Prelude.{◌≡◌, IfOk, true};
 ghost use Rattle.rvc_base.specs.declared.scalar.Scalar.TheVariants as scalar;
 ghost use Rattle.cal_model.specs.Value.{Single};
-ghost use Rattle.cal_model.specs.View.{shape_view};
+ghost use Rattle.cal_model.specs.View.{fun_view, shape_view};
+ghost use Rattle.const_env.specs.Sizes.{is_sized_fun};
 
 use crate::table::answered;
 use cal_ast::{Body, Expr, ExprForm, File, Member};
@@ -180,9 +181,8 @@ fn bare(form: ExprForm) -> Expr {
     Expr { form, at: 0 }
 }
 
-/// The number `n` and the list `l` of two truth values.
-pub(crate) fn constants(a: Global) -> Result<Env, Fail> {
-    let mut env = Env::new(a);
+/// Adds the number `n` and the list `l` of two truth values.
+fn add_constants(env: &mut Env, a: Global) -> Result<(), Fail> {
     env.add_value("n", Value::Num(2))?;
     let mut items = Vec::new(a);
     items.push(Value::Bool(true))?;
@@ -191,34 +191,57 @@ pub(crate) fn constants(a: Global) -> Result<Env, Fail> {
     if is_counted(&list) {
         env.add_value("l", list)?;
     }
+    Ok(())
+}
+
+/// The number `n` and the list `l` of two truth values.
+pub(crate) fn constants(a: Global) -> Result<Env, Fail> {
+    let mut env = Env::new(a);
+    add_constants(&mut env, a)?;
     Ok(env)
 }
 
 /// A function `f` that tests a number.
-pub(crate) fn with_function(a: Global) -> Result<Env, Fail> {
-    let mut env = Env::new(a);
+fn test_of_number(a: Global) -> Result<BoundFun, Fail>
+    ensures { IfOk result (λ fun. is_sized_fun (fun_view fun) ≡ true) }
+{
     let mut formals = Vec::new(a);
     formals.push(number_formal(a, "x")?)?;
-    env.add_fun(BoundFun {
+    Ok(BoundFun {
         name: String::from_str(a, "f")?,
         formals,
         locals: Vec::new(a),
         result: Scalar::Bool,
         body: bare(ExprForm::Bool(true)),
-    })?;
+    })
+}
+
+/// The function `f` that tests a number.
+pub(crate) fn with_function(a: Global) -> Result<Env, Fail> {
+    let fun = test_of_number(a)?;
+    let mut env = Env::new(a);
+    env.add_fun(fun)?;
     Ok(env)
 }
 
-/// The number `n`, and a function `f` that gives it.
-pub(crate) fn with_getter(a: Global) -> Result<Env, Fail> {
-    let mut env = Env::new(a);
-    env.add_value("n", Value::Num(2))?;
-    env.add_fun(BoundFun {
+/// A function `f` that gives the number `n`.
+fn getter(a: Global) -> Result<BoundFun, Fail>
+    ensures { IfOk result (λ fun. is_sized_fun (fun_view fun) ≡ true) }
+{
+    Ok(BoundFun {
         name: String::from_str(a, "f")?,
         formals: Vec::new(a),
         locals: Vec::new(a),
         result: Scalar::Int(32),
         body: bare(ExprForm::Name(String::from_str(a, "n")?)),
-    })?;
+    })
+}
+
+/// The number `n`, and a function `f` that gives it.
+pub(crate) fn with_getter(a: Global) -> Result<Env, Fail> {
+    let fun = getter(a)?;
+    let mut env = Env::new(a);
+    env.add_fun(fun)?;
+    env.add_value("n", Value::Num(2))?;
     Ok(env)
 }
