@@ -4,14 +4,8 @@
 # state offers two. The time of checking the same actor stands beside it. It writes nothing into the checkout but the
 # program.
 set -eu
-here=$(cd -- "$(dirname -- "${BASH_SOURCE[0]}")" && pwd)
-top=$(cd -- "$here/../.." && pwd)
-work=$(mktemp -d)
-trap 'rm -rf -- "$work"' EXIT
-
-"$top/rvc" --help >/dev/null 2>&1 || true
-program=$top/crates/rvc_cli/out/rvc_cli
-[ -x "$program" ] || { echo "the program isn't built: run ./rvc first" >&2; exit 1; }
+. "$(dirname -- "${BASH_SOURCE[0]}")/../common.sh"
+find_program
 
 # An actor with so many states. Of its 256 actions each state offers all, or only the first and one other.
 write_actor() {

@@ -4,11 +4,8 @@
 # takes ten times as long goes with the text, what takes a hundred times as long with the square of the parts. It writes
 # nothing into the checkout but the program.
 set -eu
-here=$(cd -- "$(dirname -- "${BASH_SOURCE[0]}")" && pwd)
-top=$(cd -- "$here/../.." && pwd)
-"$top/rvc" --help >/dev/null 2>&1 || true
-program=$top/crates/rvc_cli/out/rvc_cli
+. "$(dirname -- "${BASH_SOURCE[0]}")/../common.sh"
+find_program
 # As the script `rvc` does: a chain of calls takes stack.
 ulimit -S -s "$(ulimit -H -s)" 2>/dev/null || true
-[ -x "$program" ] || { echo "the program isn't built: run ./rvc first" >&2; exit 1; }
 PYTHONDONTWRITEBYTECODE=1 python3 "$here/measure.py" "$program" "${1:-100}" "${@:2}"

@@ -3,49 +3,24 @@
 # ratio. A firing is counted with the tokens that come in and those that are read. Both must send the same numbers. It
 # writes nothing into the checkout.
 set -eu
-here=$(cd -- "$(dirname -- "${BASH_SOURCE[0]}")" && pwd)
-top=$(cd -- "$here/../.." && pwd)
+. "$(dirname -- "${BASH_SOURCE[0]}")/../common.sh"
 rounds=${1:-5}
-work=$(mktemp -d)
-trap 'rm -rf -- "$work"' EXIT
 
 echo "lowering the actors, which takes some minutes" >&2
 bash "$top/bench/lowering/lowered.sh" "$top" "$work" "$here/actors" Inc.cal AddNet.xdf FlipNet.xdf dec/Rld.cal dec/Zigzag.cal \
     Wheel.cal >"$work/lowered.txt"
 
-# The driver is a program over crates of the checkout. What the checkout has proved already isn't proved again.
-cp "$top/HANDLES" "$work/"
-below=(rvc_base rvc_io trace_text code_ir schedule_fsm priority_order action_machine token_ring lowered_actor guard_select
-    net_model kept_facts actor_cell)
-for name in "${below[@]}"; do
-    mkdir -p "$work/crates/$name"
-    cp -r "$top/crates/$name/src" "$top/crates/$name/specs" "$top/crates/$name/proofs" "$work/crates/$name/"
-    if [ -d "$top/crates/$name/out/rlib" ]; then
-        mkdir -p "$work/crates/$name/out"
-        cp -a "$top/crates/$name/out/rlib" "$work/crates/$name/out/"
-    fi
-    grep "^$name:" "$top/crates.txt" >>"$work/crates.txt"
-done
-mkdir -p "$work/crates/firing_bench/src"
-cp "$here/driver.rt.txt" "$work/crates/firing_bench/src/main.rt"
-for file in "$here"/proofs/*.txt; do
-    name=$(basename "$file" .txt)
-    mkdir -p "$work/crates/firing_bench/proofs/${name%.*}"
-    cp "$file" "$work/crates/firing_bench/proofs/${name%.*}/${name#*.}.antt"
-done
+make_driver firing_bench rvc_base rvc_io trace_text code_ir schedule_fsm priority_order action_machine token_ring \
+    lowered_actor guard_select net_model kept_facts actor_cell
 {
     printf '//! The code and the tables of actors.\n\nuse code_ir::Instr;\nuse rvc_base::{Num, Scalar};\n\n'
     awk -v apart=1 -f "$top/bench/lowering/tables.awk" "$work/lowered.txt"
 } >"$work/crates/firing_bench/src/tables.rt"
-echo "firing_bench: ${below[*]}" >>"$work/crates.txt"
 echo "building both, which takes some minutes" >&2
-(cd "$work/crates/firing_bench" && rt run) >"$work/proved.log" 2>&1 || { tail -n 20 "$work/proved.log" >&2; exit 1; }
-proved=$work/crates/firing_bench/out/firing_bench
+build_driver firing_bench
 
 cp -r "$here/plain" "$work/plain"
-(cd "$work/plain" && RUSTFLAGS="-C target-cpu=x86-64-v2" cargo build --release --offline) >"$work/plain.log" 2>&1 ||
-    { tail -n 20 "$work/plain.log" >&2; exit 1; }
-plain=$work/plain/target/release/plain_firing
+build_plain plain_firing
 
 for ((round = 0; round < rounds; round++)); do
     "$proved"

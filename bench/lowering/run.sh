@@ -3,43 +3,20 @@
 # plain one in Rust, and the bodies written out in Rust, in turn. Prints how many instructions the code has and runs, and
 # nanoseconds a firing, with their ratios. All must send the same numbers. It writes nothing into the checkout.
 set -eu
-here=$(cd -- "$(dirname -- "${BASH_SOURCE[0]}")" && pwd)
-top=$(cd -- "$here/../.." && pwd)
+. "$(dirname -- "${BASH_SOURCE[0]}")/../common.sh"
 rounds=${1:-5}
-work=$(mktemp -d)
-trap 'rm -rf -- "$work"' EXIT
 
 echo "lowering the bodies, which takes some minutes" >&2
 bash "$here/lowered.sh" "$top" "$work" "$here/bodies" Sat.cal Idct.cal Crc.cal Grid.cal Chain.cal >"$work/lowered.txt"
 cat "$work/lowered.txt" "$here/hand.txt" | awk -f "$here/tables.awk" >"$work/tables"
 
-# The driver is a program over crates of the checkout. What the checkout has proved already isn't proved again.
-cp "$top/HANDLES" "$work/"
-below=(rvc_base code_ir action_machine)
-for name in "${below[@]}"; do
-    mkdir -p "$work/crates/$name"
-    cp -r "$top/crates/$name/src" "$top/crates/$name/specs" "$top/crates/$name/proofs" "$work/crates/$name/"
-    if [ -d "$top/crates/$name/out/rlib" ]; then
-        mkdir -p "$work/crates/$name/out"
-        cp -a "$top/crates/$name/out/rlib" "$work/crates/$name/out/"
-    fi
-    grep "^$name:" "$top/crates.txt" >>"$work/crates.txt"
-done
-mkdir -p "$work/crates/lowering_bench/src"
-cp "$here/driver.rt.txt" "$work/crates/lowering_bench/src/main.rt"
-for file in "$here"/proofs/*.txt; do
-    name=$(basename "$file" .txt)
-    mkdir -p "$work/crates/lowering_bench/proofs/${name%.*}"
-    cp "$file" "$work/crates/lowering_bench/proofs/${name%.*}/${name#*.}.antt"
-done
+make_driver lowering_bench rvc_base code_ir action_machine
 {
     printf '//! The code of bodies.\n\nuse code_ir::Instr;\nuse rvc_base::{Num, Scalar};\n\n'
     cat "$work/tables"
 } >"$work/crates/lowering_bench/src/tables.rt"
-echo "lowering_bench: ${below[*]}" >>"$work/crates.txt"
 echo "building both machines, which takes some minutes" >&2
-(cd "$work/crates/lowering_bench" && rt run) >"$work/proved.log" 2>&1 || { tail -n 20 "$work/proved.log" >&2; exit 1; }
-proved=$work/crates/lowering_bench/out/lowering_bench
+build_driver lowering_bench
 
 cp -r "$here/plain" "$work/plain"
 cp "$top/bench/machine/plain/src/machine.rs" "$work/plain/src/"
@@ -47,9 +24,7 @@ cp "$top/bench/machine/plain/src/machine.rs" "$work/plain/src/"
     echo "use crate::machine::{Instr, Num, Scalar};"
     cat "$work/tables"
 } >"$work/plain/src/tables.rs"
-(cd "$work/plain" && RUSTFLAGS="-C target-cpu=x86-64-v2" cargo build --release --offline) >"$work/plain.log" 2>&1 ||
-    { tail -n 20 "$work/plain.log" >&2; exit 1; }
-plain=$work/plain/target/release/plain_lowering
+build_plain plain_lowering
 
 for ((round = 0; round < rounds; round++)); do
     "$proved"

@@ -3,30 +3,15 @@
 # nanoseconds an instruction of each and their ratio. Both must leave the same numbers. It writes nothing into
 # the checkout.
 set -eu
-here=$(cd -- "$(dirname -- "${BASH_SOURCE[0]}")" && pwd)
-top=$(cd -- "$here/../.." && pwd)
+. "$(dirname -- "${BASH_SOURCE[0]}")/../common.sh"
 rounds=${1:-5}
-work=$(mktemp -d)
-trap 'rm -rf -- "$work"' EXIT
 
-# The driver is a program over the crates of the checkout, which are proved in the copy as `rt run` proves them.
-below=(rvc_base code_ir action_machine)
-for name in "${below[@]}"; do
-    mkdir -p "$work/crates/$name"
-    cp -r "$top/crates/$name/src" "$top/crates/$name/specs" "$top/crates/$name/proofs" "$work/crates/$name/"
-    grep "^$name:" "$top/crates.txt" >>"$work/crates.txt"
-done
-mkdir -p "$work/crates/machine_bench/src"
-cp "$here/driver.rt.txt" "$work/crates/machine_bench/src/main.rt"
-echo "machine_bench: ${below[*]}" >>"$work/crates.txt"
+make_driver machine_bench rvc_base code_ir action_machine
 echo "building both machines, which takes some minutes" >&2
-(cd "$work/crates/machine_bench" && rt run) >"$work/proved.log" 2>&1 || { tail -n 20 "$work/proved.log" >&2; exit 1; }
-proved=$work/crates/machine_bench/out/machine_bench
+build_driver machine_bench
 
 cp -r "$here/plain" "$work/plain"
-(cd "$work/plain" && RUSTFLAGS="-C target-cpu=x86-64-v2" cargo build --release --offline) >"$work/plain.log" 2>&1 ||
-    { tail -n 20 "$work/plain.log" >&2; exit 1; }
-plain=$work/plain/target/release/plain_machine
+build_plain plain_machine
 
 for ((round = 0; round < rounds; round++)); do
     echo "proved $("$proved")"

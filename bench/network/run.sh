@@ -5,18 +5,11 @@
 # be checked. Times are slopes between two lengths of input, so that what is done once isn't in them. It writes nothing into
 # the checkout but the program.
 set -eu
-here=$(cd -- "$(dirname -- "${BASH_SOURCE[0]}")" && pwd)
-top=$(cd -- "$here/../.." && pwd)
+. "$(dirname -- "${BASH_SOURCE[0]}")/../common.sh"
 rounds=${1:-3}
-work=$(mktemp -d)
-trap 'rm -rf -- "$work"' EXIT
-
-"$top/rvc" --help >/dev/null 2>&1 || true
-program=$top/crates/rvc_cli/out/rvc_cli
-[ -x "$program" ] || { echo "the program isn't built: run ./rvc first" >&2; exit 1; }
+find_program
 
 cp -r "$here/plain" "$work/plain"
-(cd "$work/plain" && RUSTFLAGS="-C target-cpu=x86-64-v2" cargo build --release --offline) >"$work/plain.log" 2>&1 ||
-    { tail -n 20 "$work/plain.log" >&2; exit 1; }
+build_plain plain_network
 
-python3 "$here/measure.py" "$program" "$work/plain/target/release/plain_network" "$here/gnuradio_row.py" "$rounds"
+python3 "$here/measure.py" "$program" "$plain" "$here/gnuradio_row.py" "$rounds"
