@@ -2,6 +2,4 @@
 #![tactic(auto)]
 
 #[cfg(test)]
-mod actors;
-#[cfg(test)]
 mod working;

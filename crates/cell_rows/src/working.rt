@@ -2,7 +2,7 @@
 
 ghost use Rattle.std.specs.Prelude.{◌≡◌, ◌≤◌};
 
-use crate::actors::{Named, lowered};
+use sample_actors::{Sample, lowered};
 use actor_cell::Cell;
 use net_model::{BurstEnd, Firing, Look, Tried};
 use rvc_base::{ActId, Memory, Num, Trap};
@@ -11,7 +11,7 @@ use std::process::Abort;
 use std::sync::Arc;
 
 /// A cell of this actor, with inboxes and an outbox for so many tokens, and a journal for so many firings.
-fn made(alloc: Global, named: Named, inbox: u32, outbox: u32, burst: u32) -> Result<Cell, Memory>
+fn made(alloc: Global, named: Sample, inbox: u32, outbox: u32, burst: u32) -> Result<Cell, Memory>
     requires inbox { 1 ≤ inbox }
     requires burst { 1 ≤ burst }
 {
@@ -82,7 +82,7 @@ fn holds(cell: &Cell, count: usize) -> bool {
 /// An actor, the tokens before its two ports, how the burst ends, the firings, what was sent, and how many tokens wait
 /// then before the first port.
 type Row<'a> = (
-    Named,
+    Sample,
     &'a [Num],
     &'a [Num],
     BurstEnd,
@@ -113,10 +113,10 @@ const TRAPS: BurstEnd = BurstEnd::Trap {
     trap: Trap::DivideByZero,
 };
 
-const BURSTS: &[(Named, &[Num], &[Num], BurstEnd, &[u16], &[Num], usize)] = &[
-    (Named::Ini, &[5], &[], WAITS, &[0, 1], &[9, 5], 0),
+const BURSTS: &[(Sample, &[Num], &[Num], BurstEnd, &[u16], &[Num], usize)] = &[
+    (Sample::Ini, &[5], &[], WAITS, &[0, 1], &[9, 5], 0),
     (
-        Named::Rep,
+        Sample::Rep,
         &[1, 2, 3, 4, 5],
         &[],
         WAITS,
@@ -124,13 +124,13 @@ const BURSTS: &[(Named, &[Num], &[Num], BurstEnd, &[u16], &[Num], usize)] = &[
         &[2, 1, 4, 3],
         1,
     ),
-    (Named::Peek, &[1], &[], WAITS, &[], &[], 1),
-    (Named::Peek, &[1, 101], &[], WAITS, &[0], &[1], 0),
-    (Named::Peek, &[1, 100], &[], WAITS, &[], &[], 2),
-    (Named::Two, &[1, 2, 3], &[], WAITS, &[0, 1], &[3, 3], 0),
-    (Named::Two, &[255, 2], &[], WAITS, &[0], &[1], 0),
+    (Sample::Peek, &[1], &[], WAITS, &[], &[], 1),
+    (Sample::Peek, &[1, 101], &[], WAITS, &[0], &[1], 0),
+    (Sample::Peek, &[1, 100], &[], WAITS, &[], &[], 2),
+    (Sample::Two, &[1, 2, 3], &[], WAITS, &[0, 1], &[3, 3], 0),
+    (Sample::Two, &[255, 2], &[], WAITS, &[0], &[1], 0),
     (
-        Named::Alt,
+        Sample::Alt,
         &[1, 2],
         &[10],
         WAITS,
@@ -138,9 +138,9 @@ const BURSTS: &[(Named, &[Num], &[Num], BurstEnd, &[u16], &[Num], usize)] = &[
         &[1, 10, 2],
         0,
     ),
-    (Named::Alt, &[], &[10], WAITS, &[], &[], 0),
+    (Sample::Alt, &[], &[10], WAITS, &[], &[], 0),
     (
-        Named::Fsm,
+        Sample::Fsm,
         &[5, 15, 30, 12, 3],
         &[],
         WAITS,
@@ -148,10 +148,10 @@ const BURSTS: &[(Named, &[Num], &[Num], BurstEnd, &[u16], &[Num], usize)] = &[
         &[1, 3, 30, 2, 3],
         0,
     ),
-    (Named::Div, &[10, 2, 7, 0, 9, 3], &[], TRAPS, &[0], &[5], 4),
-    (Named::Id16, &[-32767], &[], WAITS, &[0], &[-32767], 0),
+    (Sample::Div, &[10, 2, 7, 0, 9, 3], &[], TRAPS, &[0], &[5], 4),
+    (Sample::Wide, &[-32767], &[], WAITS, &[0], &[-32767], 0),
     // its guard traps at the second token, which stays
-    (Named::Quo, &[5, 0], &[], TRAPS, &[0], &[], 1),
+    (Sample::Quo, &[5, 0], &[], TRAPS, &[0], &[], 1),
 ];
 
 #[test]
@@ -161,7 +161,7 @@ fn bursts(rt: HostRuntime) -> Result<(), Memory> {
 
 /// Two firings round the end of the queues; of each, whether it sent what it should.
 fn round_the_end(alloc: Global) -> Result<(bool, bool), Memory> {
-    let mut cell = made(alloc, Named::Rep, 5, 4, 1)?;
+    let mut cell = made(alloc, Sample::Rep, 5, 4, 1)?;
     accept(&mut cell, 0, &[1, 2, 3, 4, 5])?;
     let end = burst(&mut cell, 1, &[4])?;
     let first = end == BurstEnd::Spent && sent_are(&cell, &[2, 1, 4, 3]) && holds(&cell, 1);
@@ -180,7 +180,7 @@ fn queues_go_round(rt: HostRuntime) -> Result<(), Memory> {
 }
 
 /// An actor, the tokens before its first port, the room, and what it would do.
-type Seen<'a> = (Named, &'a [Num], u32, Look);
+type Seen<'a> = (Sample, &'a [Num], u32, Look);
 
 fn hold_looks<R: Abort>(rt: &R, alloc: Global, rows: &[Seen<'_>]) -> Result<(), Memory> {
     for &(named, tokens, room, want) in rows {
@@ -195,12 +195,12 @@ fn hold_looks<R: Abort>(rt: &R, alloc: Global, rows: &[Seen<'_>]) -> Result<(), 
     Ok(())
 }
 
-const LOOKS: &[(Named, &[Num], u32, Look)] = &[
-    (Named::Two, &[1, 2], 8, Look::Ready(ActId(0))),
-    (Named::Two, &[1], 8, Look::Ready(ActId(1))),
-    (Named::Two, &[], 8, Look::Waits),
+const LOOKS: &[(Sample, &[Num], u32, Look)] = &[
+    (Sample::Two, &[1, 2], 8, Look::Ready(ActId(0))),
+    (Sample::Two, &[1], 8, Look::Ready(ActId(1))),
+    (Sample::Two, &[], 8, Look::Waits),
     (
-        Named::Two,
+        Sample::Two,
         &[1, 2],
         0,
         Look::NoRoom {
@@ -209,7 +209,7 @@ const LOOKS: &[(Named, &[Num], u32, Look)] = &[
         },
     ),
     (
-        Named::Rep,
+        Sample::Rep,
         &[1, 2, 3, 4],
         3,
         Look::NoRoom {
@@ -217,9 +217,9 @@ const LOOKS: &[(Named, &[Num], u32, Look)] = &[
             port: 0,
         },
     ),
-    (Named::Div, &[1, 0], 8, Look::Ready(ActId(0))),
+    (Sample::Div, &[1, 0], 8, Look::Ready(ActId(0))),
     (
-        Named::Quo,
+        Sample::Quo,
         &[0],
         8,
         Look::GuardTrap(ActId(0), Trap::DivideByZero),
@@ -233,7 +233,7 @@ fn looks(rt: HostRuntime) -> Result<(), Memory> {
 
 /// An actor, the tokens before its first port, the action that is named, the room, what comes of it, and how many
 /// tokens wait then.
-type Asked<'a> = (Named, &'a [Num], u16, u32, Tried, usize);
+type Asked<'a> = (Sample, &'a [Num], u16, u32, Tried, usize);
 
 fn hold_tries<R: Abort>(rt: &R, alloc: Global, rows: &[Asked<'_>]) -> Result<(), Memory> {
     for &(named, tokens, action, room, want, left) in rows {
@@ -250,25 +250,25 @@ const TRAP: Tried = Tried::Trap(Trap::DivideByZero);
 
 const NO_ROOM: Tried = Tried::NoRoom { port: 0 };
 
-const TRIES: &[(Named, &[Num], u16, u32, Tried, usize)] = &[
-    (Named::Two, &[1, 2], 0, 8, Tried::Fired, 0),
+const TRIES: &[(Sample, &[Num], u16, u32, Tried, usize)] = &[
+    (Sample::Two, &[1, 2], 0, 8, Tried::Fired, 0),
     // the first action is above it and enabled
-    (Named::Two, &[1, 2], 1, 8, Tried::NotExposed, 2),
-    (Named::Two, &[1], 1, 8, Tried::Fired, 0),
+    (Sample::Two, &[1, 2], 1, 8, Tried::NotExposed, 2),
+    (Sample::Two, &[1], 1, 8, Tried::Fired, 0),
     // it lacks tokens
-    (Named::Two, &[1], 0, 8, Tried::NotExposed, 1),
+    (Sample::Two, &[1], 0, 8, Tried::NotExposed, 1),
     // there is no such action
-    (Named::Two, &[1], 2, 8, Tried::NotExposed, 1),
-    (Named::Two, &[1, 2], 0, 0, NO_ROOM, 2),
+    (Sample::Two, &[1], 2, 8, Tried::NotExposed, 1),
+    (Sample::Two, &[1, 2], 0, 0, NO_ROOM, 2),
     // its guard is false
-    (Named::Peek, &[1, 1], 0, 8, Tried::NotExposed, 2),
+    (Sample::Peek, &[1, 1], 0, 8, Tried::NotExposed, 2),
     // it isn't eligible in the first state
-    (Named::Fsm, &[5], 2, 8, Tried::NotExposed, 1),
-    (Named::Fsm, &[5], 0, 8, Tried::Fired, 0),
+    (Sample::Fsm, &[5], 2, 8, Tried::NotExposed, 1),
+    (Sample::Fsm, &[5], 0, 8, Tried::Fired, 0),
     // of an action without room the body isn't run
-    (Named::Div, &[1, 0], 0, 0, NO_ROOM, 2),
-    (Named::Div, &[1, 0], 0, 8, TRAP, 2),
-    (Named::Quo, &[0], 0, 8, TRAP, 1),
+    (Sample::Div, &[1, 0], 0, 0, NO_ROOM, 2),
+    (Sample::Div, &[1, 0], 0, 8, TRAP, 2),
+    (Sample::Quo, &[0], 0, 8, TRAP, 1),
 ];
 
 #[test]
@@ -278,7 +278,7 @@ fn tries(rt: HostRuntime) -> Result<(), Memory> {
 
 /// How bursts end if the room is for one token, before and after what was sent has left.
 fn one_by_one(alloc: Global) -> Result<[BurstEnd; 2], Memory> {
-    let mut cell = made(alloc, Named::Two, 8, 8, 2)?;
+    let mut cell = made(alloc, Sample::Two, 8, 8, 2)?;
     accept(&mut cell, 0, &[1, 2, 3])?;
     let before = burst(&mut cell, 2, &[1])?;
     cell.clear();
@@ -298,7 +298,7 @@ fn an_outbox_counts_against_its_room(rt: HostRuntime) -> Result<(), Memory> {
 
 /// A trapped cell, and what is sent on a port that nobody reads.
 fn trapped(alloc: Global) -> Result<bool, Memory> {
-    let mut cell = made(alloc, Named::Div, 8, 0, 8)?;
+    let mut cell = made(alloc, Sample::Div, 8, 0, 8)?;
     accept(&mut cell, 0, &[9, 3, 1, 0])?;
     let _end = burst(&mut cell, 8, &[u32::MAX])?;
     Ok(

@@ -12,8 +12,6 @@ pub use feeds::replay_feeds;
 pub use replaying::replay_network;
 
 #[cfg(test)]
-mod actors;
-#[cfg(test)]
 mod changes;
 #[cfg(test)]
 mod networks;

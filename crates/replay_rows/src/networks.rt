@@ -1,6 +1,6 @@
 //! Small networks: their actors, links and ports, and the names of their instances.
 
-use crate::actors::{Named, lowered};
+use sample_actors::{Sample, lowered};
 use lowered_actor::Lowered;
 use net_model::{End, Link, Port, Wiring};
 use rvc_base::{InstId, Memory, Scalar};
@@ -103,17 +103,17 @@ fn rows(named: Net) -> &'static [Row] {
     }
 }
 
-fn instances(named: Net) -> &'static [Named] {
+fn instances(named: Net) -> &'static [Sample] {
     match named {
-        Net::Inc | Net::Wide => &[Named::Inc],
-        Net::Div => &[Named::Div],
-        Net::Countdown => &[Named::Countdown],
-        Net::Ring => &[Named::Race, Named::Race],
-        Net::Pair => &[Named::Copy, Named::Sum, Named::Join],
+        Net::Inc | Net::Wide => &[Sample::Inc],
+        Net::Div => &[Sample::Div],
+        Net::Countdown => &[Sample::Countdown],
+        Net::Ring => &[Sample::Race, Sample::Race],
+        Net::Pair => &[Sample::Copy, Sample::Sum, Sample::Join],
         Net::Beside | Net::Short | Net::Behind => {
-            &[Named::Copy, Named::Sum, Named::Join, Named::Race]
+            &[Sample::Copy, Sample::Sum, Sample::Join, Sample::Race]
         }
-        Net::Late => &[Named::Copy, Named::Sum, Named::Join, Named::Late],
+        Net::Late => &[Sample::Copy, Sample::Sum, Sample::Join, Sample::Late],
     }
 }
 

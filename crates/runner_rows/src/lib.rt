@@ -22,8 +22,6 @@ pub use ready::ready_cells;
 pub use running::{Ran, Ready, run_network};
 
 #[cfg(test)]
-mod actors;
-#[cfg(test)]
 mod crews;
 #[cfg(test)]
 mod faults;

@@ -1,6 +1,6 @@
 //! Small networks: their actors, links and ports.
 
-use crate::actors::{Named, lowered};
+use sample_actors::{Sample, lowered};
 use lowered_actor::Lowered;
 use net_model::{End, Link, Port, Wiring};
 use rvc_base::{InstId, Memory, Scalar};
@@ -106,20 +106,20 @@ fn rows(named: Net) -> &'static [Row] {
     }
 }
 
-fn names(named: Net) -> &'static [Named] {
+fn names(named: Net) -> &'static [Sample] {
     match named {
-        Net::Inc | Net::Narrow => &[Named::Inc],
-        Net::Div => &[Named::Div],
-        Net::Wide => &[Named::Wide],
-        Net::Ring => &[Named::Race, Named::Race],
-        Net::Pair => &[Named::Copy, Named::Sum, Named::Join],
-        Net::Blocks => &[Named::Runs, Named::Zigzag, Named::Sat],
-        Net::Fork => &[Named::Inc, Named::Copy],
-        Net::Five => &[Named::Inc, Named::Inc, Named::Inc, Named::Inc, Named::Inc],
-        Net::LowTraps => &[Named::Div, Named::Copy],
-        Net::HighTraps => &[Named::Copy, Named::Div],
-        Net::BothTrap => &[Named::Div, Named::Div],
-        Net::Itself => &[Named::Race],
+        Net::Inc | Net::Narrow => &[Sample::Inc],
+        Net::Div => &[Sample::Div],
+        Net::Wide => &[Sample::Wide],
+        Net::Ring => &[Sample::Race, Sample::Race],
+        Net::Pair => &[Sample::Copy, Sample::Sum, Sample::Join],
+        Net::Blocks => &[Sample::Runs, Sample::Zigzag, Sample::Sat],
+        Net::Fork => &[Sample::Inc, Sample::Copy],
+        Net::Five => &[Sample::Inc, Sample::Inc, Sample::Inc, Sample::Inc, Sample::Inc],
+        Net::LowTraps => &[Sample::Div, Sample::Copy],
+        Net::HighTraps => &[Sample::Copy, Sample::Div],
+        Net::BothTrap => &[Sample::Div, Sample::Div],
+        Net::Itself => &[Sample::Race],
         Net::Empty => &[],
     }
 }
