@@ -11,6 +11,8 @@ mod settings;
 #[cfg(test)]
 mod sources;
 #[cfg(test)]
+mod table;
+#[cfg(test)]
 mod verbs;
 #[cfg(test)]
 mod words;

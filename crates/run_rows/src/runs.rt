@@ -1,343 +1,41 @@
 //! Runs over the objects in memory: their outputs, traces, reports and statuses, and what faults leave.
+//!
+//! A table has parts. Each begins with `# ` and the text of the file `Inc.cal`; then come groups, each a line `= ` with what
+//! is left (`hold_left`) and the lines of words that leave it. A line is run with calls of each size. One that begins with
+//! numbers and a colon is run once: they are the most bytes of a call, and the read of a file, the call to the feeds and the
+//! call to the channels that fails.
 
-use crate::settings::{Failing, NEVER, Setting, run_setting};
+use crate::settings::{Failing, NEVER, Setting, hold_left, run_setting};
+use crate::table::cut;
 use std::alloc::Global;
 use std::process::Abort;
 use std::test::Fail;
 use std::thread::Threads;
 
-/// How a run ended: its exit status and the start of its name; and what the channels 0, 1 and 2 hold.
-type Left = (&'static str, &'static str, &'static str, &'static [u8]);
-
-/// How many bytes a call moves at most: one, a few, and more than a row has.
-const STEPS: &[u32] = &[1, 3, 1000];
-
-const INC: &str =
-    "actor Inc() uint(size=8) In ==> uint(size=8) Out : action In:[a] ==> Out:[a + 1] end end";
-
-const RUN: &str = "rvc run Inc.cal In=in Out=out --trace t";
-
 const BYTES: &[u8] = &[0, 1, 255];
 
-const NO_BYTES: &[u8] = &[];
-
-const REPORT: &str =
-    "instances 1\nlinks 2\ncertified 1\nfirings 3\nrounds 2\nin In 0 tokens 3 rest 0\nout Out tokens 3\nquiet\n";
-
-const TRACE: &str = "rvc-trace 1 1 2\ni 0 Inc Inc\nr\nf 0 0\nf 0 0\nf 0 0\nr\nq\n";
-
-/// What a run over the three bytes leaves.
-const WHOLE: Left = ("0 Quiet", REPORT, TRACE, &[1, 2, 0]);
-
-/// What a run over the three bytes leaves whose links may grow.
-const GROWING: Left = (
-    "0 Quiet",
-    REPORT,
-    "rvc-trace 2 1 2 1\ni 0 Inc Inc\nr\nf 0 0\nf 0 0\nf 0 0\nr\nq\n",
-    &[1, 2, 0],
-);
-
-/// What a run over no bytes leaves.
-const EMPTY: Left = (
-    "0 Quiet",
-    "instances 1\nlinks 2\ncertified 1\nfirings 0\nrounds 1\nin In 0 tokens 0 rest 0\nout Out tokens 0\nquiet\n",
-    "rvc-trace 1 1 2\ni 0 Inc Inc\nr\nq\n",
-    NO_BYTES,
-);
-
-/// What a run with a budget of two firings leaves.
-const CUT: Left = (
-    "7 Budget { firings: 2 }",
-    "instances 1\nlinks 2\ncertified 1\nfirings 2\nrounds 2\nin In 0 tokens 3 rest 0\nout Out tokens 2\nbudget 2\n",
-    "rvc-trace 1 1 2\ni 0 Inc Inc\nr\nf 0 0\nf 0 0\nr\nb\n",
-    &[1, 2],
-);
-
-/// What a run leaves whose output no word names.
-const UNNAMED: Left = ("0 Quiet", REPORT, TRACE, NO_BYTES);
-
-/// What a run of these words over this input leaves.
-const RUNS: &[(&str, &[u8], Left)] = &[
-    (RUN, BYTES, WHOLE),
-    (RUN, NO_BYTES, EMPTY),
-    (
-        "rvc run Inc.cal In=in Out=out --trace t --budget 2",
-        BYTES,
-        CUT,
-    ),
-    (
-        "rvc run Inc.cal In=in Out=out --trace t --budget 3",
-        BYTES,
-        WHOLE,
-    ),
-    ("rvc run Inc.cal Out=out In=in --trace t", BYTES, WHOLE),
-    ("rvc --trace t run Inc.cal In=in Out=out", BYTES, WHOLE),
-    (
-        "rvc run --budget=3 Inc.cal In=in --trace=t Out=out --workers 1 --burst 64 --round all",
-        BYTES,
-        WHOLE,
-    ),
-    (
-        "rvc run Inc.cal In=in Out=out --trace t --workers 2",
-        BYTES,
-        WHOLE,
-    ),
-    ("rvc run Inc.cal In=in --trace t", BYTES, UNNAMED),
-    (
-        "rvc run Inc.cal In=in Out=out --trace t --round turn",
-        BYTES,
-        WHOLE,
-    ),
-    (
-        "rvc run Inc.cal In=in Out=out --trace t --burst 63",
-        BYTES,
-        WHOLE,
-    ),
-    (
-        "rvc run Inc.cal In=in Out=out --trace t --grow 1",
-        BYTES,
-        GROWING,
-    ),
-];
-
-const FAILED_PULL: Left = (
-    "2 ReadFault(Feed(1))",
-    "read fault in\n",
-    "rvc-trace 1 1 2\ni 0 Inc Inc\n",
-    NO_BYTES,
-);
-
-const FAILED_OUTPUT: Left = (
-    "3 WriteFault { channel: 2 }",
-    "write fault 2\n",
-    "rvc-trace 1 1 2\ni 0 Inc Inc\n",
-    NO_BYTES,
-);
-
-const FAILED_FILE: Left = ("2 ReadFault(File(1))", "read fault Inc.cal\n", "", NO_BYTES);
-
-/// What a run leaves in which one call fails.
-const FAULTS: &[(&str, &str, u32, Failing, Left)] = &[
-    (RUN, INC, 1, (0, 3, 0), FAILED_PULL),
-    (RUN, INC, 3, (0, 3, 0), FAILED_PULL),
-    (RUN, INC, 1000, (0, 3, 0), FAILED_PULL),
-    (RUN, INC, 1, (0, 0, 31), FAILED_OUTPUT),
-    (RUN, INC, 3, (0, 0, 13), FAILED_OUTPUT),
-    (RUN, INC, 1000, (0, 0, 4), FAILED_OUTPUT),
-    // no feed is opened if no word names the input
-    (
-        "rvc run Inc.cal Out=out --trace t",
-        INC,
-        1000,
-        (0, 1, 0),
-        EMPTY,
-    ),
-    ("rvc run Inc.cal --trace t", INC, 1000, (0, 1, 0), EMPTY),
-    ("rvc fmt Inc.cal", SPREAD, 1000, (1, 0, 0), FAILED_FILE),
-    (
-        "rvc fmt Inc.cal In=in",
-        SPREAD,
-        1000,
-        (1, 0, 0),
-        FAILED_FILE,
-    ),
-    (
-        "rvc fmt Inc.cal",
-        SPREAD,
-        1,
-        (0, 0, 4),
-        ("3 WriteFault { channel: 0 }", "act", "", NO_BYTES),
-    ),
-    (
-        "rvc fmt Inc.cal",
-        SPREAD,
-        3,
-        (0, 0, 1),
-        ("3 WriteFault { channel: 0 }", "", "", NO_BYTES),
-    ),
-    (
-        "rvc fmt Inc.cal",
-        SPREAD,
-        1000,
-        (0, 0, 1),
-        ("3 WriteFault { channel: 0 }", "", "", NO_BYTES),
-    ),
-];
-
-const SPREAD: &str =
-    "actor Inc() uint(size=8) In ==> uint(size=8) Out : action In:[a] ==> Out:[a+1] endaction endactor";
-
-const PRINTED: &str =
-    "actor Inc ( ) uint ( size = 8 ) In ==> uint ( size = 8 ) Out : action In : [ a ] ==> Out : [ a + 1 ] end\nend\n";
-
-/// What `check` and `certify` write of the actor.
-const VERDICTS: &[(&str, &str)] = &[
-    ("rvc check Inc.cal", "instances 1\nlinks 2\ndone\n"),
-    ("rvc certify Inc.cal", "certified 1\ndone\n"),
-];
-
-/// What `fmt` writes of these sources.
-const PRINTS: &[(&str, &str, &str)] = &[
-    ("rvc fmt Inc.cal", SPREAD, PRINTED),
-    ("rvc fmt Inc.cal", PRINTED, PRINTED),
-    (
-        "rvc fmt Inc.cal --trace t --workers 2 --round turn --burst 63 --budget 1",
-        SPREAD,
-        PRINTED,
-    ),
-    (
-        "rvc fmt Inc.cal --trace t --workers 2 --round turn --burst 63 --budget 1",
-        PRINTED,
-        PRINTED,
-    ),
-];
-
-/// What refuses these words and this source.
-const REFUSALS: &[(&str, &str, &str)] = &[
-    (
-        "rvc run No.cal In=in Out=out --trace t",
-        INC,
-        "refused N1 words 0\n",
-    ),
-    (RUN, "actor B() \"", "refused L5 Inc.cal 10\n"),
-    (
-        RUN,
-        "actor B() uint(size=8) In ==> ",
-        "refused G1 Inc.cal 30\n",
-    ),
-    (RUN, " unit U : end", "refused S5 Inc.cal 0\n"),
-    ("rvc gen 1 In=in --trace t", INC, "refused P1 words 0\n"),
-    (
-        "rvc replay Inc.cal In=in Out=out --trace t",
-        INC,
-        "refused P1 words 1\n",
-    ),
-    ("rvc check Inc.cal In=in", INC, "refused P1 words 0\n"),
-    ("rvc certify Inc.cal Out=out", INC, "refused P1 words 0\n"),
-    (
-        "rvc run Inc.xdf In=in Out=out --trace t",
-        INC,
-        "refused N1 words 0\n",
-    ),
-    (
-        "rvc run Inc.cal Inn=in --trace t",
-        INC,
-        "refused P1 words 0\n",
-    ),
-    (
-        "rvc run Inc.cal In=in Inn=in --trace t",
-        INC,
-        "refused P1 words 1\n",
-    ),
-    (
-        "rvc run Inc.cal X=in X=in --trace t",
-        INC,
-        "refused P1 words 0\n",
-    ),
-    (
-        "rvc run Inc.cal In=in In=in --trace t",
-        INC,
-        "refused P2 words 1\n",
-    ),
-    (
-        "rvc run Inc.cal In=in In=in X=in --trace t",
-        INC,
-        "refused P2 words 1\n",
-    ),
-    (
-        "rvc run Inc.cal In=in Out=out In=in --trace t",
-        INC,
-        "refused P2 words 2\n",
-    ),
-    (
-        "rvc run Inc.cal Out=o In=in X=in --trace t",
-        INC,
-        "refused P1 words 2\n",
-    ),
-    ("rvc fmt Inc.cal", "", "refused G1 Inc.cal 0\n"),
-    ("rvc fmt Inc.cal", "actor B() \"", "refused L5 Inc.cal 10\n"),
-    ("rvc fmt No.cal", SPREAD, "refused N1 words 0\n"),
-    ("rvc fmt a/Inc.cal", SPREAD, "refused N1 words 0\n"),
-    ("rvc fmt Inc.cal In=in", SPREAD, "refused P1 words 0\n"),
-    (
-        "rvc fmt Inc.cal Out=out In=in",
-        SPREAD,
-        "refused P1 words 0\n",
-    ),
-    ("rvc fmt Inc.cal In=in", "", "refused G1 Inc.cal 0\n"),
-];
-
-/// Why these words are no job.
-const USAGES: &[(&str, &str)] = &[
-    (
-        "rvc",
-        "usage words\nrvc VERB TOP [PORT=FILE ..] [--trace FILE] [--workers N] [--round P] [--burst N] [--budget N] [--grow N]\n",
-    ),
-    (
-        "rvc go Inc.cal",
-        "usage verb\nrvc VERB TOP [PORT=FILE ..] [--trace FILE] [--workers N] [--round P] [--burst N] [--budget N] [--grow N]\n",
-    ),
-    (
-        "rvc run Inc.txt --trace t",
-        "usage top\nrvc VERB TOP [PORT=FILE ..] [--trace FILE] [--workers N] [--round P] [--burst N] [--budget N] [--grow N]\n",
-    ),
-    (
-        "rvc run Inc.cal --workers 65 --trace t",
-        "usage number\nrvc VERB TOP [PORT=FILE ..] [--trace FILE] [--workers N] [--round P] [--burst N] [--budget N] [--grow N]\n",
-    ),
-    (
-        "rvc run Inc.cal --round x --trace t",
-        "usage round\nrvc VERB TOP [PORT=FILE ..] [--trace FILE] [--workers N] [--round P] [--burst N] [--budget N] [--grow N]\n",
-    ),
-    (
-        "rvc run Inc.cal In --trace t",
-        "usage port\nrvc VERB TOP [PORT=FILE ..] [--trace FILE] [--workers N] [--round P] [--burst N] [--budget N] [--grow N]\n",
-    ),
-    (
-        "rvc run Inc.cal",
-        "usage trace\nrvc VERB TOP [PORT=FILE ..] [--trace FILE] [--workers N] [--round P] [--burst N] [--budget N] [--grow N]\n",
-    ),
-];
-
-/// A run leaves this.
+/// A run of a file's text over these bytes leaves this.
 fn leaves<R: Abort + Threads + Sync>(
     rt: &R,
     alloc: Global,
     setting: &Setting<'_>,
-    left: &Left,
+    left: &str,
 ) -> Result<(), Fail> {
     let ran = run_setting(rt, alloc, setting)?;
-    let ends = format!(in alloc; "{} {:?}", ran.status.code(), ran.status)?;
-    assert!(rt;
-        ends.as_str().starts_with(left.0),
-        "{}: {}",
-        setting.words,
-        ends.as_str()
-    );
-    assert!(rt;
-        ran.drains.held(0) == left.1.as_bytes(),
-        "report of {}",
-        setting.words
-    );
-    assert!(rt;
-        ran.drains.held(1) == left.2.as_bytes(),
-        "trace of {}",
-        setting.words
-    );
-    assert!(rt; ran.drains.held(2) == left.3, "output of {}", setting.words);
+    hold_left(rt, alloc, setting.words, &ran, left)?;
     Ok(())
 }
 
-/// A run with calls of each size leaves this.
+/// A run with calls of each size leaves this: of one byte, of a few, and of more than a row has.
 fn leaves_by_steps<R: Abort + Threads + Sync>(
     rt: &R,
     alloc: Global,
     words: &str,
     source: &str,
     input: &[u8],
-    left: &Left,
+    left: &str,
 ) -> Result<(), Fail> {
-    for &step in STEPS {
+    for &step in &[1u32, 3, 1000] {
         let setting = Setting {
             words,
             name: "Inc.cal",
@@ -351,62 +49,250 @@ fn leaves_by_steps<R: Abort + Threads + Sync>(
     Ok(())
 }
 
-#[test]
-fn runs_leave_their_trace_and_output(rt: HostRuntime) -> Result<(), Fail> {
-    for (words, input, left) in RUNS {
-        leaves_by_steps(&rt, rt.alloc(), words, INC, input, left)?;
+fn number(text: &str) -> u64 {
+    text.parse().unwrap_or(0)
+}
+
+/// The most bytes of a call, and the calls that fail.
+fn numbers(text: &str) -> (u32, Failing) {
+    let (step, rest) = cut(text, " ");
+    let (read, rest) = cut(rest, " ");
+    let (feed, channel) = cut(rest, " ");
+    let failing = (number(read), number(feed), number(channel));
+    (step.parse().unwrap_or(0), failing)
+}
+
+/// A run in which calls fail leaves this.
+fn leaves_by_fault<R: Abort + Threads + Sync>(
+    rt: &R,
+    alloc: Global,
+    words: &str,
+    source: &str,
+    fault: &str,
+    left: &str,
+) -> Result<(), Fail> {
+    let (step, failing) = numbers(fault);
+    let setting = Setting {
+        words,
+        name: "Inc.cal",
+        source: source.as_bytes(),
+        input: BYTES,
+        step,
+        failing,
+    };
+    leaves(rt, alloc, &setting, left)
+}
+
+fn hold_line<R: Abort + Threads + Sync>(
+    rt: &R,
+    alloc: Global,
+    line: &str,
+    source: &str,
+    left: &str,
+) -> Result<(), Fail> {
+    match line.split_once(": ") {
+        Some((fault, words)) => leaves_by_fault(rt, alloc, words, source, fault, left),
+        None => leaves_by_steps(rt, alloc, line, source, BYTES, left),
+    }
+}
+
+fn hold_group<R: Abort + Threads + Sync>(
+    rt: &R,
+    alloc: Global,
+    source: &str,
+    group: &str,
+) -> Result<(), Fail> {
+    let (left, lines) = cut(group, "\n");
+    for line in lines.lines() {
+        hold_line(rt, alloc, line, source, left)?;
     }
     Ok(())
 }
+
+fn hold_part<R: Abort + Threads + Sync>(rt: &R, alloc: Global, part: &str) -> Result<(), Fail> {
+    let (source, groups) = cut(part, "\n= ");
+    for group in groups.split("\n= ") {
+        hold_group(rt, alloc, source, group)?;
+    }
+    Ok(())
+}
+
+/// Stops at the first line of a table that leaves something else.
+fn hold<R: Abort + Threads + Sync>(rt: &R, alloc: Global, table: &str) -> Result<(), Fail> {
+    for part in table.split("\n# ") {
+        if !part.is_empty() {
+            hold_part(rt, alloc, part)?;
+        }
+    }
+    Ok(())
+}
+
+#[test]
+fn runs_leave_their_trace_and_output(rt: HostRuntime) -> Result<(), Fail> {
+    hold(&rt, rt.alloc(), RUNS)
+}
+
+const RUNS: &str = "
+# actor Inc() uint(size=8) In ==> uint(size=8) Out : action In:[a] ==> Out:[a + 1] end end
+= 0 Quiet | instances 1/links 2/certified 1/firings 3/rounds 2/in In 0 tokens 3 rest 0/out Out tokens 3/quiet/ | rvc-trace 1 1 2/i 0 Inc Inc/r/f 0 0/f 0 0/f 0 0/r/q/ | 1 2 0
+rvc run Inc.cal In=in Out=out --trace t
+rvc run Inc.cal In=in Out=out --trace t --budget 3
+rvc run Inc.cal Out=out In=in --trace t
+rvc --trace t run Inc.cal In=in Out=out
+rvc run --budget=3 Inc.cal In=in --trace=t Out=out --workers 1 --burst 64 --round all
+rvc run Inc.cal In=in Out=out --trace t --workers 2
+rvc run Inc.cal In=in Out=out --trace t --round turn
+rvc run Inc.cal In=in Out=out --trace t --burst 63
+= 7 Budget { firings: 2 } | instances 1/links 2/certified 1/firings 2/rounds 2/in In 0 tokens 3 rest 0/out Out tokens 2/budget 2/ | rvc-trace 1 1 2/i 0 Inc Inc/r/f 0 0/f 0 0/r/b/ | 1 2
+rvc run Inc.cal In=in Out=out --trace t --budget 2
+= 0 Quiet | instances 1/links 2/certified 1/firings 3/rounds 2/in In 0 tokens 3 rest 0/out Out tokens 3/quiet/ | rvc-trace 1 1 2/i 0 Inc Inc/r/f 0 0/f 0 0/f 0 0/r/q/
+rvc run Inc.cal In=in --trace t
+= 0 Quiet | instances 1/links 2/certified 1/firings 3/rounds 2/in In 0 tokens 3 rest 0/out Out tokens 3/quiet/ | rvc-trace 2 1 2 1/i 0 Inc Inc/r/f 0 0/f 0 0/f 0 0/r/q/ | 1 2 0
+rvc run Inc.cal In=in Out=out --trace t --grow 1";
+
+#[test]
+fn a_run_over_no_bytes(rt: HostRuntime) -> Result<(), Fail> {
+    let words = "rvc run Inc.cal In=in Out=out --trace t";
+    leaves_by_steps(&rt, rt.alloc(), words, INC, &[], EMPTY)
+}
+
+const INC: &str =
+    "actor Inc() uint(size=8) In ==> uint(size=8) Out : action In:[a] ==> Out:[a + 1] end end";
+
+const EMPTY: &str =
+    "0 Quiet | instances 1/links 2/certified 1/firings 0/rounds 1/in In 0 tokens 0 rest 0/out Out tokens 0/quiet/ | rvc-trace 1 1 2/i 0 Inc Inc/r/q/";
 
 #[test]
 fn a_failed_call_is_a_fault(rt: HostRuntime) -> Result<(), Fail> {
-    for &(words, source, step, failing, left) in FAULTS {
-        let setting = Setting {
-            words,
-            name: "Inc.cal",
-            source: source.as_bytes(),
-            input: BYTES,
-            step,
-            failing,
-        };
-        leaves(&rt, rt.alloc(), &setting, &left)?;
-    }
-    Ok(())
+    hold(&rt, rt.alloc(), FAULTS)
 }
+
+/// No feed is opened if no word names the input.
+const FAULTS: &str = "
+# actor Inc() uint(size=8) In ==> uint(size=8) Out : action In:[a] ==> Out:[a + 1] end end
+= 2 ReadFault(Feed(1)) | read fault in/ | rvc-trace 1 1 2/i 0 Inc Inc/
+1 0 3 0: rvc run Inc.cal In=in Out=out --trace t
+3 0 3 0: rvc run Inc.cal In=in Out=out --trace t
+1000 0 3 0: rvc run Inc.cal In=in Out=out --trace t
+= 3 WriteFault { channel: 2 } | write fault 2/ | rvc-trace 1 1 2/i 0 Inc Inc/
+1 0 0 31: rvc run Inc.cal In=in Out=out --trace t
+3 0 0 13: rvc run Inc.cal In=in Out=out --trace t
+1000 0 0 4: rvc run Inc.cal In=in Out=out --trace t
+= 0 Quiet | instances 1/links 2/certified 1/firings 0/rounds 1/in In 0 tokens 0 rest 0/out Out tokens 0/quiet/ | rvc-trace 1 1 2/i 0 Inc Inc/r/q/
+1000 0 1 0: rvc run Inc.cal Out=out --trace t
+1000 0 1 0: rvc run Inc.cal --trace t
+# actor Inc() uint(size=8) In ==> uint(size=8) Out : action In:[a] ==> Out:[a+1] endaction endactor
+= 2 ReadFault(File(1)) | read fault Inc.cal/
+1000 1 0 0: rvc fmt Inc.cal
+1000 1 0 0: rvc fmt Inc.cal In=in
+= 3 WriteFault { channel: 0 } | act
+1 0 0 4: rvc fmt Inc.cal
+= 3 WriteFault { channel: 0 }
+3 0 0 1: rvc fmt Inc.cal
+1000 0 0 1: rvc fmt Inc.cal";
 
 #[test]
 fn fmt_prints_the_canonical_text(rt: HostRuntime) -> Result<(), Fail> {
-    for &(words, source, printed) in PRINTS {
-        let left = ("0 Done", printed, "", NO_BYTES);
-        leaves_by_steps(&rt, rt.alloc(), words, source, BYTES, &left)?;
-    }
-    Ok(())
+    hold(&rt, rt.alloc(), PRINTS)
 }
+
+const PRINTS: &str = "
+# actor Inc() uint(size=8) In ==> uint(size=8) Out : action In:[a] ==> Out:[a+1] endaction endactor
+= 0 Done | actor Inc ( ) uint ( size = 8 ) In ==> uint ( size = 8 ) Out : action In : [ a ] ==> Out : [ a + 1 ] end/end/
+rvc fmt Inc.cal
+rvc fmt Inc.cal --trace t --workers 2 --round turn --burst 63 --budget 1
+# actor Inc ( ) uint ( size = 8 ) In ==> uint ( size = 8 ) Out : action In : [ a ] ==> Out : [ a + 1 ] end
+end
+
+= 0 Done | actor Inc ( ) uint ( size = 8 ) In ==> uint ( size = 8 ) Out : action In : [ a ] ==> Out : [ a + 1 ] end/end/
+rvc fmt Inc.cal
+rvc fmt Inc.cal --trace t --workers 2 --round turn --burst 63 --budget 1";
 
 #[test]
 fn what_conforms_is_done(rt: HostRuntime) -> Result<(), Fail> {
-    for &(words, report) in VERDICTS {
-        let left = ("0 Done", report, "", NO_BYTES);
-        leaves_by_steps(&rt, rt.alloc(), words, INC, BYTES, &left)?;
-    }
-    Ok(())
+    hold(&rt, rt.alloc(), VERDICTS)
 }
+
+/// What `check` and `certify` write of the actor.
+const VERDICTS: &str = "
+# actor Inc() uint(size=8) In ==> uint(size=8) Out : action In:[a] ==> Out:[a + 1] end end
+= 0 Done | instances 1/links 2/done/
+rvc check Inc.cal
+= 0 Done | certified 1/done/
+rvc certify Inc.cal";
 
 #[test]
 fn refusals_name_a_rule_and_its_place(rt: HostRuntime) -> Result<(), Fail> {
-    for &(words, source, line) in REFUSALS {
-        let left = ("4 Refused", line, "", NO_BYTES);
-        leaves_by_steps(&rt, rt.alloc(), words, source, BYTES, &left)?;
-    }
-    Ok(())
+    hold(&rt, rt.alloc(), REFUSALS)
+}
+
+/// What refuses these words and this source.
+const REFUSALS: &str = "
+# actor Inc() uint(size=8) In ==> uint(size=8) Out : action In:[a] ==> Out:[a + 1] end end
+= 4 Refused | refused N1 words 0/
+rvc run No.cal In=in Out=out --trace t
+rvc run Inc.xdf In=in Out=out --trace t
+= 4 Refused | refused P1 words 0/
+rvc gen 1 In=in --trace t
+rvc check Inc.cal In=in
+rvc certify Inc.cal Out=out
+rvc run Inc.cal Inn=in --trace t
+rvc run Inc.cal X=in X=in --trace t
+= 4 Refused | refused P1 words 1/
+rvc replay Inc.cal In=in Out=out --trace t
+rvc run Inc.cal In=in Inn=in --trace t
+= 4 Refused | refused P2 words 1/
+rvc run Inc.cal In=in In=in --trace t
+rvc run Inc.cal In=in In=in X=in --trace t
+= 4 Refused | refused P2 words 2/
+rvc run Inc.cal In=in Out=out In=in --trace t
+= 4 Refused | refused P1 words 2/
+rvc run Inc.cal Out=o In=in X=in --trace t
+# actor B() \"
+= 4 Refused | refused L5 Inc.cal 10/
+rvc run Inc.cal In=in Out=out --trace t
+rvc fmt Inc.cal
+# actor B() uint(size=8) In ==> 
+= 4 Refused | refused G1 Inc.cal 30/
+rvc run Inc.cal In=in Out=out --trace t
+#  unit U : end
+= 4 Refused | refused S5 Inc.cal 0/
+rvc run Inc.cal In=in Out=out --trace t
+# 
+= 4 Refused | refused G1 Inc.cal 0/
+rvc fmt Inc.cal
+rvc fmt Inc.cal In=in
+# actor Inc() uint(size=8) In ==> uint(size=8) Out : action In:[a] ==> Out:[a+1] endaction endactor
+= 4 Refused | refused N1 words 0/
+rvc fmt No.cal
+rvc fmt a/Inc.cal
+= 4 Refused | refused P1 words 0/
+rvc fmt Inc.cal In=in
+rvc fmt Inc.cal Out=out In=in";
+
+/// Words that are no job leave the cause and how the program is used.
+fn hold_usage<R: Abort + Threads + Sync>(rt: &R, alloc: Global, row: &str) -> Result<(), Fail> {
+    let (words, cause) = cut(row, " = ");
+    let left = format!(in alloc; "1 Usage | usage {cause}/{USED}/")?;
+    leaves_by_steps(rt, alloc, words, INC, BYTES, left.as_str())
 }
 
 #[test]
 fn words_that_are_no_job_are_usage(rt: HostRuntime) -> Result<(), Fail> {
-    for &(words, report) in USAGES {
-        let left = ("1 Usage", report, "", NO_BYTES);
-        leaves_by_steps(&rt, rt.alloc(), words, INC, BYTES, &left)?;
+    for row in USAGES.lines() {
+        hold_usage(&rt, rt.alloc(), row)?;
     }
     Ok(())
 }
+
+const USED: &str =
+    "rvc VERB TOP [PORT=FILE ..] [--trace FILE] [--workers N] [--round P] [--burst N] [--budget N] [--grow N]";
+
+/// Why these words are no job.
+const USAGES: &str = "rvc = words
+rvc go Inc.cal = verb
+rvc run Inc.txt --trace t = top
+rvc run Inc.cal --workers 65 --trace t = number
+rvc run Inc.cal --round x --trace t = round
+rvc run Inc.cal In --trace t = port
+rvc run Inc.cal = trace";
