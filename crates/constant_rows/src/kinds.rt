@@ -1,12 +1,11 @@
 //! The kinds of expressions over constants and functions, or the first rule that one breaks, with its place.
 
-use crate::rows::{Asked, constants, hold, with_function, with_getter};
+use crate::rows::{Asked, hold};
 use std::test::Fail;
 
 #[test]
 fn kinds(rt: HostRuntime) -> Result<(), Fail> {
-    let env = constants(rt.alloc())?;
-    hold(&rt, rt.alloc(), &env, Asked::Kind, KINDS)
+    hold(&rt, rt.alloc(), "n l", Asked::Kind, KINDS)
 }
 
 /// Expressions over the constants `n` and `l`.
@@ -108,8 +107,7 @@ const KINDS: &str = "
 
 #[test]
 fn calls(rt: HostRuntime) -> Result<(), Fail> {
-    let env = with_function(rt.alloc())?;
-    hold(&rt, rt.alloc(), &env, Asked::Kind, CALLS)
+    hold(&rt, rt.alloc(), "f(x)=true", Asked::Kind, CALLS)
 }
 
 /// Expressions over the function `f` of a number.
@@ -127,8 +125,7 @@ const CALLS: &str = "
 
 #[test]
 fn generators_hide_constants(rt: HostRuntime) -> Result<(), Fail> {
-    let env = with_getter(rt.alloc())?;
-    hold(&rt, rt.alloc(), &env, Asked::Kind, HIDDEN)
+    hold(&rt, rt.alloc(), "f()=n n", Asked::Kind, HIDDEN)
 }
 
 /// Generators over the constant `n`, which the function `f` gives too.

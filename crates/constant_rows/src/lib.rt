@@ -9,6 +9,8 @@ mod functions;
 #[cfg(test)]
 mod kinds;
 #[cfg(test)]
+mod names;
+#[cfg(test)]
 mod rows;
 #[cfg(test)]
 mod table;

@@ -1,18 +1,13 @@
 //! One way from the text of an expression to its answer as text.
 
-ghost use Rattle.std.specs.Prelude.{◌≡◌, IfOk, true};
-ghost use Rattle.rvc_base.specs.declared.scalar.Scalar.TheVariants as scalar;
-ghost use Rattle.cal_model.specs.Value.{Single};
-ghost use Rattle.cal_model.specs.View.{fun_view, shape_view};
-ghost use Rattle.const_env.specs.Sizes.{is_sized_fun};
-
+use crate::names::add_words;
 use crate::table::answered;
-use cal_ast::{Body, Expr, ExprForm, File, Member};
+use cal_ast::{Body, Expr, File, Member};
 use cal_lexer::lex;
-use cal_model::{BoundFun, BoundLocal, Kind, Shape, Value, Values};
+use cal_model::{Kind, Value, Values};
 use cal_parser::parse_file;
-use const_eval::{ConstFault, Env, KindFault, eval_const, is_counted, kind_const};
-use rvc_base::{Front, Scalar};
+use const_eval::{ConstFault, Env, KindFault, eval_const, kind_const};
+use rvc_base::Front;
 use std::alloc::{AllocError, Global};
 use std::process::Abort;
 use std::test::Fail;
@@ -110,26 +105,36 @@ fn file_with(alloc: Global, text: &str) -> Result<File, Front> {
     file_of(alloc, source.as_bytes())
 }
 
-/// The expression that a text spells.
-pub(crate) fn expression(alloc: Global, text: &str) -> Result<Expr, Fail> {
-    let file = file_with(alloc, text)?;
-    match start_of(&file) {
+/// The expression of a file.
+fn expression_in(alloc: Global, file: &File) -> Result<Expr, Fail> {
+    match start_of(file) {
         Some(e) => Ok(e.copy(alloc)?),
         None => Err(Fail::from("no expression")),
     }
 }
 
-/// The answer for the text of an expression.
-fn answer(alloc: Global, env: &Env, asked: Asked, text: &str) -> Result<String, Fail> {
-    let Ok(file) = file_with(alloc, text) else {
-        return Ok(String::from_str(alloc, "no file")?);
-    };
-    let Some(e) = start_of(&file) else {
-        return Ok(String::from_str(alloc, "no expression")?);
+/// The expression that a text spells.
+pub(crate) fn expression(alloc: Global, text: &str) -> Result<Expr, Fail> {
+    let file = file_with(alloc, text)?;
+    expression_in(alloc, &file)
+}
+
+/// The answer for the expression of a file.
+fn answer_in(alloc: Global, env: &Env, asked: Asked, file: &File) -> Result<String, AllocError> {
+    let Some(e) = start_of(file) else {
+        return String::from_str(alloc, "no expression");
     };
     match asked {
-        Asked::Value => Ok(value_shown(alloc, env, e)?),
-        Asked::Kind => Ok(kind_shown(alloc, env, e)?),
+        Asked::Value => value_shown(alloc, env, e),
+        Asked::Kind => kind_shown(alloc, env, e),
+    }
+}
+
+/// The answer for the text of an expression.
+fn answer(alloc: Global, env: &Env, asked: Asked, text: &str) -> Result<String, AllocError> {
+    match file_with(alloc, text) {
+        Ok(file) => answer_in(alloc, env, asked, &file),
+        Err(_front) => String::from_str(alloc, "no file"),
     }
 }
 
@@ -140,7 +145,7 @@ fn hold_row(
     env: &Env,
     asked: Asked,
     row: &str,
-) -> Result<(), Fail> {
+) -> Result<(), AllocError> {
     let (text, want) = answered(row);
     let found = answer(alloc, env, asked, text)?;
     let holds = found.as_str() == want;
@@ -148,14 +153,14 @@ fn hold_row(
     Ok(())
 }
 
-/// Stops at the first expression of a table whose answer is another.
-pub(crate) fn hold(
+/// Stops at the first expression of a table whose answer over an environment is another.
+fn hold_over(
     rt: &impl Abort,
     alloc: Global,
     env: &Env,
     asked: Asked,
     table: &str,
-) -> Result<(), Fail> {
+) -> Result<(), AllocError> {
     for row in table.split("\n# ") {
         if !row.is_empty() {
             hold_row(rt, alloc, env, asked, row)?;
@@ -164,84 +169,28 @@ pub(crate) fn hold(
     Ok(())
 }
 
-// ---- the names that rows use
-
-fn number_formal(alloc: Global, text: &str) -> Result<BoundLocal, AllocError>
-    ensures { IfOk result (λ x. shape_view x.shape ≡ Single (scalar.Int 32)) }
-{
-    Ok(BoundLocal {
-        name: String::from_str(alloc, text)?,
-        shape: Shape::Scalar(Scalar::Int(32)),
-        start: None,
-        changes: false,
-    })
-}
-
-fn bare(form: ExprForm) -> Expr {
-    Expr { form, at: 0 }
-}
-
-/// Adds the number `n` and the list `l` of two truth values.
-fn add_constants(env: &mut Env, a: Global) -> Result<(), Fail> {
-    env.add_value("n", Value::Num(2))?;
-    let mut items = Vec::new(a);
-    items.push(Value::Bool(true))?;
-    items.push(Value::Bool(false))?;
-    let list = Value::List(Values { items });
-    if is_counted(&list) {
-        env.add_value("l", list)?;
-    }
+/// The same over an environment to which the names are added that these words stand for.
+fn hold_with(
+    rt: &impl Abort,
+    alloc: Global,
+    env: &mut Env,
+    words: &str,
+    asked: Asked,
+    table: &str,
+) -> Result<(), Fail> {
+    add_words(env, alloc, words)?;
+    hold_over(rt, alloc, env, asked, table)?;
     Ok(())
 }
 
-/// The number `n` and the list `l` of two truth values.
-pub(crate) fn constants(a: Global) -> Result<Env, Fail> {
-    let mut env = Env::new(a);
-    add_constants(&mut env, a)?;
-    Ok(env)
-}
-
-/// A function `f` that tests a number.
-fn test_of_number(a: Global) -> Result<BoundFun, Fail>
-    ensures { IfOk result (λ fun. is_sized_fun (fun_view fun) ≡ true) }
-{
-    let mut formals = Vec::new(a);
-    formals.push(number_formal(a, "x")?)?;
-    Ok(BoundFun {
-        name: String::from_str(a, "f")?,
-        formals,
-        locals: Vec::new(a),
-        result: Scalar::Bool,
-        body: bare(ExprForm::Bool(true)),
-    })
-}
-
-/// The function `f` that tests a number.
-pub(crate) fn with_function(a: Global) -> Result<Env, Fail> {
-    let fun = test_of_number(a)?;
-    let mut env = Env::new(a);
-    env.add_fun(fun)?;
-    Ok(env)
-}
-
-/// A function `f` that gives the number `n`.
-fn getter(a: Global) -> Result<BoundFun, Fail>
-    ensures { IfOk result (λ fun. is_sized_fun (fun_view fun) ≡ true) }
-{
-    Ok(BoundFun {
-        name: String::from_str(a, "f")?,
-        formals: Vec::new(a),
-        locals: Vec::new(a),
-        result: Scalar::Int(32),
-        body: bare(ExprForm::Name(String::from_str(a, "n")?)),
-    })
-}
-
-/// The number `n`, and a function `f` that gives it.
-pub(crate) fn with_getter(a: Global) -> Result<Env, Fail> {
-    let fun = getter(a)?;
-    let mut env = Env::new(a);
-    env.add_fun(fun)?;
-    env.add_value("n", Value::Num(2))?;
-    Ok(env)
+/// The same over the names that these words stand for.
+pub(crate) fn hold(
+    rt: &impl Abort,
+    alloc: Global,
+    words: &str,
+    asked: Asked,
+    table: &str,
+) -> Result<(), Fail> {
+    let mut env = Env::new(alloc);
+    hold_with(rt, alloc, &mut env, words, asked, table)
 }

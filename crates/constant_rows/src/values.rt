@@ -1,12 +1,11 @@
 //! What expressions give over constants.
 
-use crate::rows::{Asked, constants, hold};
+use crate::rows::{Asked, hold};
 use std::test::Fail;
 
 #[test]
 fn values(rt: HostRuntime) -> Result<(), Fail> {
-    let env = constants(rt.alloc())?;
-    hold(&rt, rt.alloc(), &env, Asked::Value, VALUES)
+    hold(&rt, rt.alloc(), "n l", Asked::Value, VALUES)
 }
 
 /// Expressions with their values, or why they have none.

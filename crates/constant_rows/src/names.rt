@@ -1,0 +1,162 @@
+//! The constants and functions over which rows stand.
+
+ghost use Rattle.std.specs.Prelude.{◌≡◌, IfOk, map, true};
+ghost use Rattle.cal_model.specs.Value.{Single};
+ghost use Rattle.cal_model.specs.View.{fun_view, local_view, shape_view};
+ghost use Rattle.const_env.specs.Sizes.{are_sized, is_size, is_sized_fun};
+
+use crate::rows::expression;
+use cal_ast::Expr;
+use cal_model::{BoundFun, BoundLocal, Shape, Value, Values};
+use const_eval::{Env, is_counted};
+use rvc_base::Scalar;
+use std::alloc::{AllocError, Global};
+use std::test::Fail;
+
+const INT: Scalar = Scalar::Int(32);
+
+/// A formal or a local of this type.
+fn local(a: Global, text: &str, kind: Scalar, start: Option<Expr>) -> Result<BoundLocal, AllocError>
+    ensures { IfOk result (λ x. shape_view x.shape ≡ Single kind) }
+{
+    Ok(BoundLocal {
+        name: String::from_str(a, text)?,
+        shape: Shape::Scalar(kind),
+        start,
+        changes: false,
+    })
+}
+
+/// No formals or locals.
+fn none(a: Global) -> Vec<BoundLocal>
+    ensures { are_sized (map local_view result.items) ≡ true }
+{
+    Vec::new(a)
+}
+
+/// One formal, a number `x`.
+fn number(a: Global, kind: Scalar) -> Result<Vec<BoundLocal>, AllocError>
+    requires { is_size kind ≡ true }
+    ensures { IfOk result (λ xs. are_sized (map local_view xs.items) ≡ true) }
+{
+    let mut formals = Vec::new(a);
+    formals.push(local(a, "x", kind, None)?)?;
+    Ok(formals)
+}
+
+/// The locals `y`, which is a number `x` and 100, and `z`, of eight bits.
+fn locals(a: Global) -> Result<Vec<BoundLocal>, Fail>
+    ensures { IfOk result (λ xs. are_sized (map local_view xs.items) ≡ true) }
+{
+    let start = expression(a, "x + 100")?;
+    let y = local(a, "y", Scalar::Int(8), Some(start))?;
+    let mut locals = Vec::new(a);
+    locals.push(y)?;
+    locals.push(local(a, "z", Scalar::Int(8), None)?)?;
+    Ok(locals)
+}
+
+/// A function.
+fn function(
+    a: Global,
+    name: &str,
+    formals: Vec<BoundLocal>,
+    locals: Vec<BoundLocal>,
+    gives: Scalar,
+    body: &str,
+) -> Result<BoundFun, Fail>
+    requires formals { are_sized (map local_view formals.items) ≡ true }
+    requires locals { are_sized (map local_view locals.items) ≡ true }
+    requires gives { is_size gives ≡ true }
+    ensures { IfOk result (λ fun. is_sized_fun (fun_view fun) ≡ true) }
+{
+    Ok(BoundFun {
+        name: String::from_str(a, name)?,
+        formals,
+        locals,
+        result: gives,
+        body: expression(a, body)?,
+    })
+}
+
+/// Adds a function of a name that no function has.
+fn add(env: &mut Env, fun: BoundFun) -> Result<(), Fail>
+    requires { is_sized_fun (fun_view fun) ≡ true }
+{
+    if env.has_fun(fun.name.as_str()) {
+        return Err(Fail::from("a second function of a name"));
+    }
+    env.add_fun(fun)?;
+    Ok(())
+}
+
+/// Adds a function without arguments.
+fn add_constant(env: &mut Env, a: Global, name: &str, body: &str) -> Result<(), Fail> {
+    let fun = function(a, name, none(a), none(a), INT, body)?;
+    add(env, fun)
+}
+
+/// Adds a function `f` of a number `x`.
+fn add_of_number(env: &mut Env, a: Global, gives: Scalar, body: &str) -> Result<(), Fail>
+    requires { is_size gives ≡ true }
+{
+    let fun = function(a, "f", number(a, INT)?, none(a), gives, body)?;
+    add(env, fun)
+}
+
+/// Adds a function `g` of a number of eight bits, with locals.
+fn add_with_locals(env: &mut Env, a: Global) -> Result<(), Fail> {
+    let formals = number(a, Scalar::Int(8))?;
+    let locals = locals(a)?;
+    let fun = function(a, "g", formals, locals, Scalar::Uint(4), "y + z")?;
+    add(env, fun)
+}
+
+/// A list of one value.
+pub(crate) fn list_of(a: Global, item: Value) -> Result<Value, AllocError> {
+    let mut items = Vec::new(a);
+    items.push(item)?;
+    Ok(Value::List(Values { items }))
+}
+
+/// A list of two truth values.
+fn truths(a: Global) -> Result<Value, AllocError> {
+    let mut items = Vec::new(a);
+    items.push(Value::Bool(true))?;
+    items.push(Value::Bool(false))?;
+    Ok(Value::List(Values { items }))
+}
+
+/// Adds a list.
+fn add_list(env: &mut Env, name: &str, list: Value) -> Result<(), Fail> {
+    if is_counted(&list) {
+        env.add_value(name, list)?;
+    }
+    Ok(())
+}
+
+/// Adds what a word stands for.
+pub(crate) fn add_word(env: &mut Env, a: Global, word: &str) -> Result<(), Fail> {
+    match word {
+        // the number 2
+        "a" | "n" => Ok(env.add_value(word, Value::Num(2))?),
+        // true and false
+        "l" => add_list(env, word, truths(a)?),
+        // functions
+        "f(x)=true" => add_of_number(env, a, Scalar::Bool, "true"),
+        "f(x)=x+1" => add_of_number(env, a, INT, "x + 1"),
+        "f()=n" => add_constant(env, a, "f", "n"),
+        "f()=1" => add_constant(env, a, "f", "1"),
+        "seven()=7" => add_constant(env, a, "seven", "7"),
+        "g(x)=y+z" => add_with_locals(env, a),
+        _ => Err(Fail::from("no such name")),
+    }
+}
+
+/// Adds what each of these words stands for.
+pub(crate) fn add_words(env: &mut Env, a: Global, words: &str) -> Result<(), Fail> {
+    for word in words.split_whitespace() {
+        add_word(env, a, word)?;
+    }
+    Ok(())
+}
