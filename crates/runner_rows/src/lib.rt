@@ -1,10 +1,8 @@
-//! Rows of networks that run: what small networks write to their trace and their outputs, over the public calls of
-//! `network_runner`.
+//! Networks that are made ready and run, for tests of what they write.
 //!
-//! Tests that stand beside a crate make it be proved twice. So those that run networks of actors are here, above the
-//! crates that they ask. [`ready_cells`] makes the cells of a network, if its actors, its wiring and its plan can be
-//! run; it tests all that a runner asks of them. [`run_network`] runs them over feeds and channels such as those of
-//! [`feeds_of`] and [`drains_of`].
+//! [`ready_cells`] makes the cells of a network, if its actors, its wiring and its plan can be run; it tests all that a
+//! runner asks of them. [`run_network`] runs them over feeds and channels such as those of [`feeds_of`] and
+//! [`drains_of`]. The tests are those of `round_rows` and of crates beside it.
 #![tactic(auto)]
 
 mod ends;
@@ -20,16 +18,3 @@ mod sizes;
 pub use outside::{count_inputs, drains_of, feeds_of};
 pub use ready::ready_cells;
 pub use running::{Ran, Ready, run_network};
-
-#[cfg(test)]
-mod crews;
-#[cfg(test)]
-mod faults;
-#[cfg(test)]
-mod networks;
-#[cfg(test)]
-mod policies;
-#[cfg(test)]
-mod rows;
-#[cfg(test)]
-mod runs;

@@ -1,9 +1,9 @@
 //! Runs with their traces, outputs and numbers.
 
-use crate::Ran;
 use crate::networks::Net;
 use crate::runs::{Case, MUCH, Trace, Want, plain, run};
 use round_runner::RunEnd;
+use runner_rows::Ran;
 use rvc_base::{ActId, InstId, LinkId, Memory, Trap};
 use std::alloc::Global;
 use std::thread::Threads;
@@ -194,9 +194,9 @@ fn row_holds<R: Threads + Sync>(
 #[test]
 fn runs(rt: HostRuntime) -> Result<(), Memory> {
     for &row in ROWS {
-        let net = row.0;
+        let trace = row.4;
         let (ran, holds) = row_holds(&rt, rt.alloc(), row)?;
-        assert!(rt; holds, "{net:?} {ran:?}");
+        assert!(rt; holds, "{trace} {ran:?}");
     }
     Ok(())
 }

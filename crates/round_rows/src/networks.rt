@@ -1,13 +1,13 @@
 //! Small networks: their actors, links and ports.
 
-use sample_actors::{Sample, lowered};
 use lowered_actor::Lowered;
 use net_model::{End, Link, Port, Wiring};
 use rvc_base::{InstId, Memory, Scalar};
+use sample_actors::{Sample, lowered};
 use std::alloc::Global;
 use std::sync::Arc;
 
-#[derive(Clone, Copy, Debug, PartialEq, Eq)]
+#[derive(Clone, Copy)]
 pub(crate) enum Net {
     /// One actor that adds one.
     Inc,
@@ -115,7 +115,13 @@ fn names(named: Net) -> &'static [Sample] {
         Net::Pair => &[Sample::Copy, Sample::Sum, Sample::Join],
         Net::Blocks => &[Sample::Runs, Sample::Zigzag, Sample::Sat],
         Net::Fork => &[Sample::Inc, Sample::Copy],
-        Net::Five => &[Sample::Inc, Sample::Inc, Sample::Inc, Sample::Inc, Sample::Inc],
+        Net::Five => &[
+            Sample::Inc,
+            Sample::Inc,
+            Sample::Inc,
+            Sample::Inc,
+            Sample::Inc,
+        ],
         Net::LowTraps => &[Sample::Div, Sample::Copy],
         Net::HighTraps => &[Sample::Copy, Sample::Div],
         Net::BothTrap => &[Sample::Div, Sample::Div],

@@ -1,10 +1,10 @@
 //! What runs write, by each policy, and whom the gate sees.
 
-use crate::Ran;
 use crate::networks::Net;
 use crate::rows::BLOCK;
 use crate::runs::{Case, Rounds, Trace, Want, plain, run, run_past};
 use round_runner::RunEnd;
+use runner_rows::Ran;
 use rvc_base::Memory;
 use rvc_io::Gate;
 use std::alloc::Global;
@@ -75,7 +75,8 @@ fn outputs_are_those_of_each_policy(rt: HostRuntime) -> Result<(), Memory> {
         for &workers in WORKERS {
             let (ran, as_wanted) = run_block(&rt, rt.alloc(), row, workers)?;
             let is_counted = ran.rounds == row.3 && ran.arrived == 8 && ran.sent == 64;
-            assert!(rt; as_wanted && is_counted, "{row:?} {workers} {ran:?}");
+            let trace = row.4;
+            assert!(rt; as_wanted && is_counted, "{trace} {workers} {ran:?}");
         }
     }
     Ok(())
@@ -94,7 +95,8 @@ fn an_input_feeds_two_actors(rt: HostRuntime) -> Result<(), Memory> {
     for &row in POLICIES {
         let case = by_policy(Net::Fork, &[7, 8, 9], row);
         let (ran, as_wanted) = run(&rt, rt.alloc(), case, FORK_WANT)?;
-        assert!(rt; as_wanted, "{row:?} {ran:?}");
+        let trace = row.4;
+        assert!(rt; as_wanted, "{trace} {ran:?}");
     }
     Ok(())
 }
@@ -157,7 +159,7 @@ fn starts_of<R: Threads + Sync>(
 fn the_gate_is_told_of_each_start(rt: HostRuntime) -> Result<(), Memory> {
     for &(net, budget, starts, rounds) in STARTS {
         let found = starts_of(&rt, rt.alloc(), net, budget)?;
-        assert!(rt; found == (starts, rounds), "{net:?} {budget}");
+        assert!(rt; found == (starts, rounds), "{starts} {budget}");
     }
     Ok(())
 }

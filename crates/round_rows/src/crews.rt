@@ -1,9 +1,9 @@
 //! Runs whose instances several workers share.
 
-use crate::Ran;
 use crate::networks::Net;
 use crate::runs::{Case, MUCH, Trace, Want, plain, run, run_past};
 use round_runner::RunEnd;
+use runner_rows::Ran;
 use rvc_base::{ActId, InstId, Memory, Trap};
 use rvc_io::Gate;
 use std::alloc::Global;
@@ -151,8 +151,9 @@ fn row_holds<R: Threads + Sync>(
 fn a_trace_is_the_same_for_each_number_of_workers(rt: HostRuntime) -> Result<(), Memory> {
     for &row in ROWS {
         for &workers in WORKERS {
+            let trace = row.3;
             let (ran, holds) = row_holds(&rt, rt.alloc(), row, workers)?;
-            assert!(rt; holds, "{row:?} {workers} {ran:?}");
+            assert!(rt; holds, "{trace} {workers} {ran:?}");
         }
     }
     Ok(())
@@ -218,8 +219,9 @@ fn traps_so<R: Threads + Sync>(
 fn the_lowest_trap_ends_a_round_that_is_shared(rt: HostRuntime) -> Result<(), Memory> {
     for &row in TRAPS {
         for &workers in &[1u32, 2, 64] {
+            let trace = row.2;
             let (ran, holds) = traps_so(&rt, rt.alloc(), row, workers)?;
-            assert!(rt; holds, "{row:?} {workers} {ran:?}");
+            assert!(rt; holds, "{trace} {workers} {ran:?}");
         }
     }
     Ok(())

@@ -210,9 +210,9 @@ fn run_forked<'a, R: Threads + Sync>(
 #[test]
 fn the_feed_or_channel_that_failed_is_named(rt: HostRuntime) -> Result<(), Memory> {
     for &forked in FORKED {
-        let end = forked.2;
         let as_wanted = run_forked(&rt, rt.alloc(), forked)?;
-        assert!(rt; as_wanted, "{end:?}");
+        let (pull, put) = (forked.0.unwrap_or(0), forked.1.unwrap_or(0));
+        assert!(rt; as_wanted, "{pull} {put}");
     }
     Ok(())
 }

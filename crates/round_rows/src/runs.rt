@@ -8,18 +8,18 @@ ghost use Rattle.rvc_io.specs.MemFeeds.{inputs_of};
 ghost use Rattle.runner_rows.specs.Outside.{AreChannelsOpen, AreFeedsOpen};
 
 use crate::networks::{Net, actors, wiring};
-use crate::{Ran, Ready, count_inputs, drains_of, feeds_of, ready_cells, run_network};
 use actor_cell::Cell;
 use net_model::Wiring;
 use round_plan::{AllPolicy, SeedPolicy, TurnPolicy};
 use round_runner::{Plan, RunEnd};
+use runner_rows::{Ran, Ready, count_inputs, drains_of, feeds_of, ready_cells, run_network};
 use rvc_base::{MAX_BUDGET, Memory};
 use rvc_io::{Gate, MemDrains, MemFeeds, OpenGate};
 use std::alloc::Global;
 use std::thread::Threads;
 
 /// Which policy makes the rounds.
-#[derive(Clone, Copy, Debug, PartialEq, Eq)]
+#[derive(Clone, Copy)]
 pub(crate) enum Rounds {
     All,
     Turn,
@@ -205,7 +205,27 @@ fn are_written(drains: &MemDrains, want: Want<'_>) -> bool {
     is_trace && drains.held(2) == want.out && drains.held(3) == want.second
 }
 
-/// Runs a network, and says how it ended and whether it left what is wanted.
+/// Runs a network on open feeds and channels, and says how it ended and whether it left what is wanted.
+fn run_open<R: Threads + Sync, G: Gate>(
+    rt: &R,
+    alloc: Global,
+    ready: Ready,
+    case: Case<'_>,
+    want: Want<'_>,
+    feeds: &mut MemFeeds,
+    drains: &mut MemDrains,
+    gate: &G,
+) -> Result<(Ran, bool), Memory>
+    requires can_run { CanRun (map seen ready.cells.items) ready.wiring ready.plan }
+    requires budget { case.budget ≤ MAX_BUDGET }
+    requires feeds { AreFeedsOpen ready.wiring (inputs_of feeds.old) }
+    requires channels { AreChannelsOpen ready.wiring (channels_of drains.old) }
+{
+    let ran = run_by(rt, alloc, ready, case, feeds, drains, gate)?;
+    Ok((ran, is_end(ran, want) && are_written(drains, want)))
+}
+
+/// The same on feeds and channels of its own.
 fn run_ready<R: Threads + Sync, G: Gate>(
     rt: &R,
     alloc: Global,
@@ -219,8 +239,7 @@ fn run_ready<R: Threads + Sync, G: Gate>(
 {
     let mut feeds = feeds(alloc, &ready.wiring, case)?;
     let mut drains = drains(alloc, &ready.wiring, case)?;
-    let ran = run_by(rt, alloc, ready, case, &mut feeds, &mut drains, gate)?;
-    Ok((ran, is_end(ran, want) && are_written(&drains, want)))
+    run_open(rt, alloc, ready, case, want, &mut feeds, &mut drains, gate)
 }
 
 /// How a case ended, and whether it left what is wanted. `Memory` stands for a network that can't be run, too. `gate` is
