@@ -1,20 +1,29 @@
 //! What expressions give over functions, and which names are there.
 
-use crate::names::{add_word, list_of};
+use crate::names::{add_words, list_of};
 use crate::rows::{Asked, hold};
 use cal_model::{Value, Values};
 use const_eval::{Env, is_counted};
-use std::alloc::Global;
+use std::alloc::{AllocError, Global};
 use std::test::Fail;
+
+/// Whether one of two names is there.
+fn has_either(env: &Env) -> bool {
+    env.has_value("a") || env.has_fun("f")
+}
+
+/// Whether both are, each as what it is.
+fn has_both(env: &Env) -> bool {
+    env.has_value("a") && env.has_fun("f") && !env.has_fun("a") && !env.has_value("f")
+}
 
 /// Whether names are there once they are added, and not before.
 fn become_known(env: &mut Env, a: Global) -> Result<bool, Fail> {
-    let before = env.has_value("a") || env.has_fun("f");
-    add_word(env, a, "a")?;
-    add_word(env, a, "f()=1")?;
-    let after = env.has_value("a") && env.has_fun("f");
-    let mixed = env.has_fun("a") || env.has_value("f");
-    Ok(!before && after && !mixed)
+    if has_either(env) {
+        return Ok(false);
+    }
+    add_words(env, a, "a f()=1")?;
+    Ok(has_both(env))
 }
 
 fn are_known(a: Global) -> Result<bool, Fail> {
@@ -56,13 +65,21 @@ fn a_function_without_arguments(rt: HostRuntime) -> Result<(), Fail> {
     )
 }
 
+/// Whether the length of each list in a value is counted.
+fn counts(value: Value) -> bool {
+    is_counted(&value)
+}
+
+fn list_of_a_list(a: Global) -> Result<Value, AllocError> {
+    let list = list_of(a, Value::Bool(true))?;
+    list_of(a, list)
+}
+
 #[test]
 fn short_lists_are_counted(rt: HostRuntime) -> Result<(), Fail> {
     let a = rt.alloc();
-    assert!(rt; is_counted(&Value::Num(-1)));
-    assert!(rt; is_counted(&Value::List(Values { items: Vec::new(a) })));
-    let list = list_of(a, Value::Bool(true))?;
-    let lists = list_of(a, list)?;
-    assert!(rt; is_counted(&lists));
+    assert!(rt; counts(Value::Num(-1)));
+    assert!(rt; counts(Value::List(Values { items: Vec::new(a) })));
+    assert!(rt; counts(list_of_a_list(a)?));
     Ok(())
 }

@@ -136,7 +136,7 @@ fn add_list(env: &mut Env, name: &str, list: Value) -> Result<(), Fail> {
 }
 
 /// Adds what a word stands for.
-pub(crate) fn add_word(env: &mut Env, a: Global, word: &str) -> Result<(), Fail> {
+fn add_word(env: &mut Env, a: Global, word: &str) -> Result<(), Fail> {
     match word {
         // the number 2
         "a" | "n" => Ok(env.add_value(word, Value::Num(2))?),
