@@ -2,6 +2,7 @@
 
 use crate::draft::{Draft, Shape};
 use code_ir::Instr;
+use lowered_actor::StateCell;
 use rvc_base::Scalar;
 
 const BIT: Option<Scalar> = Some(Scalar::Uint(1));
@@ -34,6 +35,7 @@ pub(crate) const INC: Draft = Draft {
         sends: 0,
     }],
     start: 0,
+    kept: 0,
     saved: &[],
     ins: 1,
 };
@@ -51,6 +53,7 @@ pub(crate) const COPY: Draft = Draft {
         sends: 0,
     }],
     start: 0,
+    kept: 0,
     saved: &[],
     ins: 1,
 };
@@ -68,6 +71,7 @@ pub(crate) const WIDE: Draft = Draft {
         sends: 0,
     }],
     start: 0,
+    kept: 0,
     saved: &[],
     ins: 1,
 };
@@ -91,6 +95,7 @@ pub(crate) const SUM: Draft = Draft {
         sends: 0,
     }],
     start: 0,
+    kept: 0,
     saved: &[],
     ins: 1,
 };
@@ -114,6 +119,7 @@ pub(crate) const DIV: Draft = Draft {
         sends: 0,
     }],
     start: 0,
+    kept: 0,
     saved: &[],
     ins: 1,
 };
@@ -137,6 +143,7 @@ pub(crate) const JOIN: Draft = Draft {
         sends: 0,
     }],
     start: 0,
+    kept: 0,
     saved: &[],
     ins: 2,
 };
@@ -182,6 +189,7 @@ pub(crate) const SAT: Draft = Draft {
         sends: 0,
     }],
     start: 0,
+    kept: 0,
     saved: &[],
     ins: 1,
 };
@@ -199,6 +207,7 @@ pub(crate) const ZIGZAG: Draft = Draft {
         sends: 0,
     }],
     start: 0,
+    kept: 0,
     saved: &[],
     ins: 1,
 };
@@ -226,6 +235,7 @@ pub(crate) const REP: Draft = Draft {
         sends: 0,
     }],
     start: 0,
+    kept: 0,
     saved: &[],
     ins: 1,
 };
@@ -251,6 +261,7 @@ pub(crate) const PEEK: Draft = Draft {
         sends: 0,
     }],
     start: 0,
+    kept: 0,
     saved: &[],
     ins: 1,
 };
@@ -276,6 +287,7 @@ pub(crate) const QUO: Draft = Draft {
         sends: 0,
     }],
     start: 0,
+    kept: 0,
     saved: &[],
     ins: 1,
 };
@@ -311,6 +323,7 @@ pub(crate) const TWO: Draft = Draft {
         },
     ],
     start: 0,
+    kept: 0,
     saved: &[],
     ins: 1,
 };
@@ -350,7 +363,11 @@ pub(crate) const RACE: Draft = Draft {
         },
     ],
     start: 0,
-    saved: &[Scalar::Uint(2)],
+    kept: 1,
+    saved: &[StateCell {
+        cell: 0,
+        kind: Scalar::Uint(2),
+    }],
     ins: 1,
 };
 
@@ -393,7 +410,11 @@ pub(crate) const LATE: Draft = Draft {
         },
     ],
     start: 0,
-    saved: &[Scalar::Uint(2)],
+    kept: 1,
+    saved: &[StateCell {
+        cell: 0,
+        kind: Scalar::Uint(2),
+    }],
     ins: 2,
 };
 
@@ -439,7 +460,11 @@ pub(crate) const ALT: Draft = Draft {
         },
     ],
     start: 0,
-    saved: &[Scalar::Uint(1)],
+    kept: 1,
+    saved: &[StateCell {
+        cell: 0,
+        kind: Scalar::Uint(1),
+    }],
     ins: 2,
 };
 
@@ -472,6 +497,7 @@ pub(crate) const INI: Draft = Draft {
         },
     ],
     start: 1,
+    kept: 0,
     saved: &[],
     ins: 1,
 };
@@ -543,6 +569,7 @@ pub(crate) const FSM: Draft = Draft {
         },
     ],
     start: 0,
+    kept: 0,
     saved: &[],
     ins: 1,
 };
@@ -601,7 +628,17 @@ pub(crate) const RUNS: Draft = Draft {
         },
     ],
     start: 0,
-    saved: &[Scalar::Int(8), Scalar::Int(16)],
+    kept: 2,
+    saved: &[
+        StateCell {
+            cell: 0,
+            kind: Scalar::Int(8),
+        },
+        StateCell {
+            cell: 1,
+            kind: Scalar::Int(16),
+        },
+    ],
     ins: 1,
 };
 
@@ -655,6 +692,10 @@ pub(crate) const COUNTDOWN: Draft = Draft {
         },
     ],
     start: 0,
-    saved: &[Scalar::Uint(8)],
+    kept: 1,
+    saved: &[StateCell {
+        cell: 0,
+        kind: Scalar::Uint(8),
+    }],
     ins: 1,
 };

@@ -1,7 +1,7 @@
 //! The parts of an actor as tables.
 
 use code_ir::Instr;
-use rvc_base::Scalar;
+use lowered_actor::StateCell;
 
 /// An action: how many tokens it takes of each input and sends to its output, its guards, its firing, and the first cell
 /// from which it sends.
@@ -24,7 +24,8 @@ pub(crate) struct Draft {
     pub actions: &'static [Shape],
     /// The state in which it begins.
     pub start: u16,
-    /// The types of the state variables, which are in the first cells.
-    pub saved: &'static [Scalar],
+    /// How many state variables there are, and their types, in the first cells.
+    pub kept: u32,
+    pub saved: &'static [StateCell],
     pub ins: u32,
 }

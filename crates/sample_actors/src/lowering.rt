@@ -4,8 +4,8 @@ use crate::codes::SHORT;
 use crate::draft::{Draft, Shape};
 use crate::sample::Sample;
 use code_ir::{ActorCode, Admitted, Instr, admit, are_few, are_sized};
-use lowered_actor::{ActionCode, Lowered, Parts, StateCell};
-use rvc_base::{Memory, Num, Scalar};
+use lowered_actor::{ActionCode, Lowered, Parts};
+use rvc_base::{Memory, Num};
 use std::alloc::Global;
 
 /// Where each token of a block goes.
@@ -60,18 +60,6 @@ fn actions(alloc: Global, shapes: &[Shape]) -> Result<Vec<ActionCode>, Memory> {
     Ok(actions)
 }
 
-/// The state variables, in the first cells.
-fn saved(alloc: Global, kinds: &[Scalar]) -> Result<Vec<StateCell>, Memory> {
-    let mut saved = Vec::new(alloc);
-    for (cell, kind) in kinds.iter().enumerate() {
-        saved.push(StateCell {
-            cell: cell as u32,
-            kind: *kind,
-        })?;
-    }
-    Ok(saved)
-}
-
 /// So many cells that hold 0.
 fn zeros(alloc: Global, cells: u32) -> Result<Vec<Num>, Memory> {
     let mut first = Vec::new(alloc);
@@ -97,9 +85,9 @@ pub fn lowered(alloc: Global, sample: Sample) -> Result<Lowered, Memory> {
         order: sample.order(alloc)?,
         actions: actions(alloc, draft.actions)?,
         first: zeros(alloc, draft.cells)?,
-        kept: draft.saved.len() as u32,
+        kept: draft.kept,
         start: draft.start,
-        saved: saved(alloc, draft.saved)?,
+        saved: Vec::from_slice(alloc, draft.saved)?,
         ins: draft.ins,
         outs: 1,
     };
