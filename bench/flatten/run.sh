@@ -11,8 +11,8 @@ trap 'rm -rf -- "$work"' EXIT
 
 # The driver is a program over crates of the checkout. What the checkout has proved already isn't proved again.
 below=(rvc_base trace_text net_model cal_ast cal_lexer look_ahead cal_grammar cal_model const_env expr_eval const_eval cal_check
-    typed_values constant_places fnl_markup fnl_expr fnl_frames fnl_read fnl_tree fnl_bind fnl_scopes net_set fnl_values fnl_walk
-    fnl_flatten flatten_rows)
+    typed_values constant_places used_names fnl_markup fnl_expr fnl_frames fnl_read fnl_tree given_values fnl_bind fnl_scopes
+    net_set fnl_values fnl_walk fnl_flatten flatten_rows)
 for name in "${below[@]}"; do
     mkdir -p "$work/crates/$name"
     for part in src specs proofs; do
