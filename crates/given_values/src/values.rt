@@ -70,8 +70,8 @@ impl<'a> GivenValues<'a> {
     ///
     /// # Errors
     ///
-    /// `Refused`: N2 at a value that is given to no parameter, or to one that is given another before it; of several the
-    /// last one.
+    /// `Refused`: N2 at a value that is given to no parameter, or to one that is given another before it; of several
+    /// such values at the last one.
     pub fn rightly(&self, declared: &NameSet) -> Result<(), Front>
         ensures found { (params : List VarDecl) → AreNamesOf declared.now params
             → Finds result (given_wrongly (all_given self.now) [] params) }
