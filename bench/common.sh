@@ -36,12 +36,13 @@ copy_crates() {
     done
 }
 
-# Makes a program of a name over crates of the checkout, those below them too, lowest first: the driver that stands beside the
-# script, with its answers where it has any.
+# Makes a program of a name over crates of the checkout and those below them: the driver that stands beside the script, with
+# its answers where it has any.
 make_driver() {
-    local name=$1 file base
+    local name=$1 file base below
     shift
-    copy_crates "$@"
+    below=$(awk -v tops="$*" -f "$top/bench/crates_below.awk" "$top/crates.txt")
+    copy_crates $below
     mkdir -p "$work/crates/$name/src"
     cp "$here/driver.rt.txt" "$work/crates/$name/src/main.rt"
     for file in "$here"/proofs/*.txt; do
@@ -50,7 +51,7 @@ make_driver() {
         mkdir -p "$work/crates/$name/proofs/${base%.*}"
         cp "$file" "$work/crates/$name/proofs/${base%.*}/${base#*.}.antt"
     done
-    echo "$name: $*" >>"$work/crates.txt"
+    echo "$name:" $below >>"$work/crates.txt"
 }
 
 # Proves and builds the driver of a name, and sets `proved` to its program.

@@ -6,9 +6,7 @@ set -eu
 . "$(dirname -- "${BASH_SOURCE[0]}")/../common.sh"
 rounds=${1:-5}
 
-make_driver flatten_bench rvc_base trace_text net_model cal_ast cal_lexer look_ahead cal_grammar cal_model const_env \
-    expr_eval const_eval cal_check typed_values constant_places fnl_markup fnl_expr fnl_frames fnl_read fnl_tree \
-    fnl_bind fnl_scopes net_set fnl_values fnl_walk fnl_flatten flatten_rows
+make_driver flatten_bench rvc_base net_set fnl_read fnl_tree fnl_walk fnl_flatten flatten_rows
 echo "building, which takes up to half an hour if nothing was proved before" >&2
 build_driver flatten_bench
 

@@ -7,20 +7,7 @@ folder=$3
 shift 3
 mkdir -p "$work/crates/lowered_text/src"
 
-# The crates of the checkout on which the program stands, those of their lines too, lowest first.
-below=$(awk '
-    /^#/ { next }
-    { name = $1; sub(/:$/, "", name); row[name] = $0; order[++count] = name }
-    function want(name,   words, k, n) {
-        if (!(name in row) || name in wanted) return
-        wanted[name] = 1
-        n = split(row[name], words, /[ :]+/)
-        for (k = 2; k <= n; k++) want(words[k])
-    }
-    END {
-        want("rvc_engine")
-        for (k = 1; k <= count; k++) if (order[k] in wanted) print order[k]
-    }' "$top/crates.txt")
+below=$(awk -v tops=rvc_engine -f "$top/bench/crates_below.awk" "$top/crates.txt")
 for name in $below; do
     mkdir -p "$work/crates/$name"
     cp -r "$top/crates/$name/src" "$top/crates/$name/specs" "$work/crates/$name/"

@@ -7,9 +7,8 @@ set -eu
 . "$(dirname -- "${BASH_SOURCE[0]}")/../common.sh"
 rounds=${1:-5}
 
-make_driver rounds_bench rvc_base rvc_io trace_text code_ir schedule_fsm priority_order action_machine token_ring \
-    lowered_actor sample_actors guard_select net_model net_state channel_writer port_files round_plan round_runner \
-    network_runner actor_cell runner_rows
+make_driver rounds_bench rvc_base rvc_io code_ir schedule_fsm priority_order lowered_actor net_model round_plan \
+    round_runner actor_cell runner_rows
 echo "building, which takes up to half an hour if nothing was proved before" >&2
 build_driver rounds_bench
 

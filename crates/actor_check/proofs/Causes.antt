@@ -6,7 +6,7 @@ use Rattle.rvc_base.specs.declared.refusal.Front.{Front}
 use Rattle.rvc_base.specs.declared.refusal.Front.TheVariants as front
 use Rattle.cal_check.specs.Violations.{Violation}
 use Rattle.cal_check.specs.Variables.{Found, found_in}
-use Rattle.variable_check.specs.Causes.{IsCause}
+use Rattle.given_values.specs.Causes.{IsCause}
 
 in_file_of : (file : ℕ) (vs : List Violation) (v : Violation) (k : ℕ) → k < length vs → slice_index_or vs k v ≡ v
     → Contains (found_in file vs) (record { violation = v; file = file })

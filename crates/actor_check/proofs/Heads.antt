@@ -18,7 +18,7 @@ use Rattle.cal_check.specs.Variables.{found_in}
 use Rattle.cal_check.specs.Violations.{all_fine, and_all, broken, fine}
 use Rattle.stmt_check.specs.Judging.{Refuses}
 use Rattle.stmt_check.proofs.Checked.{refuses_alone, refuses_broken, refuses_on}
-use Rattle.variable_check.specs.Causes.{IsCause}
+use Rattle.given_values.specs.Causes.{IsCause}
 use Rattle.variable_check.specs.Faults.{behind}
 use Rattle.actor_check.specs.Checking.{AddsFun, IsProcAdded, KeepsFun}
 use Rattle.actor_check.proofs.Causes.{cause_in_first}

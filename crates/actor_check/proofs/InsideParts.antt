@@ -14,7 +14,7 @@ use Rattle.rvc_base.specs.declared.refusal.Front.{Front}
 use Rattle.rvc_base.specs.declared.refusal.Front.TheVariants as front
 use Rattle.cal_check.proofs.Lists.{at-head, head-or-rest, in-none, in-rest}
 use Rattle.actor_build.specs.Building.{members_broken}
-use Rattle.variable_check.specs.Causes.{IsCause}
+use Rattle.given_values.specs.Causes.{IsCause}
 use Rattle.actor_check.specs.Phases.{procs_found, routines_found, scalars_found}
 use Rattle.actor_check.proofs.Causes.{cause_in_others, found_of}
 

@@ -23,7 +23,7 @@ use Rattle.stmt_check.specs.Judging.{Refuses, is_passed}
 use Rattle.actor_build.specs.Building.{ArePartsOf, HasActions, IsCycle, IsMembersFault, around_bare, members_broken}
 use Rattle.actor_build.specs.declared.whole.BareActor.{BareActor}
 use Rattle.cal_model.specs.Sound.{Each}
-use Rattle.variable_check.specs.Causes.{IsCause, SaysRule}
+use Rattle.given_values.specs.Causes.{IsCause, SaysRule}
 use Rattle.variable_check.specs.declared.header.Header.{Header}
 use Rattle.actor_check.specs.Parts.{AreKept, ArePartsIn, BreaksParts, IsBuilt, IsCycleIn, IsInside, placed}
 use Rattle.actor_check.specs.Phases.{routines_found, scalars_found}

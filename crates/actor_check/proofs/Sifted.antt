@@ -23,7 +23,7 @@ use Rattle.cal_check.specs.Actors.{Source, formals_broken, ins_of, outs_of, plac
 use Rattle.cal_check.specs.Ports.{each_port, keyed_ports, port_judged}
 use Rattle.cal_check.specs.Routines.{formals_judged, fun_judged, head_judged, proc_judged}
 use Rattle.member_check.specs.Parts.{bare_header_broken}
-use Rattle.variable_check.specs.Causes.{IsCause, SaysRule}
+use Rattle.given_values.specs.Causes.{IsCause, SaysRule}
 use Rattle.actor_check.specs.Sifting.{IsLack, IsLeft, Sifts, SiftsOn, bare_over}
 use Rattle.actor_check.specs.Phases.{header_over}
 use Rattle.actor_check.proofs.Causes.{cause_in_first, cause_in_others, found_of}

@@ -26,7 +26,7 @@ use Rattle.stmt_check.specs.Judging.{Refuses}
 use Rattle.actor_build.proofs.PastLacks.{refuses_from_said, said_is_other}
 use Rattle.actor_build.specs.Building.{ArePartsOf, FindsOthers, HasActions, IsCycle, around_bare, members_broken}
 use Rattle.actor_build.specs.declared.whole.BareActor.{BareActor}
-use Rattle.variable_check.specs.Causes.{IsCause, SaysRule}
+use Rattle.given_values.specs.Causes.{IsCause, SaysRule}
 use Rattle.variable_check.specs.declared.header.Header.{Header}
 use Rattle.actor_check.specs.Parts.{AreBareParts, BreaksParts, BuildsActor, FindsInside, IsCycleOf, SiftsAll, SiftsMembers, placed}
 use Rattle.actor_check.specs.Phases.{routines_found, scalars_found}

@@ -19,7 +19,8 @@ use Rattle.cal_check.specs.Constants.{early_type}
 use Rattle.cal_check.specs.Routines.{FunDecl}
 use Rattle.cal_check.specs.Actors.{Conforms, IsViolated, Source, actor_given, all_said, all_valued, around_of, behind_variables, declared_vars, first_valueless, has_heads, header_found, heads_found, inside_found, is_empty, is_held, members_found, said_or_all, violations}
 use Rattle.cal_check.specs.Variables.{Found, Given, Spot, VarDecl, Valued, none_yet, seen, valued, with_type, with_var}
-use Rattle.variable_check.specs.Causes.{IsCause, SaysRule, inconstant}
+use Rattle.variable_check.specs.Causes.{inconstant}
+use Rattle.given_values.specs.Causes.{IsCause, SaysRule}
 use Rattle.variable_check.specs.Valuing.{AreAt, first_in, left_over, valueless}
 use Rattle.actor_check.specs.Checked.{IsChecked, IsComplete, IsRefused, found_of}
 use Rattle.actor_check.specs.Early.{wrongly_given}

@@ -18,7 +18,7 @@ use Rattle.cal_check.specs.Routines.{FunDecl, fun_judged, head_judged, proc_judg
 use Rattle.cal_check.specs.Variables.{VarDecl, Valued, found_in}
 use Rattle.cal_check.specs.Violations.{all_fine, broken}
 use Rattle.stmt_check.specs.Judging.{Refuses}
-use Rattle.variable_check.specs.Causes.{IsCause, SaysRule}
+use Rattle.given_values.specs.Causes.{IsCause, SaysRule}
 use Rattle.variable_check.specs.Valuing.{IsValued}
 use Rattle.variable_check.specs.declared.valued.Valued.{Valued as Kept}
 

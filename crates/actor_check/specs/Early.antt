@@ -7,7 +7,7 @@ use Rattle.rvc_base.specs.declared.refusal.Front.{Front}
 use Rattle.const_env.specs.Held.{names_in}
 use Rattle.cal_check.specs.Actors.{Source, all_valued, declared_vars, given_wrongly, params_in, params_of}
 use Rattle.cal_check.specs.Variables.{Found, Given, Spot, VarDecl}
-use Rattle.variable_check.specs.Causes.{IsCause, SaysRule}
+use Rattle.given_values.specs.Causes.{IsCause, SaysRule}
 use Rattle.variable_check.specs.Valuing.{IsValued}
 use Rattle.actor_check.specs.Parts.{header_names}
 use Rattle.actor_check.specs.declared.early.Early.{Early}

@@ -24,7 +24,7 @@ use Rattle.cal_check.specs.Variables.{Found, Given, Spot, found_in, seen}
 use Rattle.member_check.specs.Parts.{members_tree}
 use Rattle.actor_build.specs.Building.{ArePartsOf, around_bare, members_broken}
 use Rattle.actor_build.specs.declared.whole.BareActor.{BareActor}
-use Rattle.variable_check.specs.Causes.{IsCause}
+use Rattle.given_values.specs.Causes.{IsCause}
 use Rattle.variable_check.specs.declared.header.Header.{Header}
 use Rattle.actor_check.specs.Phases.{AreRoutinesOf, IsHeaderOf, routines_found}
 use Rattle.actor_check.specs.Sifting.{IsInsideFault, SiftsInside}

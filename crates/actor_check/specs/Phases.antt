@@ -15,7 +15,7 @@ use Rattle.cal_check.specs.Actors.{Source, all_funs, formals_broken, funs_broken
 use Rattle.cal_check.specs.Ports.{each_port, header_broken}
 use Rattle.cal_check.specs.Variables.{Found, found_in}
 use Rattle.cal_check.specs.Violations.{all_fine, unless}
-use Rattle.variable_check.specs.Causes.{IsCause}
+use Rattle.given_values.specs.Causes.{IsCause}
 use Rattle.variable_check.specs.declared.header.Header.{Header}
 use Rattle.actor_check.specs.declared.routines.Routines.{Routines}
 

@@ -14,7 +14,7 @@ use Rattle.variable_check.specs.declared.header.Header.{Header}
 use Rattle.actor_check.specs.Phases.{AreRoutinesOf, IsHeaderOf, header_over, heads_over}
 use Rattle.actor_check.specs.declared.routines.Routines.{Routines}
 use Rattle.member_check.specs.Parts.{bare_header_broken}
-use Rattle.variable_check.specs.Causes.{IsCause, SaysRule}
+use Rattle.given_values.specs.Causes.{IsCause, SaysRule}
 
 -- something there isn't constant
 abbrev pub IsLack : Found → Type 0

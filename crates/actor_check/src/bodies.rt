@@ -8,7 +8,7 @@ ghost use Rattle.cal_check.specs.Routines.{fun_broken};
 ghost use Rattle.cal_check.specs.Variables.{found_in};
 ghost use Rattle.const_env.specs.Counting.{names_view};
 ghost use Rattle.seen_names.specs.Known.{fun_decls};
-ghost use Rattle.variable_check.specs.Valuing.{Finds};
+ghost use Rattle.given_values.specs.Causes.{Finds};
 
 use crate::fault::in_file;
 use const_eval::Names;

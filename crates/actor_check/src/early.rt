@@ -4,9 +4,9 @@ ghost use Rattle.std.specs.Prelude.{◌≡◌, IfErr, true};
 ghost use Rattle.cal_check.specs.Actors.{all_funs, all_valued, before_members, declared_vars};
 ghost use Rattle.const_env.specs.Held.{names_in};
 ghost use Rattle.seen_names.specs.Known.{fun_decls, names_differ};
-ghost use Rattle.variable_check.specs.Causes.{SaysRule};
-ghost use Rattle.variable_check.specs.Valuing.{Finds, IsValued, Values};
-ghost use Rattle.variable_check.specs.Views.{all_given, spot_of};
+ghost use Rattle.given_values.specs.Causes.{Finds, SaysRule};
+ghost use Rattle.given_values.specs.Given.{all_given, spot_of};
+ghost use Rattle.variable_check.specs.Valuing.{IsValued, Values};
 ghost use Rattle.actor_check.specs.Early.{FindsEarly, vars_before, wrongly_given};
 ghost use Rattle.actor_check.specs.Parts.{header_names};
 ghost use Rattle.actor_check.specs.Sources.{source_in};
@@ -82,5 +82,5 @@ pub(crate) fn check_given(told: Told<'_>, scope: &Scope) -> Result<(), Front>
     let Ok(params) = declared_params(told.alloc, scope) else {
         return Err(Front::Memory);
     };
-    given_rightly(told.given, &params)
+    given_rightly(told.alloc, told.given, &params)
 }

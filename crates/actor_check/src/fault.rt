@@ -4,7 +4,7 @@ ghost use Rattle.std.specs.Prelude.{◌≡◌, List};
 ghost use Rattle.cal_check.specs.Variables.{found_in};
 ghost use Rattle.cal_check.specs.Violations.{Violation};
 ghost use Rattle.stmt_check.specs.Judging.{Refuses};
-ghost use Rattle.variable_check.specs.Causes.{IsCause};
+ghost use Rattle.given_values.specs.Causes.{IsCause};
 ghost use Rattle.actor_check.specs.Parts.{placed};
 
 use const_eval::KindFault;

@@ -5,7 +5,7 @@ ghost use Rattle.cal_check.specs.Actors.{all_funs};
 ghost use Rattle.cal_model.specs.View.{proc_view};
 ghost use Rattle.const_env.specs.Counting.{names_view};
 ghost use Rattle.seen_names.specs.Known.{fun_decls};
-ghost use Rattle.variable_check.specs.Valuing.{Finds};
+ghost use Rattle.given_values.specs.Causes.{Finds};
 ghost use Rattle.actor_check.specs.Phases.{FindsHeads, FindsProcs, procs_found, routines_found};
 ghost use Rattle.actor_check.specs.Sifting.{SiftsHeads};
 ghost use Rattle.actor_check.specs.Sources.{source_in};

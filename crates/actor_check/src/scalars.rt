@@ -5,7 +5,7 @@ ghost use Rattle.std.specs.Prelude.{◌≡◌, ◌*◌, ◌+◌, map};
 ghost use Rattle.cal_check.specs.Actors.{scalars_of};
 ghost use Rattle.cal_model.specs.Value.{scalars_of_type};
 ghost use Rattle.cal_model.specs.View.{shape_view, var_view};
-ghost use Rattle.variable_check.specs.Valuing.{Finds};
+ghost use Rattle.given_values.specs.Causes.{Finds};
 ghost use Rattle.actor_check.specs.Phases.{capped, scalars_found};
 ghost use Rattle.actor_check.specs.Sources.{source_in};
 

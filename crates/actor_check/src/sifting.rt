@@ -13,7 +13,7 @@ ghost use Rattle.const_env.specs.Counting.{names_view};
 ghost use Rattle.member_check.specs.Parts.{members_tree};
 ghost use Rattle.seen_names.specs.Known.{fun_decls};
 ghost use Rattle.stmt_check.specs.Judging.{Checks, Refuses};
-ghost use Rattle.variable_check.specs.Causes.{IsCause};
+ghost use Rattle.given_values.specs.Causes.{IsCause};
 ghost use Rattle.variable_check.specs.Views.{ports_tree};
 ghost use Rattle.actor_check.specs.Phases.{header_over, heads_over};
 ghost use Rattle.actor_check.specs.Sifting.{IsFault, Sifts, SiftsOn, bare_over, lacks};

@@ -6,7 +6,7 @@ ghost use Rattle.cal_check.specs.Sources.{names_of_source};
 ghost use Rattle.cal_model.specs.Sound.{AreDistinct};
 ghost use Rattle.seen_names.specs.Known.{fun_decls, names_differ};
 ghost use Rattle.variable_check.specs.Valuing.{IsValued};
-ghost use Rattle.variable_check.specs.Views.{all_given, spot_of};
+ghost use Rattle.given_values.specs.Given.{all_given, spot_of};
 ghost use Rattle.actor_check.specs.Checked.{IsChecked, IsComplete};
 ghost use Rattle.actor_check.specs.Early.{wrongly_given};
 ghost use Rattle.actor_check.specs.Members.{FindsMembers};
@@ -24,6 +24,7 @@ use cal_imports::Scope;
 use cal_model::Bound;
 use const_eval::Names;
 use fnl_tree::LeafValue;
+use given_values::GivenValues;
 use rvc_base::{Front, Place};
 use seen_names::names_at_rest;
 use std::alloc::Global;
@@ -88,6 +89,30 @@ fn check_told(told: Told<'_>, scope: &Scope) -> Result<Bound, Front>
     check_members(told, scope, early.values, header)
 }
 
+/// The same as [`check`], over values that have an index.
+fn check_over(
+    alloc: Global,
+    scope: &Scope,
+    given: &GivenValues<'_>,
+    owner: Place,
+) -> Result<Bound, Front>
+    requires { AreDistinct (names_of_source (source_in scope.now)) }
+    ensures { IsChecked result (source_in scope.now) (all_given given.now) (spot_of owner) }
+{
+    let Ok(funs) = declared_funs(alloc, scope) else {
+        return Err(Front::Memory);
+    };
+    check_told(
+        Told {
+            alloc,
+            given,
+            owner,
+            funs: &funs,
+        },
+        scope,
+    )
+}
+
 /// The actor that a scope is over the values given to its parameters (ISO/IEC 23001-4, RVC-CAL: actors); `owner` is the
 /// place of a parameter that has neither a value nor a default. The texts that stand for its variables, functions and
 /// procedures differ, as those that [`resolve`](cal_imports::resolve) answers.
@@ -106,16 +131,8 @@ pub fn check(
     ensures checked { IsChecked result (source_in scope.now) (all_given given.now) (spot_of owner) }
     ensures complete { IsComplete result (source_in scope.now) (all_given given.now) (spot_of owner) }
 {
-    let Ok(funs) = declared_funs(alloc, scope) else {
+    let Ok(given) = GivenValues::new(alloc, given) else {
         return Err(Front::Memory);
     };
-    check_told(
-        Told {
-            alloc,
-            given,
-            owner,
-            funs: &funs,
-        },
-        scope,
-    )
+    check_over(alloc, scope, &given, owner)
 }

@@ -43,6 +43,14 @@ net M <XDF name='M'><Decl kind='Param' name='p'><Type name='int'/></Decl></XDF>
 = N2 1 135
 net T <XDF name='T'><Instance id='m'><Class name='M'/><Parameter name='p'><Expr kind='Literal' literal-kind='Integer' value='1'/></Parameter><Parameter name='p'><Expr kind='Literal' literal-kind='Integer' value='2'/></Parameter></Instance></XDF>
 net M <XDF name='M'><Decl kind='Param' name='p'><Type name='int'/></Decl></XDF>
+# a second value, behind one that isn't declared: the last one is named
+= N2 1 222
+net T <XDF name='T'><Instance id='m'><Class name='M'/><Parameter name='p'><Expr kind='Literal' literal-kind='Integer' value='1'/></Parameter><Parameter name='q'><Expr kind='Literal' literal-kind='Integer' value='1'/></Parameter><Parameter name='p'><Expr kind='Literal' literal-kind='Integer' value='2'/></Parameter></Instance></XDF>
+net M <XDF name='M'><Decl kind='Param' name='p'><Type name='int'/></Decl></XDF>
+# .. before it
+= N2 1 222
+net T <XDF name='T'><Instance id='m'><Class name='M'/><Parameter name='p'><Expr kind='Literal' literal-kind='Integer' value='1'/></Parameter><Parameter name='p'><Expr kind='Literal' literal-kind='Integer' value='2'/></Parameter><Parameter name='q'><Expr kind='Literal' literal-kind='Integer' value='1'/></Parameter></Instance></XDF>
+net M <XDF name='M'><Decl kind='Param' name='p'><Type name='int'/></Decl></XDF>
 # a variable
 = N2 1 48
 net T <XDF name='T'><Instance id='m'><Class name='M'/><Parameter name='v'><Expr kind='Literal' literal-kind='Integer' value='1'/></Parameter></Instance></XDF>

@@ -2,7 +2,7 @@
 use Rattle.std.proofs.Common.{◌≡◌, ℕ, refl, ap}
 use Rattle.std.specs.declared.result.Result.{Result}
 use Rattle.std.specs.declared.result.Result.TheVariants.{Ok, Err}
-use Rattle.cal_model.specs.Kinding.{Judged, Fine, Broken}
+use Rattle.cal_model.specs.Kinding.{Judged, Broken}
 use Rattle.cal_scope.specs.Judging.{Judges}
 use Rattle.cal_scope.specs.declared.fault.ScopeFault.{ScopeFault}
 use Rattle.cal_scope.specs.declared.fault.ScopeFault.TheVariants as scope

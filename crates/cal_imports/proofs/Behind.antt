@@ -7,7 +7,7 @@ use Rattle.std.specs.Str.{bytes_eq}
 use Rattle.cal_scope.specs.Names.{is_among, with_name}
 use Rattle.cal_imports.specs.Answer.{Answer, Gives, Refuses}
 use Rattle.cal_imports.specs.Behind.{IsOrder, IsOrderBehind, LeadAmong, edges_of}
-use Rattle.cal_imports.specs.Walk.{Edge, Graph, Node, Open, Step, Goes, Ends, Stops, Walk, begun, entered_from, entering, followed, leaving, left_inside, node_named, order_from, past, step, step_at, step_in, steps_left, walk, walk_on, walked, with_open}
+use Rattle.cal_imports.specs.Walk.{Edge, Graph, Node, Open, Step, Goes, Ends, Stops, Walk, begun, entered_from, followed, left_inside, node_named, order_from, past, step, step_at, step_in, steps_left, walk, walk_on, with_open}
 use Rattle.cal_imports.proofs.Walks.{among_before, among_last, or_node}
 
 -- ---- names among more names

@@ -1,5 +1,5 @@
 -- The index of a set of files.
-use Rattle.std.proofs.Common.{◌≡◌, ℕ, Bool, true, false, cond, List, [], ◌∷◌, ◌++◌, map, refl, sym, ap, ◌∙◌}
+use Rattle.std.proofs.Common.{◌≡◌, ℕ, Bool, true, false, cond, List, [], ◌∷◌, ◌++◌, map, refl, ap, ◌∙◌}
 use Rattle.std.proofs.lemmas.List.{map-append}
 use Rattle.std.proofs.lemmas.Slice.Eq.{bytes_eq-Decides}
 use Rattle.std.specs.Prelude.{Option, None, Some, String, if◌then◌else◌, option_map, option_copied, string_bytes}
@@ -9,7 +9,7 @@ use Rattle.std.specs.Str.{bytes_eq}
 use Rattle.std.specs.declared.alloc.Global.{Global as Heap}
 use Rattle.indexmap.specs.IndexMap.{IndexMap, insert_entry}
 use Rattle.indexmap.proofs.CallerLemmas.{insert_entry-new}
-use Rattle.cal_imports.specs.Sources.{Source, source_named}
+use Rattle.cal_imports.specs.Sources.{source_named}
 use Rattle.cal_imports.specs.View.{source, source_of}
 use Rattle.cal_imports.specs.declared.entry.Entry.{Entry}
 

@@ -1,10 +1,10 @@
 -- Scopes that are answered have an order of their calls.
-use Rattle.std.proofs.Common.{◌≡◌, ℕ, List, refl, ap, subst, sym}
+use Rattle.std.proofs.Common.{◌≡◌, List, ap, subst}
 use Rattle.std.specs.Prelude.{Option, None, Some}
 use Rattle.cal_imports.specs.Answer.{Answer, Gives, Refuses}
 use Rattle.cal_imports.specs.CallOrder.{CallsHaveAnOrder}
 use Rattle.cal_imports.specs.Recursion.{above_all, call_graph, call_order, routines, without_recursion}
-use Rattle.cal_imports.specs.Resolved.{resolved_source, source_linked}
+use Rattle.cal_imports.specs.Resolved.{resolved_source}
 use Rattle.cal_imports.specs.Sources.{Source}
 use Rattle.cal_imports.specs.Whole.{Scope, actor_gathered}
 use Rattle.cal_imports.proofs.Answered.{then_gave}

@@ -1,10 +1,10 @@
 -- Worked rows: actors with what their imports lead to, and the rules that others break.
-use Rattle.std.proofs.Common.{◌≡◌, ℕ, ◌+◌, List, [], ◌∷◌, true, false, refl}
+use Rattle.std.proofs.Common.{◌≡◌, ℕ, ◌+◌, List, [], ◌∷◌, false, refl}
 use Rattle.std.specs.Prelude.{codes}
 use Rattle.rvc_base.specs.Rules.{declared_twice, import_cycle, import_not_found, not_as_asked, recursion, unknown_name}
 use Rattle.cal_ast.specs.Tree as tree
 use Rattle.cal_ast.specs.Tree.{Tree, listed}
-use Rattle.cal_imports.specs.Answer.{Answer, Gives, Refuses}
+use Rattle.cal_imports.specs.Answer.{Gives, Refuses}
 use Rattle.cal_imports.specs.Resolved.{resolved}
 use Rattle.cal_imports.specs.Sources.{Source, class_of}
 use Rattle.cal_imports.specs.Whole.{Outer, Scope}

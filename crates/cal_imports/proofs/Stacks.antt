@@ -1,7 +1,6 @@
 -- Open nodes, the innermost last in memory.
-use Rattle.std.proofs.Common.{◌≡◌, ℕ, List, [], ◌∷◌, ◌++◌, map, reverse, refl, ap, ◌∙◌}
+use Rattle.std.proofs.Common.{◌≡◌, List, [], ◌∷◌, ◌++◌, map, reverse, ap, ◌∙◌}
 use Rattle.std.proofs.lemmas.List.{map-append, reverse-append}
-use Rattle.cal_imports.specs.Walk as walks
 use Rattle.cal_imports.specs.WalkView.{open_of}
 use Rattle.cal_imports.specs.declared.walk.Open.{Open}
 

@@ -5,8 +5,8 @@ use Rattle.std.specs.Prelude.{Option, None, Some, if◌then◌else◌}
 use Rattle.std.specs.Str.{bytes_eq}
 use Rattle.rvc_base.specs.declared.refusal.Rule.{Rule}
 use Rattle.cal_scope.specs.Names.{is_among, with_name}
-use Rattle.cal_imports.specs.Answer.{Answer, Gives, Refuses}
-use Rattle.cal_imports.specs.Walk.{Edge, Graph, Node, Open, Step, Goes, Ends, Stops, Walk, entered_from, entering, followed, leaving, left_inside, node_named, past, step, step_at, step_in, steps_left, steps_of_nodes, steps_of_open, walk, walk_on, walked, with_open}
+use Rattle.cal_imports.specs.Answer.{Gives, Refuses}
+use Rattle.cal_imports.specs.Walk.{Edge, Graph, Node, Open, Step, Goes, Ends, Stops, Walk, entered_from, node_named, past, step, step_at, step_in, steps_left, steps_of_nodes, steps_of_open, walk, walk_on, walked, with_open}
 
 -- ---- names that were entered
 

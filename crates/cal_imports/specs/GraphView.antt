@@ -1,9 +1,8 @@
 -- Nodes, edges and walks, without where they lie in memory.
 -- Trusted: part of what a promise means.
-use Rattle.std.specs.Prelude.{ℕ, List, map, reverse, String, Vec, string_bytes}
+use Rattle.std.specs.Prelude.{ℕ, List, map, String, string_bytes}
 use Rattle.std.specs.declared.alloc.Global.{Global as Heap}
 use Rattle.cal_imports.specs.Walk as walks
-use Rattle.cal_imports.specs.Walk.{Graph}
 use Rattle.cal_imports.specs.declared.graph.Edge.{Edge}
 use Rattle.cal_imports.specs.declared.graph.Node.{Node}
 

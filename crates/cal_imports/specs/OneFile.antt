@@ -1,13 +1,13 @@
 -- A file with each name written out in full, or the first rule of scope that it breaks.
 -- Trusted: part of what a promise means.
-use Rattle.std.specs.Prelude.{ℕ, List, [], ◌∷◌}
+use Rattle.std.specs.Prelude.{List, [], ◌∷◌}
 use Rattle.rvc_base.specs.Rules.{unknown_name}
 use Rattle.cal_ast.specs.Tree as tree
 use Rattle.cal_ast.specs.Tree.{Tree, listed}
 use Rattle.cal_model.specs.Kinding.{Judged, Fine, Broken, and_so}
 use Rattle.cal_scope.specs.Asked.{outermost}
 use Rattle.cal_scope.specs.Expressions.{optional_resolved, type_resolved}
-use Rattle.cal_scope.specs.Members.{Ports, members_resolved, ports_of}
+use Rattle.cal_scope.specs.Members.{members_resolved, ports_of}
 use Rattle.cal_scope.specs.Names.{Global, Names}
 use Rattle.cal_imports.specs.Brought.{names_seen}
 use Rattle.cal_imports.specs.Answer.{Answer, and_then, in_file}

@@ -7,7 +7,7 @@ use Rattle.cal_ast.specs.Tree as tree
 use Rattle.cal_ast.specs.Tree.{Tree}
 use Rattle.cal_imports.specs.Answer.{Answer, Gives, Refuses, and_then}
 use Rattle.cal_imports.specs.OneFile.{source_resolved}
-use Rattle.cal_imports.specs.Sources.{Source, as_asked, body_of, dot, dotted, imports_of, source_named}
+use Rattle.cal_imports.specs.Sources.{Source, as_asked, dot, dotted, imports_of, source_named}
 use Rattle.cal_imports.specs.Walk.{Edge, Graph, Node, entering, order_from, with_node}
 
 -- ---- in which order files are judged

@@ -1,6 +1,5 @@
 mod Constants
 mod Starts
 pub mod Faults
-mod Wrongly
 mod Known
 mod Parts

@@ -27,7 +27,7 @@ use Rattle.fnl_tree.specs.Tree.{Own}
 use Rattle.fnl_tree.specs.View.{own_of}
 use Rattle.fnl_tree.specs.declared.tree.LeafValue.{LeafValue}
 use Rattle.fnl_tree.specs.declared.tree.NetEnd.{NetEnd}
-use Rattle.fnl_values.specs.Given.{all_given_of, given_of, spot_of}
+use Rattle.given_values.specs.Given.{all_given, given_of, spot_of}
 use Rattle.fnl_values.specs.Judging.{Comes, Declares, DeclaresAll, Settles, outcome_judged}
 use Rattle.fnl_values.specs.Visiting.{AreVisits, visit_of}
 use Rattle.fnl_values.specs.declared.declared.Told.{Told}
@@ -45,17 +45,17 @@ value_given g = Some (value_view g.value)
 
 abbrev pub IsValued : Result DeclaredValue Front → Told → NetDecl → Shape → Kept → Type 0
 IsValued result told decl t env =
-    Comes result (var_decl told.file (decl_of decl)) (all_given_of told.given.now)
+    Comes result (var_decl told.file (decl_of decl)) (all_given told.given.now)
     (spot_of told.owner) (shape_view t) (names_in env)
 
 abbrev pub IsDeclared : Result (Unit {0}) Front → Told → NetDecl → Kept → Kept → Type 0
 IsDeclared result told decl old new =
-    Declares result (var_decl told.file (decl_of decl)) (all_given_of told.given.now)
+    Declares result (var_decl told.file (decl_of decl)) (all_given told.given.now)
     (spot_of told.owner) (globals_of old) (globals_of new)
 
 abbrev pub AreDeclared : Result Kept Front → Told → List NetDecl → Type 0
 AreDeclared result told decls =
-    DeclaresAll result (var_decls told.file (map decl_of decls)) (all_given_of told.given.now)
+    DeclaresAll result (var_decls told.file (map decl_of decls)) (all_given told.given.now)
     (spot_of told.owner)
 
 -- ---- parameters
@@ -74,8 +74,8 @@ SettlesGiven result t given =
 abbrev pub SettlesDecl : Result DeclaredValue Front → VarDecl → List LeafValue → Place → Shape
     → DeclaredValue → Type 0
 SettlesDecl result x given owner t start =
-    Settles result (value_of x (all_given_of given) (shape_view t) (Some (value_view start)))
-    (param_broken x (all_given_of given) (spot_of owner) (shape_view t))
+    Settles result (value_of x (all_given given) (shape_view t) (Some (value_view start)))
+    (param_broken x (all_given given) (spot_of owner) (shape_view t))
 
 -- ---- ports
 

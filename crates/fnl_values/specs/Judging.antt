@@ -1,6 +1,6 @@
 -- What calls that evaluate parts of a network answer.
 -- Not trusted: no promise is read with it.
-use Rattle.std.specs.Prelude.{◌≡◌, ℕ, Bool, true, false, not, ◌||◌, List, [], ◌∷◌, ◌++◌, map, Option, None, Some, Vec, if◌then◌else◌}
+use Rattle.std.specs.Prelude.{◌≡◌, ℕ, Bool, true, false, List, [], ◌∷◌, ◌++◌, map, Option, None, Some, Vec, if◌then◌else◌}
 use Rattle.std.specs.declared.alloc.Global.{Global}
 use Rattle.std.specs.declared.result.Result.{Result}
 use Rattle.std.specs.declared.result.Result.TheVariants.{Ok, Err}
@@ -18,7 +18,6 @@ use Rattle.const_env.specs.declared.fault.KindFault.TheVariants as fault
 use Rattle.const_env.specs.Held.{Kept, globals_of}
 use Rattle.const_env.specs.Judging.{Breaks}
 use Rattle.cal_check.specs.Constants.{not_yet}
-use Rattle.cal_check.specs.Actors.{is_declared, is_given}
 use Rattle.cal_check.specs.Violations.{violation, all_broken, all_fine}
 use Rattle.cal_check.specs.Variables.{Spot, Found, found_in, Come, Given, VarDecl, Valued, none_yet, come, with_var, valued, value_of, param_broken, is_bare}
 use Rattle.fnl_read.specs.Net.{Parameter, Size, Connection}
@@ -27,8 +26,9 @@ use Rattle.fnl_tree.specs.declared.tree.LeafValue.{LeafValue}
 use Rattle.fnl_tree.specs.declared.tree.Wire.{Wire as DeclaredWire}
 use Rattle.fnl_bind.specs.Values as values
 use Rattle.fnl_bind.specs.Values.{parameters_judged, all_given, sizes_judged, sizes_of, largest, or_no, connections_broken, wires_of}
-use Rattle.fnl_values.specs.Causes.{IsCause, Refuses}
-use Rattle.fnl_values.specs.Given.{all_given_of}
+use Rattle.fnl_values.specs.Causes.{Refuses}
+use Rattle.given_values.specs.Causes.{IsCause}
+use Rattle.given_values.specs.Given.{all_given as all_given_of}
 
 -- ---- values
 
@@ -54,15 +54,6 @@ Settles (Err f) value breaks = IsCause f breaks
 abbrev pub bare_broken : Tree → Spot → List Found
 bare_broken start owner =
     if is_bare start None then found_in owner.file (violation wrong_parameter owner.at) else []
-
--- a value that is given to no parameter, or to one that is given another before
-abbrev pub is_wrong : Given → List Given → List VarDecl → Bool
-is_wrong g before params = not (is_declared g.name params) || is_given g.name before
-
--- a call finds one of these broken, or none is
-abbrev pub Finds : Result (Unit {0}) Front → List Found → Type 0
-Finds (Ok u) fs = fs ≡ []
-Finds (Err f) fs = IsCause f fs
 
 -- ---- names that aren't known yet
 

@@ -1,5 +1,4 @@
 pub mod Causes
-pub mod Given
 pub mod Steady
 pub mod Judging
 pub mod Visiting

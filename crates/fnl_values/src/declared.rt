@@ -13,7 +13,7 @@ use crate::start::start;
 use cal_model::{Kind, Shape, Value, kind_of_type};
 use const_eval::Env;
 use fnl_read::NetDecl;
-use fnl_tree::LeafValue;
+use given_values::GivenValues;
 use rvc_base::{Front, Memory, Place};
 use std::alloc::Global;
 
@@ -23,7 +23,7 @@ use std::alloc::Global;
 pub(crate) struct Told<'a> {
     pub alloc: Global,
     pub file: u32,
-    pub given: &'a [LeafValue],
+    pub given: &'a GivenValues<'a>,
     pub owner: Place,
 }
 

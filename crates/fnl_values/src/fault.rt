@@ -3,7 +3,8 @@
 ghost use Rattle.std.specs.Prelude.{List};
 ghost use Rattle.cal_check.specs.Variables.{found_in};
 ghost use Rattle.cal_check.specs.Violations.{Violation};
-ghost use Rattle.fnl_values.specs.Causes.{IsCause, Refuses};
+ghost use Rattle.fnl_values.specs.Causes.{Refuses};
+ghost use Rattle.given_values.specs.Causes.{IsCause};
 
 use const_eval::KindFault;
 use rvc_base::{Front, Place, Refusal};

@@ -5,7 +5,7 @@ ghost use Rattle.std.specs.Prelude.{◌≡◌, [], IfErr, IfOk};
 ghost use Rattle.const_env.specs.Held.{names_in};
 ghost use Rattle.fnl_frames.specs.Views.{net_of};
 ghost use Rattle.fnl_values.specs.Evaluated.{Evaluates, HasParts, alone};
-ghost use Rattle.fnl_values.specs.Given.{all_given_of, spot_of};
+ghost use Rattle.given_values.specs.Given.{all_given, spot_of};
 ghost use Rattle.fnl_values.specs.Causes.{Refuses};
 ghost use Rattle.fnl_values.specs.InMemory.{parts_broken};
 ghost use Rattle.fnl_values.specs.Steady.{IsSteady};
@@ -19,6 +19,7 @@ use crate::visits::{Visit, visits};
 use const_eval::{Env, KindFault};
 use fnl_read::NetFile;
 use fnl_tree::{LeafValue, NetEnd, Wire};
+use given_values::GivenValues;
 use rvc_base::{Front, Place};
 use std::alloc::Global;
 use std::collections::VecDeque;
@@ -56,6 +57,31 @@ fn parts<'a>(
     })
 }
 
+/// The same as [`evaluate`], over values that have an index.
+fn evaluated<'a>(
+    alloc: Global,
+    file: u32,
+    net: &'a NetFile,
+    given: &GivenValues<'_>,
+    owner: Place,
+) -> Result<NetValues<'a>, Front>
+    ensures { Evaluates result
+        (alone file (net_of net.entry.now) (all_given given.now) (spot_of owner)) }
+{
+    given_rightly(alloc, given, &net.decls)?;
+    let told = Told {
+        alloc,
+        file,
+        given,
+        owner,
+    };
+    let env = declared(told, &net.decls)?;
+    match parts(alloc, file, &env, net) {
+        Ok(values) => Ok(values),
+        Err(fault) => Err(in_file(file, fault)),
+    }
+}
+
 /// Evaluates a network of a file, whose parameters are given these values: its declarations in the order of the text,
 /// and then what its parts say over them. A parameter that isn't given a value has its default; if it has none, that is
 /// refused at the owner, which is the instance as which the network stands, or the command line.
@@ -74,18 +100,10 @@ pub fn evaluate<'a>(
     owner: Place,
 ) -> Result<NetValues<'a>, Front>
     ensures { Evaluates result
-        (alone file (net_of net.entry.now) (all_given_of given.now) (spot_of owner)) }
+        (alone file (net_of net.entry.now) (all_given given.now) (spot_of owner)) }
 {
-    given_rightly(given, &net.decls)?;
-    let told = Told {
-        alloc,
-        file,
-        given,
-        owner,
+    let Ok(given) = GivenValues::new(alloc, given) else {
+        return Err(Front::Memory);
     };
-    let env = declared(told, &net.decls)?;
-    match parts(alloc, file, &env, net) {
-        Ok(values) => Ok(values),
-        Err(fault) => Err(in_file(file, fault)),
-    }
+    evaluated(alloc, file, net, &given, owner)
 }

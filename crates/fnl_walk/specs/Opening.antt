@@ -4,7 +4,7 @@ use Rattle.std.specs.Prelude.{ℕ, List, [], ◌∷◌, ◌++◌, map}
 use Rattle.fnl_tree.specs.Tree.{Net as BoundNet}
 use Rattle.fnl_tree.specs.View.{own_of, wire_of}
 use Rattle.fnl_bind.specs.Networks.{Place}
-use Rattle.fnl_values.specs.Given.{all_given_of, spot_of}
+use Rattle.given_values.specs.Given.{all_given, spot_of}
 use Rattle.fnl_values.specs.declared.network.NetValues.{NetValues}
 use Rattle.net_set.specs.View.{entry_under}
 use Rattle.fnl_walk.specs.Walk.{Open, Walk}
@@ -35,7 +35,7 @@ bare_net file path v = record {
 abbrev pub place_standing : Standing → List (List ℕ) → Place
 place_standing at above = record {
   entry = entry_under at.class.now at.source.now;
-  given = all_given_of at.given.now;
+  given = all_given at.given.now;
   owner = spot_of at.owner;
   above = at.class.now ∷ above;
   path = at.path.now;

@@ -5,7 +5,7 @@ ghost use Rattle.std.specs.Prelude.{◌≡◌, OnOk, length, map, reverse, strin
 ghost use Rattle.fnl_bind.specs.Scopes.{scope_broken};
 ghost use Rattle.cal_check.specs.Variables.{found_in};
 ghost use Rattle.fnl_frames.specs.Views.{net_of};
-ghost use Rattle.fnl_values.specs.Judging.{Finds};
+ghost use Rattle.given_values.specs.Causes.{Finds};
 ghost use Rattle.fnl_values.specs.Visiting.{visit_of};
 ghost use Rattle.fnl_walk.specs.InMemory.{OpensAt, opened_at, with_values};
 ghost use Rattle.fnl_walk.specs.Opening.{with_class};

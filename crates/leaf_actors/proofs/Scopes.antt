@@ -23,7 +23,7 @@ use Rattle.fnl_tree.specs.Tree.{Leaf}
 use Rattle.fnl_tree.specs.View.{binding_of, leaf_of}
 use Rattle.fnl_tree.specs.declared.tree.Leaf.{Leaf as DeclaredLeaf}
 use Rattle.fnl_tree.specs.declared.tree.LeafValue.{LeafValue}
-use Rattle.variable_check.specs.Views.{all_given, spot_of}
+use Rattle.given_values.specs.Given.{all_given, spot_of}
 use Rattle.actor_check.specs.Checked.{IsChecked, IsComplete, IsRefused}
 use Rattle.actor_check.specs.Sources as check
 use Rattle.actor_check.specs.Sources.{source_in}

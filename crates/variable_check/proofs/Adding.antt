@@ -18,7 +18,8 @@ use Rattle.cal_check.specs.Violations.{said, violation}
 use Rattle.cal_check.specs.Routines.{FunDecl}
 use Rattle.cal_check.specs.Variables.{Come, Found, Given, Spot, VarDecl, Valued, come, found_in, held_if, is_none, param_broken, seen, value_of, value_or, valued, with_come, with_type, with_value, with_var}
 use Rattle.seen_names.specs.Known.{all_known}
-use Rattle.variable_check.specs.Causes.{IsCause, SaysRule, inconstant}
+use Rattle.variable_check.specs.Causes.{inconstant}
+use Rattle.given_values.specs.Causes.{IsCause, SaysRule}
 use Rattle.variable_check.specs.Valuing.{Declares, IsUntyped, IsValued, Lacks, Notes, Untypes, broken_in, first_of, lacking_at}
 use Rattle.variable_check.specs.declared.given.Constancy.{Constancy}
 use Rattle.variable_check.specs.declared.given.Constancy.TheVariants as constancy

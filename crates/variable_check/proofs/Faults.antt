@@ -8,7 +8,7 @@ use Rattle.rvc_base.specs.declared.refusal.Rule.{Rule}
 use Rattle.cal_check.specs.Violations.{Violation, violation}
 use Rattle.cal_check.specs.Variables.{Found, found_in}
 use Rattle.cal_check.proofs.Lists.{at-head}
-use Rattle.variable_check.specs.Causes.{IsCause}
+use Rattle.given_values.specs.Causes.{IsCause}
 
 -- ---- in a file
 

@@ -1,4 +1,3 @@
-mod Wrongly
 mod Faults
 mod Starts
 mod Settling

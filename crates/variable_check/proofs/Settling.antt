@@ -6,7 +6,7 @@ use Rattle.rvc_base.specs.declared.refusal.Front.{Front}
 use Rattle.cal_model.specs.Value.{Shape}
 use Rattle.cal_check.specs.Violations.{violation}
 use Rattle.cal_check.specs.Variables.{Come, Found, Given, Spot, VarDecl, found_in, given_broken, given_to, is_bare, param_broken}
-use Rattle.variable_check.specs.Causes.{IsCause}
+use Rattle.given_values.specs.Causes.{IsCause}
 use Rattle.variable_check.proofs.Faults.{cause_in_first, cause_in_others}
 
 -- what a parameter breaks that is given this

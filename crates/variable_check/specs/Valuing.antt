@@ -1,6 +1,5 @@
 -- What calls answer that seek the values of variables.
--- Trusted but for `came`, `said_of`, `Notes`, `Settles`, `GivenStored`, `is_wrong` and what stands under steps: part of
--- what a promise means.
+-- Trusted but for `came`, `said_of`, `Notes`, `Settles` and what stands under steps: part of what a promise means.
 use Rattle.std.specs.Prelude.{◌≡◌, ℕ, Bool, true, false, not, ◌||◌, List, [], ◌∷◌, ◌++◌, Contains, map, option_map, Option, None, Some, if◌then◌else◌}
 use Rattle.std.specs.declared.result.Result.{Result}
 use Rattle.std.specs.declared.result.Result.TheVariants.{Ok, Err}
@@ -13,17 +12,17 @@ use Rattle.cal_model.specs.Actor.{Held}
 use Rattle.cal_model.specs.Sound.{Each}
 use Rattle.cal_model.specs.Value.{Shape, Value}
 use Rattle.cal_model.specs.View.{value_view, var_view}
-use Rattle.cal_model.specs.declared.value.Value.{Value as DeclaredValue}
 use Rattle.const_env.specs.declared.fault.KindFault.{KindFault}
 use Rattle.const_env.specs.declared.fault.KindFault.TheVariants as fault
-use Rattle.cal_check.specs.Actors.{first_valueless, is_declared, is_given, said_or_all}
+use Rattle.cal_check.specs.Actors.{first_valueless, said_or_all}
 use Rattle.cal_check.specs.Violations.{Violation, said, violation}
 use Rattle.cal_check.specs.Variables.{Come, Found, Given, Spot, VarDecl, Valued, found_in, is_none, param_broken, value_of}
 use Rattle.cal_check.specs.Routines.{FunDecl}
 use Rattle.seen_names.specs.Known.{all_known}
 use Rattle.seen_names.specs.Needs.{Growing, IsKept, kept_in}
 use Rattle.seen_names.specs.declared.known.KnownName.{KnownName}
-use Rattle.variable_check.specs.Causes.{IsCause, IsSaid, SaysRule, inconstant}
+use Rattle.variable_check.specs.Causes.{inconstant}
+use Rattle.given_values.specs.Causes.{IsCause, IsSaid, SaysRule}
 use Rattle.variable_check.specs.declared.starting.Started.{Started}
 use Rattle.variable_check.specs.declared.starting.Started.TheVariants as started
 use Rattle.variable_check.specs.declared.given.Constancy.{Constancy}
@@ -50,20 +49,6 @@ abbrev pub said_of : Bool → Come → Come
 said_of useless c = came c.value (said useless c.breaks)
 
 -- ---- parameters
-
--- a value that is given to no parameter, or to one that is given another before
-abbrev pub is_wrong : Given → List Given → List VarDecl → Bool
-is_wrong g before params = not (is_declared g.name params) || is_given g.name before
-
--- a call finds one of these broken, or none is
-abbrev pub Finds : {A : Type 0} → Result A Front → List Found → Type 0
-Finds (Ok a) fs = fs ≡ []
-Finds (Err f) fs = IsCause f fs
-
--- a value that a parameter is given, as it is stored, or the rule that it breaks
-abbrev pub GivenStored : Result DeclaredValue Front → Option Value → List Found → Type 0
-GivenStored (Ok v) value breaks = (value ≡ Some (value_view v)) × (breaks ≡ [])
-GivenStored (Err f) value breaks = IsCause f breaks × SaysRule f
 
 -- where the start of a variable begins
 abbrev pub start_place : VarDecl → Place

@@ -1,26 +1,13 @@
--- Declarations, and values that are given to parameters, without where they lie in memory.
+-- Declarations, without where they lie in memory.
 -- Trusted: part of what a promise means.
-use Rattle.std.specs.Prelude.{List, map, string_bytes}
-use Rattle.rvc_base.specs.declared.refusal.Place.{Place}
+use Rattle.std.specs.Prelude.{List, map}
 use Rattle.cal_ast.specs.Tree.{Tree, listed}
 use Rattle.cal_ast.specs.View.{member_tree, optional_expr, param_tree, port_tree, type_tree}
 use Rattle.cal_ast.specs.declared.member.Member.{Member}
 use Rattle.cal_ast.specs.declared.member.Param.{Param}
 use Rattle.cal_ast.specs.declared.member.PortDecl.{PortDecl}
-use Rattle.cal_model.specs.View.{value_view}
-use Rattle.cal_check.specs.Variables.{Spot, Given, VarDecl}
-use Rattle.fnl_tree.specs.declared.tree.LeafValue.{LeafValue}
+use Rattle.cal_check.specs.Variables.{VarDecl}
 use Rattle.variable_check.specs.declared.declared.DeclaredVar.{DeclaredVar}
-
-abbrev pub spot_of : Place → Spot
-spot_of p = record { file = p.file; at = p.offset }
-
-abbrev pub given_of : LeafValue → Given
-given_of g =
-    record { name = string_bytes g.name; value = value_view g.value; place = spot_of g.place }
-
-abbrev pub all_given : List LeafValue → List Given
-all_given gs = map given_of gs
 
 abbrev pub var_decl : DeclaredVar → VarDecl
 var_decl x = record {

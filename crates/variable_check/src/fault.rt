@@ -5,7 +5,8 @@ ghost use Rattle.rvc_base.specs.Rules.{not_constant};
 ghost use Rattle.cal_check.specs.Variables.{found_in};
 ghost use Rattle.cal_check.specs.Violations.{Violation};
 ghost use Rattle.stmt_check.specs.Judging.{Refuses};
-ghost use Rattle.variable_check.specs.Causes.{IsCause, SaysFault, SaysRule};
+ghost use Rattle.variable_check.specs.Causes.{SaysFault};
+ghost use Rattle.given_values.specs.Causes.{IsCause, SaysRule};
 
 use const_eval::KindFault;
 use rvc_base::{Front, Place, Refusal, Rule};
@@ -30,11 +31,4 @@ pub(crate) fn is_not_constant(rule: Rule) -> bool
     ensures { result ≡ (rule.0 == not_constant.0) }
 {
     rule.0 == Rule::NOT_CONSTANT.0
-}
-
-/// A rule that is broken at a place.
-pub(crate) fn refused(rule: Rule, place: Place) -> Front
-    ensures { result ≡ Front.Refused (record { rule = rule; place = place }) }
-{
-    Front::Refused(Refusal { rule, place })
 }

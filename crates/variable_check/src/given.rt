@@ -1,82 +1,60 @@
 //! Values that parameters are given.
-#![tactic(auto, using(crate::proofs::Wrongly::wrongly_behind, crate::proofs::Wrongly::given_is))]
 
-ghost use Rattle.std.specs.Prelude.{◌≡◌, ℕ, IfErr, List, [], None, Some, option_map, true};
+ghost use Rattle.std.specs.Prelude.{◌≡◌, ℕ, IfErr, List, [], None, OnOk, option_map, true};
 ghost use Rattle.std.specs.declared.result.Result.TheVariants.{Ok};
 ghost use Rattle.cal_ast.specs.Places.{begins};
 ghost use Rattle.cal_ast.specs.View.{optional_expr};
-ghost use Rattle.cal_check.specs.Actors.{given_wrongly, is_declared};
-ghost use Rattle.cal_check.specs.Variables.{Come, Given, found_in, given_broken, given_to, given_value};
+ghost use Rattle.cal_check.specs.Actors.{given_wrongly};
+ghost use Rattle.cal_check.specs.Variables.{Come, Given, found_in, given_to};
 ghost use Rattle.cal_model.specs.Value.{IsType, Shape as ShapeOf, kind_of_type};
 ghost use Rattle.cal_model.specs.View.{kind_view, shape_view, value_view};
-ghost use Rattle.variable_check.specs.Causes.{SaysRule};
-ghost use Rattle.variable_check.specs.Views.{all_given, given_of, spot_of, var_decl, var_decls};
-ghost use Rattle.variable_check.specs.Valuing.{ComesTo, Finds, GivenStored, Notes, Settles, is_wrong, start_place};
+ghost use Rattle.given_values.specs.Causes.{Finds, SaysRule};
+ghost use Rattle.given_values.specs.Given.{all_given, spot_of};
+ghost use Rattle.given_values.specs.Judging.{with_declared};
+ghost use Rattle.variable_check.specs.Views.{var_decl, var_decls};
+ghost use Rattle.variable_check.specs.Valuing.{ComesTo, Notes, Settles, start_place};
 
 use crate::declared::DeclaredVar;
-use crate::fault::refused;
 use crate::starting::Started;
 use crate::valued::Told;
 use cal_ast::Expr;
 use cal_model::{Kind, Shape, Value};
-use fnl_tree::LeafValue;
+use given_values::{GivenValues, given_stored, refused};
 use rvc_base::{Front, Memory, Place, Rule};
 use std::alloc::Global;
-use typed_values::{has_kind, is_like_value, stored};
+use used_names::NameSet;
 
 // ---- which are given
 
-/// Whether a variable of the name is among these.
-fn is_declared(name: &str, params: &[DeclaredVar]) -> bool
-    ensures { result ≡ is_declared name.now (var_decls params.now) }
+/// Adds the names of parameters.
+fn add_names(names: &mut NameSet, params: &[DeclaredVar]) -> Result<(), Memory>
+    ensures { OnOk result (names.new ≡ with_declared names.old (var_decls params.now)) }
 {
     for x in params {
-        if x.name == name {
-            return true;
-        }
+        names.add(x.name)?;
     }
-    false
-}
-
-/// The value that is given to a parameter of the name: the first of those that are given.
-pub fn given_to<'a>(name: &str, given: &'a [LeafValue]) -> Option<&'a LeafValue>
-    ensures { option_map (λ g. given_of g.now) result ≡ given_to name.now (all_given given.entry.now) }
-{
-    let mut rest = given;
-    'given: while let Some((first, others)) = rest.split_first() {
-        if first.name.as_str() == name {
-            return Some(first);
-        }
-        rest = others;
-    }
-    None
-}
-
-/// Whether a value is given to no parameter, or to one that is given another before.
-fn is_wrong(given: &LeafValue, before: &[LeafValue], params: &[DeclaredVar]) -> bool
-    ensures { result ≡ is_wrong (given_of given.now) (all_given before.now) (var_decls params.now) }
-{
-    let name = given.name.as_str();
-    !is_declared(name, params) || given_to(name, before).is_some()
+    Ok(())
 }
 
 /// That each value is given to a parameter, and none of these is given two.
 ///
 /// # Errors
 ///
-/// `Refused`: N2 at a value that is given to no parameter, or to one that is given another before it.
-pub fn given_rightly(given: &[LeafValue], params: &[DeclaredVar]) -> Result<(), Front>
+/// `Refused`: N2 at a value that is given to no parameter, or to one that is given another before it. `Memory` if
+/// memory runs out.
+pub fn given_rightly(
+    alloc: Global,
+    given: &GivenValues<'_>,
+    params: &[DeclaredVar],
+) -> Result<(), Front>
     ensures found { Finds result (given_wrongly (all_given given.now) [] (var_decls params.now)) }
     ensures said { IfErr result (λ fault. SaysRule fault) }
 {
-    let mut rest = given;
-    'backwards: while let Some((last, before)) = rest.split_last() {
-        if is_wrong(last, before, params) {
-            return Err(refused(Rule::WRONG_PARAMETER, last.place));
-        }
-        rest = before;
-    }
-    Ok(())
+    let mut names = NameSet::new(alloc);
+    let Ok(()) = add_names(&mut names, params) else {
+        return Err(Front::Memory);
+    };
+    given.rightly(&names)
 }
 
 // ---- values
@@ -95,25 +73,6 @@ pub(crate) enum Constancy {
 pub(crate) struct Settled {
     pub value: Option<Value>,
     pub constancy: Constancy,
-}
-
-/// What a parameter of a type and its kind holds once the value is stored in it.
-fn given_stored(alloc: Global, t: &Shape, k: &Kind, given: &LeafValue) -> Result<Value, Front>
-    requires allowed { IsType (shape_view t.now) }
-    requires kind { kind_view k.now ≡ kind_of_type (shape_view t.now) }
-    ensures { GivenStored result (given_value (Some (given_of given.now)) (shape_view t.now) None)
-        (given_broken (Some (given_of given.now)) (shape_view t.now)) }
-{
-    if has_kind(k, &given.value) {
-        return match stored(alloc, t, &given.value) {
-            Ok(value) => Ok(value),
-            Err(Memory) => Err(Front::Memory),
-        };
-    }
-    if is_like_value(k, &given.value) {
-        return Err(refused(Rule::WRONG_LENGTH, given.place));
-    }
-    Err(refused(Rule::WRONG_KIND, given.place))
 }
 
 /// The offset at which a start begins, or 0 if there is none.
@@ -200,7 +159,7 @@ pub(crate) fn settle(
         let value = value_started(started);
         return Ok(Settled { value, constancy });
     }
-    let Some(g) = given_to(x.name, told.given) else {
+    let Some(g) = told.given.get(x.name) else {
         return defaulted(x, told.owner, started, constancy);
     };
     let value = given_stored(told.alloc, t, k, g)?;

@@ -15,7 +15,7 @@ mod valued;
 mod variables;
 
 pub use declared::{DeclaredVar, add_functions, add_parameters, add_variables};
-pub use given::{given_rightly, given_to};
+pub use given::given_rightly;
 pub use header::{Header, header_ports, port};
 pub use starting::{Started, start};
 pub use valued::{Told, Valued};

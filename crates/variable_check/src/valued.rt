@@ -12,7 +12,7 @@ ghost use Rattle.variable_check.specs.Valuing.{AreAt, Grows, IsNoted, IsUntyped,
 use crate::declared::DeclaredVar;
 use crate::given::{Constancy, Settled, start_place};
 use cal_model::{BoundVar, Kind, Shape, Value, Values};
-use fnl_tree::LeafValue;
+use given_values::GivenValues;
 use rvc_base::{Memory, Place};
 use seen_names::{DeclaredFun, KnownName};
 use std::alloc::Global;
@@ -23,7 +23,7 @@ use typed_values::copy;
 #[derive(Clone, Copy)]
 pub struct Told<'a> {
     pub alloc: Global,
-    pub given: &'a [LeafValue],
+    pub given: &'a GivenValues<'a>,
     /// The instance as which the actor stands, or the command line.
     pub owner: Place,
     pub funs: &'a [DeclaredFun<'a>],

@@ -13,7 +13,8 @@ ghost use Rattle.seen_names.specs.Calls.{calls_any};
 ghost use Rattle.cal_check.specs.Routines.{FunDecl};
 ghost use Rattle.seen_names.specs.Known.{all_known, fun_decls, names_differ};
 ghost use Rattle.seen_names.specs.Needs.{IsKept, kept_in};
-ghost use Rattle.variable_check.specs.Views.{all_given, spot_of, var_decl, var_decls};
+ghost use Rattle.variable_check.specs.Views.{var_decl, var_decls};
+ghost use Rattle.given_values.specs.Given.{all_given, spot_of};
 ghost use Rattle.variable_check.specs.Valuing.{AreSeen, Declares, Grows, Settles, Untypes, said_of};
 
 use crate::declared::DeclaredVar;

@@ -6,8 +6,7 @@ use Rattle.cal_check.specs.Routines.{fun_broken}
 use Rattle.cal_check.specs.Variables.{found_in}
 use Rattle.const_env.specs.Counting.{names_view}
 use Rattle.seen_names.specs.Known.{fun_decls}
-use Rattle.variable_check.specs.Causes.{IsCause}
-use Rattle.variable_check.specs.Valuing.{Finds}
+use Rattle.given_values.specs.Causes.{Finds, IsCause}
 use Rattle.actor_check.proofs.Causes.{cause_in_first}
 use Rattle.actor_check.proofs.Heads.{opened}
 use Rattle.actor_check.proofs.bodies.check_bodies.Goals as goal

@@ -1,7 +1,8 @@
 use Rattle.std.proofs.Common.{◌≡◌, Err, ap, sym, subst, ◌∙◌, rules}
 use Rattle.cal_check.specs.Actors.{all_funs, members_of, vars_in}
 use Rattle.seen_names.specs.Known.{fun_decls}
-use Rattle.variable_check.specs.Views.{all_given, spot_of, var_decls}
+use Rattle.variable_check.specs.Views.{var_decls}
+use Rattle.given_values.specs.Given.{all_given, spot_of}
 use Rattle.actor_check.specs.Early.{FindsEarly, vars_before}
 use Rattle.actor_check.specs.Sources.{source_in}
 use Rattle.actor_check.proofs.Telling.{before_keeps}

@@ -1,7 +1,7 @@
 use Rattle.std.proofs.Common.{◌≡◌, [], map, subst, ◌∙◌}
 use Rattle.cal_model.specs.View.{proc_view}
 use Rattle.const_env.specs.Counting.{names_view}
-use Rattle.variable_check.specs.Causes.{IsCause}
+use Rattle.given_values.specs.Causes.{IsCause}
 use Rattle.actor_check.specs.Parts.{AreBareParts}
 use Rattle.actor_check.specs.Phases.{routines_found}
 use Rattle.actor_check.specs.Sources.{source_in}

@@ -1,7 +1,7 @@
 use Rattle.std.proofs.Common.{◌≡◌, [], map, Err, sym, subst, rules}
 use Rattle.cal_model.specs.View.{var_view}
 use Rattle.const_env.specs.Counting.{names_view}
-use Rattle.variable_check.specs.Causes.{IsCause}
+use Rattle.given_values.specs.Causes.{IsCause}
 use Rattle.actor_check.specs.Parts.{FindsInside}
 use Rattle.actor_check.specs.Phases.{scalars_found}
 use Rattle.actor_check.specs.Sources.{source_in}

@@ -1,7 +1,7 @@
 use Rattle.std.proofs.Common.{◌≡◌, [], map, Ok, Err, sym, subst, rules}
 use Rattle.cal_model.specs.View.{proc_view, var_view}
 use Rattle.const_env.specs.Counting.{names_view}
-use Rattle.variable_check.specs.Causes.{IsCause}
+use Rattle.given_values.specs.Causes.{IsCause}
 use Rattle.actor_check.specs.Parts.{SiftsAll}
 use Rattle.actor_check.specs.Phases.{routines_found, scalars_found}
 use Rattle.actor_check.specs.Sifting.{Sifts}

@@ -1,6 +1,6 @@
 use Rattle.std.proofs.Common.{◌≡◌, false, true, sym, subst, ◌∙◌, rules}
 use Rattle.cal_check.specs.Actors.{all_valued, declared_vars}
-use Rattle.variable_check.specs.Views.{all_given, spot_of}
+use Rattle.given_values.specs.Given.{all_given, spot_of}
 use Rattle.actor_check.specs.Checked.{IsRefused}
 use Rattle.actor_check.specs.Sources.{source_in}
 use Rattle.actor_check.proofs.Telling.{members_refuse, members_settle, untyped_refuses}

@@ -1,6 +1,6 @@
 use Rattle.std.proofs.Common.{◌≡◌, Err, sym, ap, subst, ◌∙◌, rules}
 use Rattle.seen_names.specs.Known.{names_differ}
-use Rattle.variable_check.specs.Views.{all_given, spot_of}
+use Rattle.given_values.specs.Given.{all_given, spot_of}
 use Rattle.actor_check.specs.Checked.{IsChecked}
 use Rattle.actor_check.specs.Phases.{header_over}
 use Rattle.actor_check.specs.Sifting.{IsFault}

@@ -1,8 +1,6 @@
 use Rattle.std.proofs.Common.{◌≡◌, ◌++◌, length, map}
-use Rattle.cal_scope.specs.Asked.{members_tree}
 use Rattle.cal_imports.specs.GraphView.{edge_of, node_of}
-use Rattle.cal_imports.specs.Recursion.{edge_to, with_outer_routines, with_routines}
-use Rattle.cal_imports.specs.ScopeView.{outer_fun}
+use Rattle.cal_imports.specs.Recursion.{edge_to}
 use Rattle.cal_imports.proofs.recursion.edges_to.Given as goal
 
 abbrev pub invariant-nodes : goal.invariant-nodes

@@ -10,20 +10,20 @@ use Rattle.const_env.specs.Judging.{Breaks}
 use Rattle.fnl_bind.specs.Library.{var_decl}
 use Rattle.fnl_frames.specs.Views.{decl_of}
 use Rattle.fnl_values.proofs.Known.{declares, known_of, names_are, type_fault}
-use Rattle.fnl_values.specs.Given.{all_given_of, spot_of}
+use Rattle.given_values.specs.Given.{all_given, spot_of}
 use Rattle.fnl_values.specs.Judging.{fine_so_far, value_breaks}
 use Rattle.fnl_values.proofs.declared.declare.Goals as goal
 
 pub returns-in-Err-clause-declares : goal.returns-in-Err-clause-declares
 returns-in-Err-clause-declares c = λ held.
-    type_fault (var_decl c.args.told.file (decl_of c.args.decl.now)) (all_given_of c.args.told.given.now) (spot_of c.args.told.owner) (globals_of c.args.env.now) held c.in-Err.fault c.in_file.result
+    type_fault (var_decl c.args.told.file (decl_of c.args.decl.now)) (all_given c.args.told.given.now) (spot_of c.args.told.owner) (globals_of c.args.env.now) held c.in-Err.fault c.in_file.result
     (subst (λ n. Breaks c.in-Err.fault (early_type (type_tree c.args.decl.now.shape) n)) (names_are c.args.env.now c.requires) c.in-Err.ensures.judged)
     c.in_file.ensures
 
 pub returns-in-Ok-add-clause-declares : goal.returns-in-Ok-add-clause-declares
 returns-in-Ok-add-clause-declares c = λ held.
     let x = var_decl c.args.told.file (decl_of c.args.decl.now) in
-    let gs = all_given_of c.args.told.given.now in
+    let gs = all_given c.args.told.given.now in
     let owner = spot_of c.args.told.owner in
     let t = shape_view c.in-Ok.t in
     let v = value_view c.in_ok-value.value in

@@ -4,14 +4,14 @@ use Rattle.const_env.specs.Held.{globals_of}
 use Rattle.fnl_bind.specs.Library.{var_decl, var_decls}
 use Rattle.fnl_frames.specs.Views.{decl_of}
 use Rattle.fnl_values.proofs.Known.{stays_broken}
-use Rattle.fnl_values.specs.Causes.{IsCause}
-use Rattle.fnl_values.specs.Given.{all_given_of, spot_of}
+use Rattle.given_values.specs.Causes.{IsCause}
+use Rattle.given_values.specs.Given.{all_given, spot_of}
 use Rattle.fnl_values.specs.Judging.{DeclaresAll, fine_so_far}
 use Rattle.fnl_values.proofs.declared.declared.Goals as goal
 
 pub returns-in_err-declare-clause-declares : goal.returns-in_err-declare-clause-declares
 returns-in_err-declare-clause-declares c =
-    let gs = all_given_of c.args.told.given.now in
+    let gs = all_given c.args.told.given.now in
     let owner = spot_of c.args.told.owner in
     let known = globals_of c.decls.env in
     let before = c.decls.invariant.same in
@@ -25,7 +25,7 @@ returns-in_err-declare-clause-declares c =
 
 pub decls-preserved : goal.decls-preserved
 decls-preserved c =
-    let gs = all_given_of c.args.told.given.now in
+    let gs = all_given c.args.told.given.now in
     let owner = spot_of c.args.told.owner in
     let known = globals_of c.decls.env in
     let before = c.decls.invariant.same in

@@ -1,5 +1,5 @@
 use Rattle.std.proofs.Common.{◌≡◌, subst, rules}
-use Rattle.variable_check.specs.Views.{all_given, spot_of}
+use Rattle.given_values.specs.Given.{all_given, spot_of}
 use Rattle.actor_check.specs.Checked.{IsChecked, IsComplete}
 use Rattle.actor_check.specs.Sources.{source_in}
 use Rattle.leaf_actors.proofs.Scopes.{answered}

@@ -3,7 +3,8 @@ use Rattle.std.proofs.Math.ListN.{drop_of_length-le}
 use Rattle.seen_names.specs.Known.{fun_decls}
 use Rattle.cal_check.specs.Variables.{valued}
 use Rattle.variable_check.specs.Valuing.{Values}
-use Rattle.variable_check.specs.Views.{all_given, spot_of, var_decl, var_decls}
+use Rattle.variable_check.specs.Views.{var_decl, var_decls}
+use Rattle.given_values.specs.Given.{all_given, spot_of}
 use Rattle.variable_check.proofs.Adding.{AreAdded, added_all, added_more, added_refused, opened}
 use Rattle.variable_check.proofs.variables.add_all.Goals as goal
 

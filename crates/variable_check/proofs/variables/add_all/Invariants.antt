@@ -1,7 +1,8 @@
 use Rattle.std.proofs.Common.{List, drop}
 use Rattle.cal_check.specs.Variables.{VarDecl, Valued}
 use Rattle.seen_names.specs.Known.{fun_decls}
-use Rattle.variable_check.specs.Views.{all_given, spot_of, var_decls}
+use Rattle.variable_check.specs.Views.{var_decls}
+use Rattle.given_values.specs.Given.{all_given, spot_of}
 use Rattle.variable_check.specs.Valuing.{AreSeen, IsValued}
 use Rattle.variable_check.proofs.Adding.{AreAdded}
 use Rattle.variable_check.proofs.variables.add_all.Given as goal

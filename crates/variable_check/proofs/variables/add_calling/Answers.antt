@@ -2,7 +2,8 @@ use Rattle.std.proofs.Common.{◌≡◌, ap, ◌∙◌, rules}
 use Rattle.const_env.specs.Held.{names_in}
 use Rattle.cal_check.specs.Variables.{seen}
 use Rattle.seen_names.specs.Known.{all_known, fun_decls}
-use Rattle.variable_check.specs.Views.{all_given, spot_of, var_decl}
+use Rattle.variable_check.specs.Views.{var_decl}
+use Rattle.given_values.specs.Given.{all_given, spot_of}
 use Rattle.variable_check.proofs.Alone.{declares_seen, seen_is}
 use Rattle.variable_check.proofs.variables.add_calling.Goals as goal
 

@@ -5,7 +5,8 @@ use Rattle.cal_check.specs.Variables.{come, with_come}
 use Rattle.cal_model.specs.View.{shape_view, value_view}
 use Rattle.const_env.specs.Held.{names_in}
 use Rattle.variable_check.specs.Valuing.{Values}
-use Rattle.variable_check.specs.Views.{all_given, spot_of, var_decl}
+use Rattle.variable_check.specs.Views.{var_decl}
+use Rattle.given_values.specs.Given.{all_given, spot_of}
 use Rattle.variable_check.proofs.Adding.{come_added, come_refused}
 use Rattle.variable_check.proofs.variables.add_typed.Goals as goal
 

@@ -1,6 +1,7 @@
 use Rattle.std.proofs.Common.{◌≡◌, false, rules}
 use Rattle.seen_names.specs.Known.{fun_decls}
-use Rattle.variable_check.specs.Views.{all_given, spot_of, var_decl}
+use Rattle.variable_check.specs.Views.{var_decl}
+use Rattle.given_values.specs.Given.{all_given, spot_of}
 use Rattle.variable_check.proofs.Adding.{not_whole}
 use Rattle.variable_check.proofs.variables.add_variable.Goals as goal
 

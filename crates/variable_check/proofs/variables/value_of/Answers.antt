@@ -5,7 +5,8 @@ use Rattle.cal_check.specs.Violations.{said}
 use Rattle.cal_model.specs.View.{shape_view}
 use Rattle.const_env.specs.Held.{names_in}
 use Rattle.variable_check.specs.Valuing.{said_of}
-use Rattle.variable_check.specs.Views.{all_given, spot_of, var_decl}
+use Rattle.variable_check.specs.Views.{var_decl}
+use Rattle.given_values.specs.Given.{all_given, spot_of}
 use Rattle.variable_check.proofs.Faults.{cause_in_first}
 use Rattle.variable_check.proofs.Starts.{start_refuses, start_says}
 use Rattle.variable_check.proofs.variables.value_of.Goals as goal

@@ -1,6 +1,6 @@
 use Rattle.std.proofs.Common.{◌≡◌, ◌∷◌, [], ◌++◌, map, sym, ap, ◌∙◌, rules}
 use Rattle.std.specs.Prelude.{None, string_bytes}
-use Rattle.cal_imports.specs.GraphView.{edge_of, node, node_of}
+use Rattle.cal_imports.specs.GraphView.{node, node_of}
 use Rattle.cal_imports.specs.Walk.{node_named}
 use Rattle.cal_imports.proofs.FoundNodes.{added_entry, not_there}
 use Rattle.cal_imports.proofs.graph.Nodes.add.Goals as goal

@@ -3,7 +3,7 @@ use Rattle.cal_check.specs.Constants.{has_kind}
 use Rattle.cal_model.specs.Value.{HasKind, kind_of_type, stored}
 use Rattle.cal_model.specs.View.{kind_view, shape_view, value_view}
 use Rattle.typed_values.proofs.Kept.{kept_has_kind}
-use Rattle.fnl_values.proofs.given.given_stored.Goals as goal
+use Rattle.given_values.proofs.kept.given_stored.Goals as goal
 
 pub returns-in-Ok-clause-kind : goal.returns-in-Ok-clause-kind
 returns-in-Ok-clause-kind c =

@@ -1,22 +1,16 @@
 -- Values that are given: to which parameters, and which of them are given twice.
 use Rattle.std.proofs.Common.{◌≡◌, ℕ, Bool, true, false, not, List, [], ◌∷◌, ◌++◌, refl, sym, ap, subst, ◌∙◌, arith, append-nil, append_assoc}
-use Rattle.std.specs.Prelude.{Contains, Option, None, Some, ◌||◌, is_some, option_map, reverse, if◌then◌else◌}
+use Rattle.std.specs.Prelude.{Contains, ◌||◌, reverse, if◌then◌else◌}
 use Rattle.std.specs.Str.{bytes_eq}
+use Rattle.std.proofs.lemmas.Slice.Eq.{bytes_eq-Decides}
 use Rattle.std.proofs.lemmas.List.{reverse-append}
 use Rattle.std.proofs.lemmas.List.Elements.{Contains-append_right}
-use Rattle.variable_check.specs.Valuing.{is_wrong}
+use Rattle.cal_model.specs.Tags.{is_seen, with_seen}
+use Rattle.given_values.specs.Judging.{AreNamesOf, is_wrong, with_declared}
 use Rattle.rvc_base.specs.Rules.{wrong_parameter}
 use Rattle.cal_check.specs.Actors.{given_wrongly, is_declared, is_given}
 use Rattle.cal_check.specs.Violations.{violation}
-use Rattle.cal_check.specs.Variables.{Found, found_in, Given, given_to, VarDecl}
-
-given_here : (b : Bool) (g : Given) (o : Option Given) (c : Bool) → is_some o ≡ c → is_some (if b then Some g else o) ≡ (b || c)
-given_here true g o c h = refl
-given_here false g o c h = h
-
-pub given_is : (name : List ℕ) (gs : List Given) → is_some (given_to name gs) ≡ is_given name gs
-given_is name [] = refl
-given_is name (g ∷ gs) = given_here (bytes_eq g.name name) g (given_to name gs) (is_given name gs) (given_is name gs)
+use Rattle.cal_check.specs.Variables.{Found, found_in, Given, VarDecl}
 
 -- ---- in either order
 
@@ -92,11 +86,35 @@ wrongly_passed gs g params all e h =
     ∙ sym (wrongly_behind gs g params)
     ∙ ap (λ xs. given_wrongly xs [] params) (sym e)
 
-pub some_mapped : {A B : Type 0} (f : A → B) (o : Option A) → is_some (option_map f o) ≡ is_some o
-some_mapped f None = refl
-some_mapped f (Some x) = refl
+-- ---- names that are declared
 
--- a parameter that is declared is given wrongly if it was given before
-pub wrong_if_given : (g : Given) (before : List Given) (params : List VarDecl) (b : Bool) → is_declared g.name params ≡ true → b ≡ is_some (given_to g.name before) → b ≡ is_wrong g before params
-wrong_if_given g before params b d e =
-    e ∙ given_is g.name before ∙ ap (λ c. not c || is_given g.name before) (sym d)
+seen_behind : (x name : List ℕ) (names : List (List ℕ)) → is_seen x (names ++ name ∷ []) ≡ (is_seen x names || bytes_eq name x)
+seen_behind x name [] = or_nothing (bytes_eq name x)
+seen_behind x name (y ∷ names) = ap (λ b. bytes_eq y x || b) (seen_behind x name names) ∙ or_both (bytes_eq y x) (is_seen x names) (bytes_eq name x)
+
+seen_added : (x name : List ℕ) (names : List (List ℕ)) → is_seen x (with_seen names name) ≡ (is_seen x names || bytes_eq name x)
+seen_added x name names = go (is_seen name names) refl
+  where
+    there : (b : Bool) → bytes_eq name x ≡ b → is_seen name names ≡ true → is_seen x names ≡ (is_seen x names || b)
+    there false e h = sym (or_nothing (is_seen x names))
+    there true e h =
+        let seen : is_seen x names ≡ true = subst (λ y. is_seen y names ≡ true) ((bytes_eq-Decides name x).0 e) h in
+        seen ∙ sym (ap (λ b. b || true) seen)
+
+    go : (b : Bool) → is_seen name names ≡ b → is_seen x (if b then names else names ++ name ∷ []) ≡ (is_seen x names || bytes_eq name x)
+    go true h = there (bytes_eq name x) refl h
+    go false h = seen_behind x name names
+
+declared_seen : (name : List ℕ) (names : List (List ℕ)) (params : List VarDecl) → is_seen name (with_declared names params) ≡ (is_seen name names || is_declared name params)
+declared_seen name names [] = sym (or_nothing (is_seen name names))
+declared_seen name names (x ∷ xs) =
+    declared_seen name (with_seen names x.name) xs
+    ∙ ap (λ b. b || is_declared name xs) (seen_added name x.name names)
+    ∙ sym (or_both (is_seen name names) (bytes_eq x.name name) (is_declared name xs))
+
+-- ---- as it is told by names and places
+
+pub told_wrong : (g : Given) (before : List Given) (params : List VarDecl) (names : List (List ℕ)) (is_before : Bool) → AreNamesOf names params → is_before ≡ is_given g.name before
+    → (not (is_seen g.name names) || is_before) ≡ is_wrong g before params
+told_wrong g before params names is_before named e =
+    ap (λ b. not b || is_before) (ap (is_seen g.name) named ∙ declared_seen g.name [] params) ∙ ap (λ b. not (is_declared g.name params) || b) e

@@ -13,5 +13,5 @@ abbrev pub given_of : LeafValue → Given
 given_of g =
     record { name = string_bytes g.name; value = value_view g.value; place = spot_of g.place }
 
-abbrev pub all_given_of : List LeafValue → List Given
-all_given_of gs = map given_of gs
+abbrev pub all_given : List LeafValue → List Given
+all_given gs = map given_of gs

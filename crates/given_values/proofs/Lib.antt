@@ -1,0 +1,2 @@
+mod Wrongly
+mod Places

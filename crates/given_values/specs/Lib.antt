@@ -1,0 +1,4 @@
+pub mod Causes
+pub mod Given
+pub mod Judging
+pub mod Placing
