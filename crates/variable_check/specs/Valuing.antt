@@ -20,8 +20,8 @@ use Rattle.cal_check.specs.Actors.{first_valueless, is_declared, is_given, said_
 use Rattle.cal_check.specs.Violations.{Violation, said, violation}
 use Rattle.cal_check.specs.Variables.{Come, Found, Given, Spot, VarDecl, Valued, found_in, is_none, param_broken, value_of}
 use Rattle.cal_check.specs.Routines.{FunDecl}
+use Rattle.seen_names.specs.Growing.{Growing, IsKept, kept_in}
 use Rattle.seen_names.specs.Known.{all_known}
-use Rattle.seen_names.specs.Needs.{Growing, IsKept, kept_in}
 use Rattle.seen_names.specs.declared.known.KnownName.{KnownName}
 use Rattle.variable_check.specs.Causes.{IsCause, IsSaid, SaysRule, inconstant}
 use Rattle.variable_check.specs.declared.starting.Started.{Started}
