@@ -1,4 +1,4 @@
-# The crates of `crates.txt` on which those named by `tops` stand, they too, lowest first.
+# The crates of `crates.txt` on which those named by `tops` stand, they too, in its order.
 /^#/ { next }
 { name = $1; sub(/:$/, "", name); row[name] = $0; order[++count] = name }
 function want(name,   words, k, n) {

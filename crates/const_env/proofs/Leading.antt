@@ -4,13 +4,9 @@ use Rattle.std.specs.Prelude.{Option, None, Some, slice_get, String, if◌then�
 use Rattle.std.specs.Map.{lookup}
 use Rattle.std.specs.Str.{bytes_eq}
 use Rattle.std.specs.declared.alloc.Global.{Global as Heap}
-use Rattle.std.proofs.lemmas.List.{map-append}
 use Rattle.std.proofs.lemmas.Slice.Eq.{bytes_eq-Decides}
 use Rattle.indexmap.specs.IndexMap.{insert_entry}
-use Rattle.cal_model.specs.Actor.{Fun}
-use Rattle.cal_model.specs.Call.{fun_named}
 use Rattle.cal_model.specs.Kinding.{Known, known_as}
-use Rattle.const_env.specs.Constants.{has_fun}
 use Rattle.const_env.specs.Counting.{declared_by, known_variable, variable_view}
 use Rattle.const_env.specs.Held.{last_first}
 use Rattle.const_env.specs.Standing.{Placed, place_named, placed_of, with_place, LeadsTo, LeadEach, seen_variable}
@@ -47,7 +43,7 @@ put_place k v name es e =
 
 -- ---- a place that is put, and the others
 
-put_same : (name : List ℕ) (place : ℕ) (ps : List Placed) → place_named name (with_place name place ps) ≡ Some place
+pub put_same : (name : List ℕ) (place : ℕ) (ps : List Placed) → place_named name (with_place name place ps) ≡ Some place
 put_same name place [] = ap (λ b. if b then Some place else None) ((bytes_eq-Decides name name).1 refl)
 put_same name place (p ∷ ps) = go (bytes_eq name p.0) refl (put_same name place ps)
   where
@@ -56,7 +52,7 @@ put_same name place (p ∷ ps) = go (bytes_eq name p.0) refl (put_same name plac
     go true e rest = ap (λ b. if b then Some place else place_named name ps) e
     go false e rest = ap (λ b. if b then Some p.1 else place_named name (with_place name place ps)) e ∙ rest
 
-put_other : (name new : List ℕ) (place : ℕ) (ps : List Placed) → bytes_eq name new ≡ false → place_named name (with_place new place ps) ≡ place_named name ps
+pub put_other : (name new : List ℕ) (place : ℕ) (ps : List Placed) → bytes_eq name new ≡ false → place_named name (with_place new place ps) ≡ place_named name ps
 put_other name new place [] f = ap (λ b. if b then Some place else None) f
 put_other name new place (p ∷ ps) f = go (bytes_eq new p.0) refl (put_other name new place ps f)
   where
@@ -67,7 +63,7 @@ put_other name new place (p ∷ ps) f = go (bytes_eq new p.0) refl (put_other na
         ap (λ b. if b then Some place else place_named name ps) other ∙ sym (ap (λ b. if b then Some p.1 else place_named name ps) other)
     go false e rest = ap (λ o. if bytes_eq name p.0 then Some p.1 else o) rest
 
-turned : (a b : List ℕ) → bytes_eq a b ≡ false → bytes_eq b a ≡ false
+pub turned : (a b : List ℕ) → bytes_eq a b ≡ false → bytes_eq b a ≡ false
 turned a b f = go (bytes_eq b a) refl
   where
     go : (t : Bool) → bytes_eq b a ≡ t → t ≡ false
@@ -124,37 +120,3 @@ entry_pushed view olds news x name places after leads e f g =
 
 pub variables_seen : (xs : List Variable) → map known_variable (declared_by xs []) ≡ last_first seen_variable xs []
 variables_seen xs = last_mapped known_variable variable_view xs []
-
--- ---- one function more, whose name is new
-
-fun_others : (name : List ℕ) (fs : List Fun) (f : Fun) → bytes_eq f.name name ≡ false → fun_named name (fs ++ f ∷ []) ≡ fun_named name fs
-fun_others name [] f e = ap (λ b. if b then Some f else None) e
-fun_others name (g ∷ fs) f e = ap (λ o. if bytes_eq g.name name then Some g else o) (fun_others name fs f e)
-
-fun_itself : (name : List ℕ) (fs : List Fun) (f : Fun) → bytes_eq f.name name ≡ true → fun_named name fs ≡ None → fun_named name (fs ++ f ∷ []) ≡ Some f
-fun_itself name [] f e h = ap (λ b. if b then Some f else None) e
-fun_itself name (g ∷ fs) f e h = go (bytes_eq g.name name) (fun_itself name fs f e) h
-  where
-    go : (b : Bool) → (fun_named name fs ≡ None → fun_named name (fs ++ f ∷ []) ≡ Some f) → (if b then Some g else fun_named name fs) ≡ None
-        → (if b then Some g else fun_named name (fs ++ f ∷ [])) ≡ Some f
-    go true rest h = cc
-    go false rest h = rest h
-
-none_has : (o : Option Fun) → elim o [ None ↦ false | Some f ↦ true ] ≡ false → o ≡ None
-none_has None e = refl
-none_has (Some f) e = cc
-
-fun_more : {X : Type 0} (view : X → Fun) (xs : List X) (x : X) (places : List Placed) → LeadEach view xs places (λ name. fun_named name (map view xs)) → has_fun (view x).name (map view xs) ≡ false
-    → LeadEach view (xs ++ x ∷ []) (with_place (view x).name (length xs) places) (λ name. fun_named name (map view (xs ++ x ∷ [])))
-fun_more view xs x places leads new =
-    lead_one_more view xs x (view x).name places (λ name. fun_named name (map view xs)) (λ name. fun_named name (map view (xs ++ x ∷ []))) leads
-    (λ name e. ap (fun_named name) (map-append view xs (x ∷ [])) ∙ fun_itself name (map view xs) (view x) e
-    (subst (λ n. fun_named n (map view xs) ≡ None) ((bytes_eq-Decides (view x).name name).0 e) (none_has (fun_named (view x).name (map view xs)) new)))
-    (λ name e. ap (fun_named name) (map-append view xs (x ∷ [])) ∙ fun_others name (map view xs) (view x) e)
-
-pub fun_pushed : {X : Type 0} (view : X → Fun) (olds news : List X) (x : X) (name : List ℕ) (places after : List Placed) → LeadEach view olds places (λ n. fun_named n (map view olds))
-    → has_fun (view x).name (map view olds) ≡ false → news ≡ olds ++ x ∷ [] → (view x).name ≡ name → after ≡ with_place name (length olds) places
-    → LeadEach view news after (λ n. fun_named n (map view news))
-fun_pushed view olds news x name places after leads new e f g =
-    subst (λ ps. LeadEach view news ps (λ n. fun_named n (map view news))) (sym (g ∙ ap (λ n. with_place n (length olds) places) (sym f)))
-    (subst (λ xs. LeadEach view xs (with_place (view x).name (length olds) places) (λ n. fun_named n (map view xs))) (sym e) (fun_more view olds x places leads new))

@@ -26,6 +26,11 @@ has_value name xs = elim (constant_named name xs) [ None ↦ false | Some v ↦ 
 abbrev pub has_fun : List ℕ → List Fun → Bool
 has_fun name fs = elim (fun_named name fs) [ None ↦ false | Some f ↦ true ]
 
+-- a function in the place of the one of its name, or behind the others
+abbrev pub with_set : Fun → List Fun → List Fun
+with_set f [] = f ∷ []
+with_set f (g ∷ gs) = if bytes_eq f.name g.name then f ∷ gs else g ∷ with_set f gs
+
 -- The kind of a value. An empty list is taken as one of numbers.
 abbrev pub kind_of_value : Value → Kind
 kind_of_value (Num z) = NumKind

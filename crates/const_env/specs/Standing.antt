@@ -1,8 +1,9 @@
 -- Where names stand in a list.
 -- Not trusted: no promise is read with it.
-use Rattle.std.specs.Prelude.{◌≡◌, ℕ, List, [], ◌∷◌, Option, None, Some, slice_get, String, string_bytes, if◌then◌else◌}
+use Rattle.std.specs.Prelude.{◌≡◌, ℕ, suc, List, [], ◌∷◌, Option, None, Some, option_map, slice_get, String, string_bytes, if◌then◌else◌}
 use Rattle.std.specs.Str.{bytes_eq}
 use Rattle.std.specs.declared.alloc.Global.{Global as Heap}
+use Rattle.cal_model.specs.Actor.{Fun}
 use Rattle.cal_model.specs.Kinding.{Known}
 use Rattle.cal_model.specs.View.{kind_view}
 use Rattle.const_env.specs.declared.inside.Variable.{Variable}
@@ -34,6 +35,16 @@ module _ {X Y : Type 0} (view : X → Y) (xs : List X) where
   -- each name's place leads to what is known of it
   abbrev pub LeadEach : List Placed → (known : List ℕ → Option Y) → Type 0
   LeadEach places known = (name : List ℕ) → LeadsTo (place_named name places) (known name)
+
+-- where the first function of a name stands
+abbrev pub fun_place : (name : List ℕ) → List Fun → Option ℕ
+fun_place name [] = None
+fun_place name (f ∷ fs) =
+    if bytes_eq f.name name then Some 0 else option_map suc (fun_place name fs)
+
+-- the places are those of functions, by their names
+abbrev pub StandFirst : List Fun → List Placed → Type 0
+StandFirst fs places = (name : List ℕ) → place_named name places ≡ fun_place name fs
 
 -- a variable by its name, with what is known of it
 abbrev pub seen_variable : Variable → Known

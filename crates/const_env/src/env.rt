@@ -31,7 +31,6 @@ pub struct Env {
 impl Model for Env {
     ghost use Rattle.std.specs.Prelude.{◌≡◌, [], map, true};
     ghost use Rattle.std.specs.Coded.{codes};
-    ghost use Rattle.cal_model.specs.Call.{fun_named};
     ghost use Rattle.cal_model.specs.Kinding.{known_as};
     ghost use Rattle.cal_model.specs.View.{fun_view};
     ghost use Rattle.cal_model.specs.contracts.bound.BoundFun as fun;
@@ -39,7 +38,7 @@ impl Model for Env {
     ghost use Rattle.cal_model.specs.contracts.value.Value as value;
     ghost use Rattle.const_env.specs.Held.{Kept, entry_view, last_first};
     ghost use Rattle.const_env.specs.Sizes.{are_sized_funs};
-    ghost use Rattle.const_env.specs.Standing.{LeadEach};
+    ghost use Rattle.const_env.specs.Standing.{LeadEach, StandFirst};
 
     ghost Value = { Kept };
 
@@ -50,18 +49,18 @@ impl Model for Env {
     ghost invariant = { λ env. (are_sized_funs (map fun_view env.funs.items) ≡ true)
         × LeadEach entry_view env.entries.items env.entry_places
         (λ name. known_as name (last_first entry_view env.entries.items []))
-        × LeadEach fun_view env.funs.items env.fun_places
-        (λ name. fun_named name (map fun_view env.funs.items)) };
+        × StandFirst (map fun_view env.funs.items) env.fun_places };
 }
 
 impl Env {
-    ghost use Rattle.std.specs.Prelude.{◌++◌, ◌∷◌, [], false, OnOk, OnErr, IfSome, length, option_map, string_bytes};
+    ghost use Rattle.std.specs.Prelude.{◌++◌, ◌∷◌, [], Some, false, OnOk, OnErr, IfSome, length, option_map, string_bytes};
     ghost use Rattle.cal_model.specs.Call.{fun_named};
     ghost use Rattle.cal_model.specs.Kinding.{known_as};
     ghost use Rattle.cal_model.specs.View.{fun_view, kind_view};
-    ghost use Rattle.const_env.specs.Constants.{constant_named, has_fun, has_value, known_of};
+    ghost use Rattle.const_env.specs.Constants.{constant_named, has_fun, has_value, known_of, with_set};
     ghost use Rattle.const_env.specs.Counting.{meant_view, use_of};
     ghost use Rattle.const_env.specs.Held.{entry_view, globals_of, held, names_in};
+    ghost use Rattle.const_env.specs.Standing.{fun_place};
 
     /// No names and no functions.
     pub fn new(alloc: Global) -> Env
@@ -161,13 +160,35 @@ impl Env {
         Ok(())
     }
 
-    /// Removes all functions; the names stay.
-    pub fn clear_funs(&mut self)
-        ensures cleared { (held self.new).funs ≡ [] }
+    /// Puts a function in the place of the one of its name, or adds it. The sizes of its types are ones that types may have.
+    ///
+    /// # Errors
+    ///
+    /// `Memory` if memory runs out; the environment is as before then (`memory`).
+    pub fn set_fun(&mut self, fun: BoundFun) -> Result<(), Memory>
+        requires sized { is_sized_fun (fun_view fun) ≡ true }
+        ensures set { OnOk result ((held self.new).funs
+            ≡ with_set (fun_view fun) (held self.old).funs) }
+        ensures same_names { globals_of self.new ≡ globals_of self.old }
+        ensures memory { OnErr result (names_in self.new ≡ names_in self.old) }
+    {
+        match self.fun_places.get(fun.name.as_str()) {
+            Some(place) => {
+                self.put_fun(place, fun);
+                Ok(())
+            }
+            None => self.add_fun(fun),
+        }
+    }
+
+    /// Puts a function in the place of the one of its name, which stands there.
+    fn put_fun(&mut self, place: usize, fun: BoundFun)
+        requires sized { is_sized_fun (fun_view fun) ≡ true }
+        requires there { fun_place (string_bytes fun.name) (held self.old).funs ≡ Some place }
+        ensures set { (held self.new).funs ≡ with_set (fun_view fun) (held self.old).funs }
         ensures same_names { globals_of self.new ≡ globals_of self.old }
     {
-        self.funs.clear();
-        self.fun_places.clear();
+        self.funs[place] = fun;
     }
 
     /// How many functions there are.

@@ -59,11 +59,4 @@ impl Places {
         self.places.insert(name, items.len())?;
         Ok(())
     }
-
-    /// No names any more.
-    pub fn clear(&mut self)
-        ensures { self.new ≡ [] }
-    {
-        self.places.clear();
-    }
 }

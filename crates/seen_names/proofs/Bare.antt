@@ -248,6 +248,49 @@ module _ (P : List ℕ → Type 0) where
 pub need_all : (P : List ℕ → Type 0) (fs : List FunDecl) → ((x : List ℕ) → is_seen x (needs_of fs).names ≡ true → P x) → (needs_of fs).calls ≡ false → AllSay P ⊥ fs
 need_all P fs h i = all_say P fs nothing (record { names = h; calls = i })
 
+-- ---- one function of several
+
+kept_uncalled : (constant : Bool) (text : List ℕ) (n : Needed) → n.calls ≡ false → (with_name constant text n).calls ≡ false
+kept_uncalled true text n h = h
+kept_uncalled false text n h = h
+
+still_uncalled : (constant : Bool) (n : Needed) → If constant ⊥ → n.calls ≡ false → (with_call constant n).calls ≡ false
+still_uncalled true n c h = absurd c
+still_uncalled false n c h = h
+
+-- what calls nothing needs no call
+none_needed : (P : List ℕ → Type 0) (constant : Bool) (t : Tree) (n : Needed) → SaysOnly P ⊥ constant t → n.calls ≡ false → (with_needs constant t n).calls ≡ false
+none_needed P constant (tree.variable text at) n s h = kept_uncalled constant text n h
+none_needed P constant (tree.call text args at) n s h = none_needed P constant args (with_call constant n) s.1 (still_uncalled constant n s.0 h)
+none_needed P constant (tree.cons t ts) n s h = none_needed P constant ts (with_needs constant t n) s.1 (none_needed P constant t n s.0 h)
+none_needed P constant (tree.present t) n s h = none_needed P constant t n s h
+none_needed P constant (tree.paren e at) n s h = none_needed P constant e n s h
+none_needed P constant (tree.if_expr test first other at) n s h =
+    let m = with_needs constant test n in
+    none_needed P constant other (with_needs constant first m) s.2 (none_needed P constant first m s.1 (none_needed P constant test n s.0 h))
+none_needed P constant (tree.list items at) n s h = none_needed P constant items n s h
+none_needed P constant (tree.comp item gens at) n s h = none_needed P true gens (with_needs constant item n) s.1 (none_needed P constant item n s.0 h)
+none_needed P constant (tree.gen shape x from to at) n s h =
+    let m = with_needs true shape n in
+    none_needed P true to (with_needs true from m) s.2 (none_needed P true from m s.1 (none_needed P true shape n s.0 h))
+none_needed P constant (tree.index base place at) n s h = none_needed P constant place (with_needs constant base n) s.1 (none_needed P constant base n s.0 h)
+none_needed P constant (tree.prefix op e at) n s h = none_needed P constant e n s h
+none_needed P constant (tree.binary op l r at) n s h = none_needed P constant r (with_needs constant l n) s.1 (none_needed P constant l n s.0 h)
+none_needed P constant (tree.type_of x args at) n s h = none_needed P true args n s h
+none_needed P constant (tree.shape_arg x shape) n s h = none_needed P true shape n s h
+none_needed P constant (tree.value_arg x value) n s h = none_needed P true value n s h
+none_needed P constant (tree.port shape x at) n s h = none_needed P true shape n s h
+none_needed P constant (tree.var shape x start changes at) n s h = none_needed P false start (with_needs true shape n) s.1 (none_needed P true shape n s.0 h)
+none_needed P constant (tree.function x formals result vars body at) n s h =
+    let m = with_needs false formals n in
+    let o = with_needs true result m in
+    none_needed P false body (with_needs false vars o) s.3 (none_needed P false vars o s.2 (none_needed P true result m s.1 (none_needed P false formals n s.0 h)))
+none_needed P constant other n s h = h
+
+-- a function that calls nothing there says only what it needs itself
+pub one_says : (P Q : List ℕ → Type 0) (f : FunDecl) → SaysOnly Q ⊥ false f.decl → ((x : List ℕ) → is_seen x (needs_of (f ∷ [])).names ≡ true → P x) → SaysOnly P ⊥ false f.decl
+one_says P Q f s h = (need_all P (f ∷ []) h (none_needed Q false f.decl nothing s refl)).0
+
 -- ---- parts that use only such names, and may call
 
 if_so : {A : Type 0} (b : Bool) → A → If b A
@@ -275,3 +318,26 @@ uses_says P constant (tree.var shape x start changes at) u = (uses_says P true s
 uses_says P constant (tree.function x formals result vars body at) u =
     (uses_says P false formals u.0, uses_says P true result u.1, uses_says P false vars u.2, uses_says P false body u.3)
 uses_says P constant other u = tt
+
+-- ---- parts that say anything
+
+pub any_says : (constant : Bool) (t : Tree) → SaysOnly Any (Unit {0}) constant t
+any_says constant (tree.variable text at) = if_so constant tt
+any_says constant (tree.call text args at) = (if_so constant tt, any_says constant args)
+any_says constant (tree.cons t ts) = (any_says constant t, any_says constant ts)
+any_says constant (tree.present t) = any_says constant t
+any_says constant (tree.paren e at) = any_says constant e
+any_says constant (tree.if_expr test first other at) = (any_says constant test, any_says constant first, any_says constant other)
+any_says constant (tree.list items at) = any_says constant items
+any_says constant (tree.comp item gens at) = (any_says constant item, any_says true gens)
+any_says constant (tree.gen shape x from to at) = (any_says true shape, any_says true from, any_says true to)
+any_says constant (tree.index base place at) = (any_says constant base, any_says constant place)
+any_says constant (tree.prefix op e at) = any_says constant e
+any_says constant (tree.binary op l r at) = (any_says constant l, any_says constant r)
+any_says constant (tree.type_of x args at) = any_says true args
+any_says constant (tree.shape_arg x shape) = any_says true shape
+any_says constant (tree.value_arg x value) = any_says true value
+any_says constant (tree.port shape x at) = any_says true shape
+any_says constant (tree.var shape x start changes at) = (any_says true shape, any_says false start)
+any_says constant (tree.function x formals result vars body at) = (any_says false formals, any_says true result, any_says false vars, any_says false body)
+any_says constant other = tt

@@ -4,8 +4,14 @@ mod Bare
 mod SameValues
 mod SameKinds
 mod Callless
+mod OrderOfFuns
 mod SameFuns
 mod SameAnswers
 mod OneRound
 mod OneMore
 mod Settled
+mod Telling
+mod Counted
+mod Renewed
+mod Making
+mod Keys

@@ -19,7 +19,7 @@ use Rattle.seen_names.proofs.SameFuns.{after-same, mean_names, over-same}
 -- ---- rounds
 
 -- one round finds what all do
-after_one : (fs : List FunDecl) (k : ℕ) (names : Names) → (needs_of fs).calls ≡ false → funs_after 1 fs names ≡ funs_after (suc k) fs names
+pub after_one : (fs : List FunDecl) (k : ℕ) (names : Names) → (needs_of fs).calls ≡ false → funs_after 1 fs names ≡ funs_after (suc k) fs names
 after_one fs k names h =
     over-same Any ⊥ fs (record names { funs = [] }) (record names { funs = funs_after k fs names })
     (mean_names Any (record names { funs = [] }) (record names { funs = funs_after k fs names }) (λ name p. refl)) (need_all Any fs (λ x i. tt) h)
@@ -34,19 +34,12 @@ all_rounds funs = λ names. ap (λ n. funs_after n (fun_decls funs) names) (sym 
 -- ---- one name more
 
 -- a name that is among others isn't one that isn't
-another : (x name : List ℕ) (names : List (List ℕ)) → is_seen x names ≡ false → is_seen name names ≡ true → bytes_eq x name ≡ false
+pub another : (x name : List ℕ) (names : List (List ℕ)) → is_seen x names ≡ false → is_seen name names ≡ true → bytes_eq x name ≡ false
 another x name names h i = go (bytes_eq x name) refl
   where
     go : (b : Bool) → bytes_eq x name ≡ b → b ≡ false
     go true e = absurd (let same = ap (λ y. is_seen y names) (same-text x name e) in cc)
     go false e = refl
-
-pub one_more : (fs : List FunDecl) (x : Known) (known : List Known) → (needs_of fs).calls ≡ false → is_seen x.name (needs_of fs).names ≡ false
-    → (seen fs known).funs ≡ (seen fs (x ∷ known)).funs
-one_more fs x known h i =
-    after-same (λ name. is_seen name (needs_of fs).names ≡ true) (length fs) fs (names_alone known) (names_alone (x ∷ known))
-    (λ name j. ap (λ b. if b then Some x else known_as name known) (sym (another x.name name (needs_of fs).names i j)))
-    (need_all (λ name. is_seen name (needs_of fs).names ≡ true) fs (λ name j. j) h)
 
 used_another : (x name : List ℕ) (fs : List FunDecl) → any_uses x fs ≡ false → any_uses name fs ≡ true → bytes_eq x name ≡ false
 used_another x name fs h i = go (bytes_eq x name) refl

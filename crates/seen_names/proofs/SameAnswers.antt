@@ -140,7 +140,7 @@ module _ (P : List ℕ → Type 0) where
       over-same P (Unit {0}) fs (record (names_alone ks) { funs = funs_after k fs (names_alone ks) }) (record (names_alone ls) { funs = funs_after k fs (names_alone ls) })
       (record {
         names = s;
-        funs = λ c. same;
+        funs = λ c name. ap (fun_named name) same;
         given = λ c name args left.
             ap (λ gs. calls_of gs (constants ks) name args left) same
             ∙ within-same (length there) there (constants ks) (constants ls) (λ n p. found-same n ks ls (s n p)) (after-uses k fs (names_alone ls) u) name args left;

@@ -147,7 +147,7 @@ module _ (P : List ℕ → Type 0) (C : Type 0) where
   if-same (Fine x) (Broken q o) name head vs body n m e h = cc
   if-same (Broken r p) (Fine y) name head vs body n m e h = cc
 
-  judged-same : (full : List ℕ) (decl : Tree) (n m : Names) → MeanSame P C n m → SaysOnly P C false decl → fun_judged full decl n ≡ fun_judged full decl m
+  pub judged-same : (full : List ℕ) (decl : Tree) (n m : Names) → MeanSame P C n m → SaysOnly P C false decl → fun_judged full decl n ≡ fun_judged full decl m
   judged-same full (tree.function name formals result vars body at) n m s r =
       and-same (head_judged (tree.function name formals result vars body at) n) (head_judged (tree.function name formals result vars body at) m) _ _
       (and-same (formals_judged formals n) (formals_judged formals m) _ _ (formals-same formals n m s r.0) (λ fs. result-same result fs n m s r.1))

@@ -1,8 +1,8 @@
 -- What functions need where they stand: the names that are said in what must be constant in them, the sizes of types and
 -- the bounds of generators, and whether a function is called there.
--- Trusted but for `AddsTo`, `AddsNeeds`, `AreEnough`, `may_change`, `with_global`, `grown`, `with_alone`, `with_grown`,
--- `with_both`, `with_three`, `with_comp` and the lists of parts as trees: part of what a promise means.
-use Rattle.std.specs.Prelude.{◌≡◌, ℕ, Bool, true, false, ◌||◌, List, [], ◌∷◌, OnOk, length, map, option_map, if◌then◌else◌, Option, None, Some}
+-- Trusted but for `AddsTo`, `AddsNeeds`, `AreEnough`, `with_both`, `with_three`, `with_comp` and the lists of parts as
+-- trees: part of what a promise means.
+use Rattle.std.specs.Prelude.{◌≡◌, ℕ, Bool, true, false, ◌||◌, List, [], ◌∷◌, OnOk, length, map, if◌then◌else◌}
 use Rattle.std.specs.declared.result.Result.{Result}
 use Rattle.rvc_base.specs.declared.memory.Memory.{Memory}
 use Rattle.cal_ast.specs.Tree as tree
@@ -13,13 +13,10 @@ use Rattle.cal_ast.specs.declared.expr.Gen.{Gen}
 use Rattle.cal_ast.specs.declared.expr.TypeArg.{TypeArg}
 use Rattle.cal_ast.specs.declared.member.PortDecl.{PortDecl}
 use Rattle.cal_ast.specs.declared.member.VarDecl.{VarDecl}
-use Rattle.cal_model.specs.Kinding.{Known, Names}
-use Rattle.cal_model.specs.Tags.{is_seen, with_seen}
+use Rattle.cal_model.specs.Kinding.{Names}
+use Rattle.cal_model.specs.Tags.{with_seen}
 use Rattle.cal_check.specs.Actors.{uses}
 use Rattle.cal_check.specs.Routines.{FunDecl, funs_after}
-use Rattle.cal_check.specs.Variables.{seen}
-use Rattle.const_env.specs.Held.{Kept as Environment, names_in}
-use Rattle.seen_names.specs.Known.{names_alone}
 
 -- names in order of first appearance, and whether something is called
 pub record Needed : Type 0 where
@@ -122,60 +119,3 @@ vars_tree vars = listed (map var_tree vars)
 -- so many rounds find all functions
 abbrev pub AreEnough : ℕ → List FunDecl → Type 0
 AreEnough n fs = (names : Names) → funs_after n fs names ≡ funs_after (length fs) fs names
-
--- ---- names that become known
-
--- what is kept of names: without functions, what the functions need and use, and the names with the functions, if they were
--- made
-pub record Kept : Type 0 where
-  pub alone : Names
-  pub needs : Needed
-  pub used : List (List ℕ)
-  pub seen : Option Names
-
-abbrev pub AreThose : Option Names → Names → Type 0
-AreThose None names = Unit {0}
-AreThose (Some found) names = found ≡ names
-
--- .. as it lies in memory
-pub record Growing : Type 0 where
-  pub alone : Environment
-  pub needs : Needed
-  pub used : List (List ℕ)
-  pub seen : Option Environment
-
-abbrev pub kept_in : Growing → Kept
-kept_in names = record {
-  alone = names_in names.alone;
-  needs = names.needs;
-  used = names.used;
-  seen = option_map names_in names.seen;
-}
-
--- it is kept of these functions over names that are known
-pub record IsKept (kept : Kept) (fs : List FunDecl) (known : List Known) : Type 0 where
-  pub alone : kept.alone ≡ names_alone known
-  pub needs : kept.needs ≡ needs_of fs
-  pub used : (x : List ℕ) → is_seen x kept.used ≡ any_uses x fs
-  pub seen : AreThose kept.seen (seen fs known)
-
--- A function may be another once a name is known: what it calls where something must be constant may use the name.
-abbrev pub may_change : Needed → (used : List (List ℕ)) → List ℕ → Bool
-may_change needs used name =
-    if needs.calls then is_seen name used else is_seen name needs.names
-
-abbrev pub with_global : Known → Names → Names
-with_global x names = record names { globals = x ∷ names.globals }
-
--- the names with the functions, once one name more is known
-abbrev pub grown : Known → Needed → (used : List (List ℕ)) → Option Names → Option Names
-grown x needs used names =
-    if may_change needs used x.name then None else option_map (with_global x) names
-
--- one name more is known alone, and with the functions
-
-abbrev pub with_alone : Known → Kept → Kept
-with_alone x kept = record kept { alone = with_global x kept.alone }
-
-abbrev pub with_grown : Known → Kept → Kept
-with_grown x kept = record kept { seen = grown x kept.needs kept.used kept.seen }

@@ -3,6 +3,7 @@
 ghost use Rattle.std.specs.Prelude.{◌≡◌, ◌||◌, map};
 ghost use Rattle.cal_ast.specs.Tree.{listed};
 ghost use Rattle.cal_ast.specs.View.{expr_tree, gen_tree, type_arg_tree, type_tree};
+ghost use Rattle.seen_names.specs.Alike.{AlikeStarts, AlikeTypes};
 ghost use Rattle.seen_names.specs.Calls.{StartsAreSame, TypesAreSame, calls_any};
 
 use cal_ast::{Expr, ExprForm, Gen, TypeArg, TypeExpr};
@@ -11,6 +12,12 @@ use cal_ast::{Expr, ExprForm, Gen, TypeArg, TypeExpr};
 pub fn calls_alone_need_functions()
     ensures types { TypesAreSame }
     ensures starts { StartsAreSame }
+{}
+
+/// A type and a start are over names that are alike what they are over the others: an order of functions changes nothing.
+pub fn alike_names_suffice()
+    ensures types { AlikeTypes }
+    ensures starts { AlikeStarts }
 {}
 
 /// Whether an expression calls a function.

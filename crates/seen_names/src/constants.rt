@@ -190,7 +190,7 @@ fn add_formals(needs: &mut Needs, formals: &[PortDecl]) -> Result<(), Memory>
 }
 
 /// Adds what a function needs.
-fn add_fun(needs: &mut Needs, f: &Function) -> Result<(), Memory>
+pub(crate) fn add_fun(needs: &mut Needs, f: &Function) -> Result<(), Memory>
     ensures { AddsNeeds result false (function_tree f.now) needs.old needs.new }
 {
     add_formals(needs, &f.formals)?;

@@ -2,17 +2,23 @@
 
 ghost use Rattle.std.specs.Prelude.{◌≡◌, ◌∷◌, IfOk, IsSome, List, OnOk, Some, true};
 ghost use Rattle.cal_check.specs.Routines.{FunDecl};
+ghost use Rattle.cal_check.specs.Variables.{seen};
 ghost use Rattle.cal_model.specs.Kinding.{Known};
+ghost use Rattle.seen_names.specs.Growing.{AreRenewed, Grows, IsKept, IsMade, IsSame, kept_in, with_alone, with_left, with_used};
 ghost use Rattle.seen_names.specs.Known.{all_known, fun_decls, known_view, names_differ};
-ghost use Rattle.seen_names.specs.Needs.{IsKept, kept_in, may_change, with_alone, with_grown};
+ghost use Rattle.seen_names.specs.Left.{Leaves};
+ghost use Rattle.seen_names.specs.Said.{places_in};
 
 use crate::constants::needs_of;
 use crate::declared::DeclaredFun;
 use crate::known::{KnownName, add_name, names_alone};
 use crate::needs::Needs;
+use crate::renewing::{leave, renew_each};
+use crate::said::{Said, said_in};
 use crate::seen::seen_over;
 use crate::using::names_used;
-use const_eval::Env;
+use const_eval::{Env, Names};
+use indexmap::IndexSet;
 use rvc_base::Memory;
 use std::alloc::Global;
 use std::marker::Model;
@@ -20,17 +26,22 @@ use used_names::NameSet;
 
 /// Names that become known one after the other: alone, and with all functions that are seen over them.
 ///
-/// The names with the functions are made when they are asked for, and stay. A name that becomes known is added to them,
-/// unless the sizes or the bounds in a function say it, or, if these call functions, any function uses it: then the
-/// functions may be others, and all of it is made anew when it is asked for next.
+/// The names with the functions are made when they are asked for, and stay. A name that becomes known is added to them. If
+/// no size and no bound in the functions calls one, each function depends on the names alone that it says there: so those
+/// that say the name are judged anew when the names with the functions are asked for next. If a size or a bound calls a
+/// function, each may be another once a name is known that any of them uses, and all is made anew then; so it is if a
+/// function that was found breaks a rule in its head now.
 #[derive(Drop)]
 pub struct GrowingNames {
     alloc: Global,
     alone: Env,
     needs: Needs,
+    said: Said,
     /// The names that the functions use anywhere.
     used: NameSet,
     seen: Option<Env>,
+    /// The places of the functions that are to be judged anew before those names are asked for.
+    left: IndexSet<usize>,
 }
 
 impl Model for GrowingNames {
@@ -38,7 +49,7 @@ impl Model for GrowingNames {
     ghost use Rattle.cal_model.specs.contracts.bound.BoundFun as fun;
     ghost use Rattle.cal_model.specs.contracts.kind.Kind as kind;
     ghost use Rattle.cal_model.specs.contracts.value.Value as value;
-    ghost use Rattle.seen_names.specs.Needs.{Growing};
+    ghost use Rattle.seen_names.specs.Growing.{Growing};
 
     ghost Value = { Growing };
 
@@ -47,8 +58,10 @@ impl Model for GrowingNames {
     ghost view = { λ names. record {
       alone = names.alone;
       needs = names.needs;
+      said = names.said;
       used = names.used;
       seen = names.seen;
+      left = names.left.keys;
     } };
 }
 
@@ -67,13 +80,16 @@ impl GrowingNames {
     {
         let alone = names_alone(alloc, known)?;
         let needs = needs_of(alloc, funs)?;
+        let said = said_in(alloc, funs)?;
         let used = names_used(alloc, funs)?;
         Ok(GrowingNames {
             alloc,
             alone,
             needs,
+            said,
             used,
             seen: None,
+            left: IndexSet::new(alloc),
         })
     }
 
@@ -92,8 +108,8 @@ impl GrowingNames {
         self.seen.as_ref().unwrap()
     }
 
-    /// Makes the names with all functions, unless they were made. These are the names that are known, and the names of the
-    /// functions differ.
+    /// Makes the names with all functions, unless they are those that are seen. These are the names that are known, and the
+    /// names of the functions differ.
     ///
     /// [`names_differ`](crate::names_differ) tests the condition on functions.
     ///
@@ -105,13 +121,30 @@ impl GrowingNames {
         requires kept { IsKept (kept_in self.old) (fun_decls funs.now) (all_known known.now) }
         ensures kept { OnOk result (IsKept (kept_in self.new) (fun_decls funs.now) (all_known known.now)) }
         ensures made { OnOk result (IsSome self.new.seen) }
+        ensures alike { OnOk result (IsMade self.new.seen
+            (seen (fun_decls funs.now) (all_known known.now))) }
     {
-        if self.seen.is_some() {
+        if self.renew(funs)? {
+            self.left.clear();
             return Ok(());
         }
         let env = seen_over(self.alloc, known, funs, self.needs.calls())?;
+        self.left.clear();
         self.seen = Some(env);
         Ok(())
+    }
+
+    /// Judges those functions anew that are left, if the others are kept. Tells whether that can be done.
+    fn renew(&mut self, funs: &[DeclaredFun]) -> Result<bool, Memory>
+        ensures same { OnOk result (IsSame (kept_in self.old) (kept_in self.new)) }
+        ensures renewed { IfOk result (λ fits. fits ≡ true
+            → AreRenewed (fun_decls funs.now) (kept_in self.old) (kept_in self.new)) }
+    {
+        let names = Names::outermost(self.alloc, &self.alone);
+        match &mut self.seen {
+            Some(env) => renew_each(env, &names, self.left.as_slice(), funs),
+            None => Ok(false),
+        }
     }
 
     /// A name becomes known.
@@ -135,12 +168,22 @@ impl GrowingNames {
         add_name(&mut self.alone, self.alloc, x)
     }
 
-    /// Adds a name to those with functions, if these stay as they are; else they aren't kept.
+    /// Adds a name to those with functions, if they are kept.
     fn add_seen(&mut self, x: &KnownName) -> Result<(), Memory>
-        ensures { OnOk result (kept_in self.new
-            ≡ with_grown (known_view x.now) (kept_in self.old)) }
+        ensures { OnOk result (Grows (known_view x.now) (kept_in self.old) (kept_in self.new)) }
     {
-        if self.may_change(x) {
+        if self.needs.calls() {
+            return self.add_used(x);
+        }
+        self.add_said(x)
+    }
+
+    /// Adds a name to those with functions, if no function uses it; else they aren't kept.
+    fn add_used(&mut self, x: &KnownName) -> Result<(), Memory>
+        ensures { OnOk result (kept_in self.new
+            ≡ with_used (known_view x.now) (kept_in self.old)) }
+    {
+        if self.used.contains(x.name.as_str()) {
             self.seen = None;
             return Ok(());
         }
@@ -150,14 +193,17 @@ impl GrowingNames {
         }
     }
 
-    /// Whether a function may be another once a name is known.
-    fn may_change(&self, x: &KnownName) -> bool
-        ensures { result ≡ may_change self.now.needs self.now.used (known_view x.now).name }
+    /// Adds a name to those with functions. Those that say it are left to be judged anew.
+    fn add_said(&mut self, x: &KnownName) -> Result<(), Memory>
+        ensures added { OnOk result (kept_in self.new
+            ≡ with_left (known_view x.now) self.new.left (kept_in self.old)) }
+        ensures leaves { OnOk result (Leaves (places_in (known_view x.now).name self.old.said)
+            self.old.left self.new.left) }
     {
-        let name = x.name.as_str();
-        if self.needs.calls() {
-            return self.used.contains(name);
+        leave(&mut self.left, self.said.places(x.name.as_str()))?;
+        match &mut self.seen {
+            Some(env) => add_name(env, self.alloc, x),
+            None => Ok(()),
         }
-        self.needs.has(name)
     }
 }

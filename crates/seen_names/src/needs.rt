@@ -1,28 +1,31 @@
 //! What functions need where they stand.
 
 ghost use Rattle.std.specs.Prelude.{◌≡◌, OnOk};
-ghost use Rattle.cal_model.specs.Tags.{is_seen};
 ghost use Rattle.seen_names.specs.Needs.{nothing, with_call, with_name};
+ghost use Rattle.seen_names.specs.Said.{Says};
 
+use crate::said::Said;
+use indexmap::IndexSet;
 use rvc_base::Memory;
 use std::alloc::Global;
 use std::marker::Model;
-use used_names::NameSet;
 
 /// The names that are said in what must be constant in functions, and whether a function is called there. What must be
 /// constant are the sizes of types and the bounds of generators.
 #[derive(Drop)]
 pub(crate) struct Needs {
-    names: NameSet,
+    alloc: Global,
+    names: IndexSet<String>,
     calls: bool,
 }
 
 impl Model for Needs {
+    ghost use Rattle.std.specs.Prelude.{map, string_bytes};
     ghost use Rattle.seen_names.specs.Needs.{Needed};
 
     ghost Value = { Needed };
 
-    ghost view = { λ needs. record { names = needs.names; calls = needs.calls } };
+    ghost view = { λ needs. record { names = map string_bytes needs.names.keys; calls = needs.calls } };
 }
 
 impl Needs {
@@ -31,16 +34,10 @@ impl Needs {
         ensures { result ≡ nothing }
     {
         Needs {
-            names: NameSet::new(alloc),
+            alloc,
+            names: IndexSet::new(alloc),
             calls: false,
         }
-    }
-
-    /// Whether a name is needed.
-    pub fn has(&self, name: &str) -> bool
-        ensures { result ≡ is_seen name.now self.now.names }
-    {
-        self.names.contains(name)
     }
 
     /// Whether a function is called.
@@ -55,7 +52,8 @@ impl Needs {
         ensures { OnOk result (self.new ≡ with_name constant name.now self.old) }
     {
         if constant {
-            self.names.add(name)?;
+            let name = String::from_str(self.alloc, name)?;
+            let (_number, _is_new) = self.names.insert_full(name)?;
         }
         Ok(())
     }
@@ -67,5 +65,16 @@ impl Needs {
         if constant {
             self.calls = true;
         }
+    }
+    /// Says each name of a function that stands at a place.
+    pub fn say(&self, said: &mut Said, place: usize) -> Result<(), Memory>
+        ensures { OnOk result (Says self.now.names place said.old said.new) }
+    {
+        let mut rest = self.names.as_slice();
+        'names: while let Some((first, others)) = rest.split_first() {
+            said.add(first.as_str(), place)?;
+            rest = others;
+        }
+        Ok(())
     }
 }

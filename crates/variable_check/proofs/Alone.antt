@@ -1,6 +1,6 @@
 -- Variables that call no function are judged over the names alone, and others over the names with the functions.
 use Rattle.std.proofs.Common.{◌≡◌, Bool, true, false, List, [], ◌∷◌, ◌++◌, refl, sym, ap, subst, ◌∙◌}
-use Rattle.std.specs.Prelude.{◌||◌, Some, option_map, if◌then◌else◌}
+use Rattle.std.specs.Prelude.{◌||◌, Option, Some, if◌then◌else◌}
 use Rattle.std.specs.declared.result.Result.{Result}
 use Rattle.rvc_base.specs.declared.refusal.Front.{Front}
 use Rattle.cal_model.specs.Value.{Shape}
@@ -9,9 +9,10 @@ use Rattle.const_env.specs.Held.{Kept as Environment, names_in}
 use Rattle.cal_check.specs.Constants.{early_type}
 use Rattle.cal_check.specs.Routines.{FunDecl}
 use Rattle.cal_check.specs.Variables.{Given, Spot, VarDecl, Valued, come, seen, with_come, with_type, with_var}
+use Rattle.seen_names.specs.Alike.{AlikeStarts, AlikeTypes, SeeAlike}
 use Rattle.seen_names.specs.Calls.{StartsAreSame, TypesAreSame, calls_any}
+use Rattle.seen_names.specs.Growing.{Growing, IsKept, IsMade, kept_in}
 use Rattle.seen_names.specs.Known.{all_known, known_view, names_alone}
-use Rattle.seen_names.specs.Needs.{AreThose, Growing, IsKept, kept_in}
 use Rattle.seen_names.specs.declared.known.KnownName.{KnownName}
 use Rattle.variable_check.specs.Valuing.{AreSeen, Declares, Values}
 use Rattle.variable_check.specs.declared.valued.Valued.{Valued as Kept}
@@ -47,18 +48,24 @@ declares_alone types starts r old new x gs owner fs names w e none d xs vs h =
 
 -- ---- over the names with the functions
 
-pub seen_is : (names : Growing) (env : Environment) (fs : List FunDecl) (known : List Known) → Some env ≡ names.seen → IsKept (kept_in names) fs known → names_in env ≡ seen fs known
-seen_is names env fs known e kept = subst (λ o. AreThose (option_map names_in o) (seen fs known)) (sym e) kept.seen
+pub seen_alike : (o : Option Environment) (env : Environment) (names : Names) → Some env ≡ o → IsMade o names → SeeAlike (names_in env) names
+seen_alike o env names e h = subst (λ p. IsMade p names) (sym e) h
 
 -- it is kept of the same names
 pub kept_same : (names : Growing) (fs : List FunDecl) (old new : Kept) → new.known.items ≡ old.known.items → AreSeen names fs old → AreSeen names fs new
 kept_same names fs old new e kept = subst (λ ks. IsKept (kept_in names) fs (all_known ks)) (sym e) kept
 
-pub declares_seen : (r : Result (Unit {0}) Front) (old new : Kept) (x : VarDecl) (gs : List Given) (owner : Spot) (fs : List FunDecl) (names : Names) → old.whole ≡ true
-    → names ≡ seen fs (all_known old.known.items) → Declares r (x ∷ []) (with_type (early_type x.shape names) x gs owner names) old new → Declares r (x ∷ []) (with_var x gs owner fs) old new
-declares_seen r old new x gs owner fs names w e d xs vs h =
+alike_same : AlikeTypes → AlikeStarts → (x : VarDecl) (gs : List Given) (owner : Spot) (n m : Names) (vs : Valued) → SeeAlike n m
+    → with_type (early_type x.shape n) x gs owner n vs ≡ with_type (early_type x.shape m) x gs owner m vs
+alike_same types starts x gs owner n m vs h =
+    typed_same (early_type x.shape n) x gs owner n m vs (λ t. starts n m t x.start h) ∙ ap (λ j. with_type j x gs owner m vs) (types n m x.shape h)
+
+pub declares_seen : AlikeTypes → AlikeStarts → (r : Result (Unit {0}) Front) (old new : Kept) (x : VarDecl) (gs : List Given) (owner : Spot) (fs : List FunDecl) (names : Names) → old.whole ≡ true
+    → SeeAlike names (seen fs (all_known old.known.items)) → Declares r (x ∷ []) (with_type (early_type x.shape names) x gs owner names) old new
+    → Declares r (x ∷ []) (with_var x gs owner fs) old new
+declares_seen types starts r old new x gs owner fs names w alike d xs vs h =
     subst (λ us. Values r (xs ++ x ∷ []) new us)
-    (ap (λ n. with_type (early_type x.shape n) x gs owner n vs) (e ∙ ap (seen fs) h.known)
+    (alike_same types starts x gs owner names (seen fs vs.known) vs (subst (λ ks. SeeAlike names (seen fs ks)) h.known alike)
     ∙ sym (ap (λ b. if b then with_type (early_type x.shape (seen fs vs.known)) x gs owner (seen fs vs.known) vs else vs) (sym h.whole ∙ w)))
     (d xs vs h)
 

@@ -18,8 +18,8 @@ use Rattle.cal_check.specs.Actors.{first_valueless, said_or_all}
 use Rattle.cal_check.specs.Violations.{Violation, said, violation}
 use Rattle.cal_check.specs.Variables.{Come, Found, Given, Spot, VarDecl, Valued, found_in, is_none, param_broken, value_of}
 use Rattle.cal_check.specs.Routines.{FunDecl}
+use Rattle.seen_names.specs.Growing.{Growing, IsKept, kept_in}
 use Rattle.seen_names.specs.Known.{all_known}
-use Rattle.seen_names.specs.Needs.{Growing, IsKept, kept_in}
 use Rattle.seen_names.specs.declared.known.KnownName.{KnownName}
 use Rattle.variable_check.specs.Causes.{inconstant}
 use Rattle.given_values.specs.Causes.{IsCause, IsSaid, SaysRule}

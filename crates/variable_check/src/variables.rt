@@ -11,8 +11,8 @@ ghost use Rattle.const_env.specs.Held.{names_in};
 ghost use Rattle.const_env.specs.Judging.{Breaks};
 ghost use Rattle.seen_names.specs.Calls.{calls_any};
 ghost use Rattle.cal_check.specs.Routines.{FunDecl};
+ghost use Rattle.seen_names.specs.Growing.{IsKept, kept_in};
 ghost use Rattle.seen_names.specs.Known.{all_known, fun_decls, names_differ};
-ghost use Rattle.seen_names.specs.Needs.{IsKept, kept_in};
 ghost use Rattle.variable_check.specs.Views.{var_decl, var_decls};
 ghost use Rattle.given_values.specs.Given.{all_given, spot_of};
 ghost use Rattle.variable_check.specs.Valuing.{AreSeen, Declares, Grows, Settles, Untypes, said_of};
@@ -27,7 +27,9 @@ use cal_model::{Kind, Shape, kind_of_type, types_are_kept};
 use const_eval::{Env, KindFault, Names};
 use early_check::early_type;
 use rvc_base::{Front, Memory, Place};
-use seen_names::{GrowingNames, KnownName, calls_alone_need_functions, type_calls_any};
+use seen_names::{
+    GrowingNames, KnownName, alike_names_suffice, calls_alone_need_functions, type_calls_any,
+};
 
 /// What a variable of a type and its kind comes to.
 fn value_of(
@@ -151,6 +153,7 @@ fn add_calling(
     ensures grows { OnOk result (Grows so_far.old so_far.new) }
     ensures names { OnOk result (AreSeen names.new (fun_decls told.entry.funs.now) so_far.old) }
 {
+    alike_names_suffice();
     let Ok(()) = names.make(&so_far.known, told.funs) else {
         return Err(Front::Memory);
     };

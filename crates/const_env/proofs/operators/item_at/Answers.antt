@@ -1,4 +1,4 @@
-use Rattle.std.proofs.Common.{◌≡◌, ◌<◌, length, ◌∙◌, ap, sym, arith, refl, rules}
+use Rattle.std.proofs.Common.{◌<◌, length, ◌∙◌, ap, sym, refl, rules}
 use Rattle.cal_model.specs.Outcome.{Gives}
 use Rattle.cal_model.specs.View.{value_view}
 use Rattle.const_env.proofs.Lists.{item_gone, item_here}

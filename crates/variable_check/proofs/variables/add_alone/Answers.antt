@@ -1,7 +1,7 @@
 use Rattle.std.proofs.Common.{sym, ap, ◌∙◌}
 use Rattle.const_env.specs.Held.{names_in}
+use Rattle.seen_names.specs.Growing.{IsKept, kept_in}
 use Rattle.seen_names.specs.Known.{all_known, fun_decls}
-use Rattle.seen_names.specs.Needs.{IsKept, kept_in}
 use Rattle.variable_check.specs.Views.{var_decl}
 use Rattle.given_values.specs.Given.{all_given, spot_of}
 use Rattle.variable_check.proofs.Alone.{declares_alone}

@@ -5,7 +5,7 @@ use Rattle.const_env.specs.Constants.{has_fun}
 use Rattle.const_env.specs.Held.{held}
 use Rattle.const_env.specs.Sizes.{are_sized_funs}
 use Rattle.const_env.specs.Standing.{with_place}
-use Rattle.const_env.proofs.Leading.{fun_pushed}
+use Rattle.const_env.proofs.FunPlaces.{fun_pushed}
 use Rattle.const_env.proofs.Tested.{pushed_sized}
 use Rattle.const_env.proofs.env.Env.add_fun.Goals as goal
 

@@ -1,0 +1,63 @@
+-- Functions that were found over other names, of which some are to be judged anew.
+-- Not trusted: no promise is read with it.
+use Rattle.std.specs.Prelude.{◌≡◌, ℕ, suc, Bool, true, false, ◌||◌, ◌==◌, List, [], ◌∷◌, length, slice_get, Option, None, Some, if◌then◌else◌}
+use Rattle.cal_model.specs.Actor.{Fun}
+use Rattle.cal_model.specs.Call.{fun_named}
+use Rattle.cal_model.specs.Kinding.{Judged, Fine, Broken, Names}
+use Rattle.cal_check.specs.Routines.{FunDecl, fun_judged}
+use Rattle.const_env.specs.Constants.{has_fun, with_set}
+use Rattle.seen_names.specs.Known.{is_named_in}
+
+abbrev pub is_among : ℕ → List ℕ → Bool
+is_among place [] = false
+is_among place (p ∷ ps) = (place == p) || is_among place ps
+
+-- ---- what is found of functions that are declared
+
+abbrev pub found_of : Judged Fun → Option Fun
+found_of (Fine f) = Some f
+found_of (Broken rule at) = None
+
+abbrev pub decl_found : FunDecl → Names → Option Fun
+decl_found f names = found_of (fun_judged f.name f.decl names)
+
+abbrev pub one_if : Bool → ℕ → ℕ
+one_if true n = suc n
+one_if false n = n
+
+-- of how many a function is found
+abbrev pub count_of : List FunDecl → List Fun → ℕ
+count_of [] found = 0
+count_of (f ∷ fs) found = one_if (has_fun f.name found) (count_of fs found)
+
+-- those at these places are to be judged anew, and the others are as they are over the names
+pub record AreLeft (places : List ℕ) (fs : List FunDecl) (names : Names) (found : List Fun) : Type 0 where
+  pub right : (i : ℕ) (f : FunDecl) → slice_get fs i ≡ Some f → is_among i places ≡ false
+      → fun_named f.name found ≡ decl_found f names
+  pub none : (name : List ℕ) → is_named_in name fs ≡ false → fun_named name found ≡ None
+  pub count : length found ≡ count_of fs found
+
+-- the places that were added are among those that are left
+abbrev pub Leaves : (places old new : List ℕ) → Type 0
+Leaves places old new = (p : ℕ) → is_among p new ≡ false
+    → (is_among p old ≡ false) × (is_among p places ≡ false)
+
+-- ---- functions that are judged anew
+
+-- A function in the place of the one of its name. If the head of one breaks a rule that was found before, none of this
+-- is of use.
+abbrev pub renewed_by : List ℕ → Judged Fun → List Fun → Option (List Fun)
+renewed_by name (Fine f) found = Some (with_set f found)
+renewed_by name (Broken rule at) found = if has_fun name found then None else Some found
+
+abbrev pub renewed_at : Option FunDecl → Names → List Fun → Option (List Fun)
+renewed_at None names found = Some found
+renewed_at (Some f) names found = renewed_by f.name (fun_judged f.name f.decl names) found
+
+-- .. one after the other, each over these names
+abbrev pub renewed : (places : List ℕ) → List FunDecl → Names → List Fun → Option (List Fun)
+renewed [] fs names found = Some found
+renewed (p ∷ ps) fs names found = elim (renewed_at (slice_get fs p) names found) [
+  | None ↦ None
+  | Some next ↦ renewed ps fs names next
+]
