@@ -17,10 +17,10 @@ loop-f-preserved c =
     let at = c.loop-f.f-index in
     let fs = fun_decls c.args.funs.now in
     let there : slice_get fs at ≡ Some (fun_decl f) =
-        slice_get-map fun_decl c.args.funs.now at
-        ∙ ap (option_map fun_decl) (slice_get_read c.args.funs.now (length c.args.funs.now) at f refl c.loop-f-test.true c.f-item.is) in
+    slice_get-map fun_decl c.args.funs.now at
+    ∙ ap (option_map fun_decl) (slice_get_read c.args.funs.now (length c.args.funs.now) at f refl c.loop-f-test.true c.f-item.is) in
     let says : Says (needs_of (fun_decl f ∷ [])).names at c.loop-f.said c.add_said.new.said =
-        subst (λ p. Says (needs_of (fun_decl f ∷ [])).names p c.loop-f.said c.add_said.new.said) c.loop-f.invariant.place c.in_ok-add_said.ensures in
+    subst (λ p. Says (needs_of (fun_decl f ∷ [])).names p c.loop-f.said c.add_said.new.said) c.loop-f.invariant.place c.in_ok-add_said.ensures in
     record {
       place = ap (λ n. n + 1) c.loop-f.invariant.place;
       said = one_before at fs (fun_decl f) c.loop-f.said c.add_said.new.said there says c.loop-f.invariant.said;
