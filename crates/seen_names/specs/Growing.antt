@@ -1,6 +1,6 @@
 -- What is kept of names while more of them become known.
--- Trusted but for `AreThose`, `with_global`, `with_alone`, `with_used`, `with_left`, `GrowsBy`, `Grows`, `IsSame`,
--- `RenewedTo` and `AreRenewed`: part of what a promise means.
+-- Trusted but for `with_global`, `with_alone`, `with_used`, `with_left`, `GrowsBy`, `Grows`, `IsSame`, `RenewedTo` and
+-- `AreRenewed`: part of what a promise means.
 use Rattle.std.specs.Prelude.{◌≡◌, ℕ, Bool, true, false, List, [], ◌∷◌, option_map, Option, None, Some, if◌then◌else◌}
 use Rattle.cal_model.specs.Kinding.{Known, Names}
 use Rattle.cal_model.specs.Tags.{is_seen}
