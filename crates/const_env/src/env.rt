@@ -160,7 +160,8 @@ impl Env {
         Ok(())
     }
 
-    /// Puts a function in the place of the one of its name, or adds it. The sizes of its types are ones that types may have.
+    /// Puts a function in the place of the one of its name, or adds it. The sizes of its types are ones that types may
+    /// have.
     ///
     /// # Errors
     ///

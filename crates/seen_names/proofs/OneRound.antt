@@ -1,5 +1,5 @@
--- Functions in which nothing that must be constant calls one: one round finds them, and a name that isn't said there
--- changes none of them. And a name that no function uses changes none, whatever they call.
+-- Functions in which nothing that must be constant calls one: one round finds them. And a name that no function uses
+-- changes none, whatever they call.
 use Rattle.std.proofs.Common.{◌≡◌, ℕ, suc, Bool, true, false, List, [], ◌∷◌, length, refl, sym, ap, Some}
 use Rattle.std.specs.Prelude.{if◌then◌else◌}
 use Rattle.std.specs.Str.{bytes_eq}
@@ -9,12 +9,12 @@ use Rattle.cal_model.specs.Tags.{is_seen}
 use Rattle.cal_model.proofs.KindNames.{same-text}
 use Rattle.cal_check.specs.Routines.{FunDecl, funs_after}
 use Rattle.cal_check.specs.Variables.{seen}
-use Rattle.seen_names.specs.Known.{fun_decl, fun_decls, names_alone}
+use Rattle.seen_names.specs.Known.{fun_decl, fun_decls}
 use Rattle.seen_names.specs.Needs.{AreEnough, any_uses, needs_of}
 use Rattle.seen_names.specs.declared.declared.DeclaredFun.{DeclaredFun}
 use Rattle.seen_names.proofs.Bare.{Any, need_all}
 use Rattle.seen_names.proofs.SameAnswers.{after-called, all-use}
-use Rattle.seen_names.proofs.SameFuns.{after-same, mean_names, over-same}
+use Rattle.seen_names.proofs.SameFuns.{mean_names, over-same}
 
 -- ---- rounds
 
@@ -31,7 +31,7 @@ one_round (f ∷ funs) h k = λ names. after_one (fun_decls (f ∷ funs)) (lengt
 pub all_rounds : (funs : List DeclaredFun) → AreEnough (length funs) (fun_decls funs)
 all_rounds funs = λ names. ap (λ n. funs_after n (fun_decls funs) names) (sym (length-map funs fun_decl))
 
--- ---- one name more
+-- ---- names
 
 -- a name that is among others isn't one that isn't
 pub another : (x name : List ℕ) (names : List (List ℕ)) → is_seen x names ≡ false → is_seen name names ≡ true → bytes_eq x name ≡ false

@@ -14,13 +14,12 @@ use Rattle.const_env.specs.Constants.{has_fun, with_set}
 use Rattle.const_env.proofs.Setting.{fun_set}
 use Rattle.seen_names.specs.Alike.{SeeAlike}
 use Rattle.seen_names.specs.Known.{is_named_in, names_alone, names_differ}
-use Rattle.seen_names.specs.Left.{AreLeft, Leaves, count_of, decl_found, found_of, is_among, renewed, renewed_at, renewed_by}
+use Rattle.seen_names.specs.Left.{AreLeft, Leaves, decl_found, found_of, is_among, renewed, renewed_at, renewed_by}
 use Rattle.seen_names.specs.Needs.{needs_of}
 use Rattle.seen_names.specs.Said.{AreSaid, Saying, places_in}
 use Rattle.seen_names.proofs.Bare.{AllSay, Any, SaysOnly, need_all, one_says}
 use Rattle.seen_names.proofs.Counted.{count_over, count_same, count_set, found_named, has_one, named_at, other_name, over_none, over_right, same_place, text_turned}
 use Rattle.seen_names.proofs.OneRound.{after_one, another}
-use Rattle.seen_names.proofs.Rounds.{or_left, or_right}
 use Rattle.seen_names.proofs.SameFuns.{judged-same, mean_names}
 use Rattle.seen_names.proofs.Sized.{fun_named_so}
 

@@ -1,6 +1,6 @@
 -- Functions over names of which those that they say in what must be constant mean the same; if they call none there, or
 -- if those that were found before are the same and give the same.
-use Rattle.std.proofs.Common.{◌≡◌, ℕ, zero, suc, Bool, true, false, List, [], ◌∷◌, refl, ap, subst, ◌∙◌, None, Some}
+use Rattle.std.proofs.Common.{◌≡◌, ℕ, Bool, true, false, List, [], ◌∷◌, refl, ap, subst, ◌∙◌, None, Some}
 use Rattle.cal_ast.specs.Places.{begins}
 use Rattle.cal_ast.specs.Tree as tree
 use Rattle.cal_ast.specs.Tree.{Tree}
@@ -8,7 +8,7 @@ use Rattle.cal_model.specs.Actor.{Fun, Local}
 use Rattle.cal_model.specs.Kinding.{Judged, Fine, Broken, Names, and_so, counter, kind, meant_by, type_judged, with_counters, with_known}
 use Rattle.cal_model.specs.Sound.{kind_of_judged, known_local, with_locals}
 use Rattle.cal_model.specs.Value.{Shape}
-use Rattle.cal_check.specs.Routines.{FunDecl, Head, formal_judged, formal_of, formals_judged, fun_if, fun_judged, fun_of, funs_after, funs_over, head_judged, local_of, locals_of, result_judged, shape_of, single, single_type, start_of, with_fun}
+use Rattle.cal_check.specs.Routines.{FunDecl, Head, formal_judged, formal_of, formals_judged, fun_if, fun_judged, fun_of, funs_over, head_judged, local_of, locals_of, result_judged, shape_of, single, single_type, start_of, with_fun}
 use Rattle.cal_check.specs.Statements.{behind, names_behind}
 use Rattle.cal_check.specs.Written.{behind_vars, by_number, constant_written, gens_written, with_inner, written}
 use Rattle.seen_names.proofs.Bare.{AllSay, SaysOnly}
@@ -169,10 +169,3 @@ NamesSame P n m = (name : List ℕ) → P name → meant_by name n ≡ meant_by 
 -- whatever functions there are, if none may be called
 pub mean_names : (P : List ℕ → Type 0) (n m : Names) → NamesSame P n m → MeanSame P ⊥ n m
 mean_names P n m s = record { names = s; funs = λ c. absurd c; given = λ c. absurd c }
-
--- whatever functions were found before
-pub after-same : (P : List ℕ → Type 0) (k : ℕ) (fs : List FunDecl) (n m : Names) → NamesSame P n m → AllSay P ⊥ fs → funs_after k fs n ≡ funs_after k fs m
-after-same P zero fs n m s r = refl
-after-same P (suc k) fs n m s r =
-    over-same P ⊥ fs (record n { funs = funs_after k fs n }) (record m { funs = funs_after k fs m })
-    (mean_names P (record n { funs = funs_after k fs n }) (record m { funs = funs_after k fs m }) s) r

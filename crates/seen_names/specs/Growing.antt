@@ -1,6 +1,6 @@
 -- What is kept of names while more of them become known.
--- Trusted but for `AreThose`, `with_global`, `with_alone`, `with_used`, `with_left`, `GrowsBy`, `Grows`, `IsSame`,
--- `RenewedTo` and `AreRenewed`: part of what a promise means.
+-- Trusted but for `with_global`, `with_alone`, `with_used`, `with_left`, `GrowsBy`, `Grows`, `IsSame`, `RenewedTo` and
+-- `AreRenewed`: part of what a promise means.
 use Rattle.std.specs.Prelude.{◌≡◌, ℕ, Bool, true, false, List, [], ◌∷◌, option_map, Option, None, Some, if◌then◌else◌}
 use Rattle.cal_model.specs.Kinding.{Known, Names}
 use Rattle.cal_model.specs.Tags.{is_seen}
@@ -13,8 +13,8 @@ use Rattle.seen_names.specs.Left.{AreLeft, Leaves, renewed}
 use Rattle.seen_names.specs.Needs.{Needed, any_uses, needs_of}
 use Rattle.seen_names.specs.Said.{AreSaid, Saying, places_in}
 
--- what is kept of names: without functions, what the functions need, where they say it, what they use, the names with the
--- functions, if they were made, and the places of the functions that are to be judged anew
+-- what is kept of names: without functions, what the functions need, where they say it, what they use, the names with
+-- the functions, if they were made, and the places of the functions that are to be judged anew
 pub record Kept : Type 0 where
   pub alone : Names
   pub needs : Needed
@@ -23,8 +23,8 @@ pub record Kept : Type 0 where
   pub seen : Option Names
   pub left : List ℕ
 
--- the names with the functions, of which none are left to be judged anew if functions are called where something must be
--- constant
+-- the names with the functions, of which none are left to be judged anew if functions are called where something must
+-- be constant
 abbrev pub AreThose :
     (calls : Bool) → (left : List ℕ) → List FunDecl → List Known → Option Names → Type 0
 AreThose calls left fs known None = Unit {0}

@@ -1,5 +1,5 @@
 -- Functions that were found over other names, of which some are to be judged anew.
--- Not trusted: no promise is read with it.
+-- Trusted but for `Leaves`, `renewed_by`, `renewed_at` and `renewed`: part of what a promise means.
 use Rattle.std.specs.Prelude.{◌≡◌, ℕ, suc, Bool, true, false, ◌||◌, ◌==◌, List, [], ◌∷◌, length, slice_get, Option, None, Some, if◌then◌else◌}
 use Rattle.cal_model.specs.Actor.{Fun}
 use Rattle.cal_model.specs.Call.{fun_named}

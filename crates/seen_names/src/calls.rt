@@ -14,7 +14,7 @@ pub fn calls_alone_need_functions()
     ensures starts { StartsAreSame }
 {}
 
-/// A type and a start are over names that are alike what they are over the others: an order of functions changes nothing.
+/// A type and a start are the same over names that are alike: in which order functions stand changes nothing.
 pub fn alike_names_suffice()
     ensures types { AlikeTypes }
     ensures starts { AlikeStarts }

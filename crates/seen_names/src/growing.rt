@@ -26,11 +26,11 @@ use used_names::NameSet;
 
 /// Names that become known one after the other: alone, and with all functions that are seen over them.
 ///
-/// The names with the functions are made when they are asked for, and stay. A name that becomes known is added to them. If
-/// no size and no bound in the functions calls one, each function depends on the names alone that it says there: so those
-/// that say the name are judged anew when the names with the functions are asked for next. If a size or a bound calls a
-/// function, each may be another once a name is known that any of them uses, and all is made anew then; so it is if a
-/// function that was found breaks a rule in its head now.
+/// The names with the functions are made when they are asked for, and stay. A name that becomes known is added to them.
+/// If no size and no bound in the functions calls one, each function depends on those names alone that it says there. So
+/// those that say the name are judged anew when the names with the functions are asked for next. If a size or a bound
+/// calls a function, each may be another once a name is known that any of them uses, and all is made anew then; so it is
+/// if a function that was found breaks a rule in its head now.
 #[derive(Drop)]
 pub struct GrowingNames {
     alloc: Global,
@@ -108,8 +108,8 @@ impl GrowingNames {
         self.seen.as_ref().unwrap()
     }
 
-    /// Makes the names with all functions, unless they are those that are seen. These are the names that are known, and the
-    /// names of the functions differ.
+    /// Makes the names with all functions, unless they are those that are seen. These are the names that are known, and
+    /// the names of the functions differ.
     ///
     /// [`names_differ`](crate::names_differ) tests the condition on functions.
     ///

@@ -15,8 +15,8 @@ use indexmap::IndexSet;
 use routine_build::fun_of;
 use rvc_base::Memory;
 
-/// Judges a function over these names, and puts it in the place of the one of its name. Tells whether that can be done: not
-/// if its head breaks a rule now, and didn't before.
+/// Judges a function over these names, and puts it in the place of the one of its name. Tells whether that can be done:
+/// not if its head breaks a rule now, and didn't before.
 fn renew_fun(env: &mut Env, names: &Names, f: DeclaredFun) -> Result<bool, Memory>
     ensures renewed { IfOk result (λ fits. fits ≡ true → renewed_by f.entry.name.now
         (fun_judged f.entry.name.now (function_tree f.entry.decl.now) (names_view names.now))

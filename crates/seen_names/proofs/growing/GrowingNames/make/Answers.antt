@@ -1,7 +1,7 @@
-use Rattle.std.proofs.Common.{◌≡◌, [], sym, subst}
+use Rattle.std.proofs.Common.{sym, subst}
 use Rattle.cal_check.specs.Variables.{seen}
 use Rattle.const_env.specs.Held.{names_in}
-use Rattle.seen_names.specs.Growing.{Growing, IsKept, IsMade, kept_in}
+use Rattle.seen_names.specs.Growing.{Growing, IsMade, kept_in}
 use Rattle.seen_names.specs.Known.{all_known, fun_decls}
 use Rattle.seen_names.proofs.Making.{cleared, is_made, kept_made, kept_renewed, made_cleared, renewed_some}
 use Rattle.seen_names.proofs.growing.GrowingNames.make.Goals as goal
