@@ -2,10 +2,10 @@
 
 ghost use Rattle.std.specs.Prelude.{◌≡◌, ◌≤◌};
 
-use sample_actors::{Sample, lowered};
 use actor_cell::Cell;
 use net_model::{BurstEnd, Firing, Look, Tried};
 use rvc_base::{ActId, Memory, Num, Trap};
+use sample_actors::{Sample, lowered};
 use std::alloc::Global;
 use std::process::Abort;
 use std::sync::Arc;

@@ -1,9 +1,9 @@
 //! Small networks: their actors, links and ports, and the names of their instances.
 
-use sample_actors::{Sample, lowered};
 use lowered_actor::Lowered;
 use net_model::{End, Link, Port, Wiring};
 use rvc_base::{InstId, Memory, Scalar};
+use sample_actors::{Sample, lowered};
 use std::alloc::Global;
 use std::sync::Arc;
 
