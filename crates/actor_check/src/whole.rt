@@ -96,8 +96,8 @@ fn check_over<'a>(
     given: &'a GivenValues<'a>,
     owner: Place,
 ) -> Result<Bound, Front>
-    requires { AreDistinct (names_of_source (source_in scope.entry.now)) }
-    ensures { IsChecked result (source_in scope.entry.now) (all_given given.entry.now) (spot_of owner) }
+    requires { AreDistinct (names_of_source (source_in scope.now)) }
+    ensures { IsChecked result (source_in scope.now) (all_given given.now) (spot_of owner) }
 {
     let Ok(funs) = declared_funs(alloc, scope) else {
         return Err(Front::Memory);
