@@ -234,6 +234,12 @@ ROUTINES = {
         "int n = 8; ", lambda k: "function f%d(int(size=n) a) --> int : a end int x%d := f%d(1); " % (k, k, k)),
     "functions with a constant size of their own, and such variables": actor(
         "", lambda k: "int n%d = 8; function f%d(int(size=n%d) a) --> int : a end int x%d := f%d(1); " % (k, k, k, k, k)),
+    "functions with a local of a constant size of its own, and such variables": actor(
+        "", lambda k: "int n%d = 8; function f%d(int a) --> int var int(size=n%d) t = a : t end int x%d := f%d(1); "
+        % (k, k, k, k, k)),
+    "functions with a size that calls one with a constant of its own, and such variables": actor(
+        "function n(int a) --> int : a end ",
+        lambda k: "int n%d = 8; function f%d(int(size=n(n%d)) a) --> int : a end int x%d := f%d(1); " % (k, k, k, k, k)),
     "functions with sizes that call a function, and such variables": actor(
         "function n(int a) --> int : 8 end ",
         lambda k: "function f%d(int(size=n(1)) a) --> int : a end int x%d := f%d(1); " % (k, k, k)),
