@@ -1,4 +1,4 @@
--- What must be constant in a part says only such names, and calls functions only if that is allowed.
+-- What must be constant in a part says only such names, and calls only such functions.
 use Rattle.std.proofs.Common.{◌≡◌, ℕ, Bool, true, false, ◌||◌, List, [], ◌∷◌, ◌++◌, refl, ap}
 use Rattle.std.specs.Prelude.{if◌then◌else◌}
 use Rattle.std.specs.Str.{bytes_eq}
@@ -16,9 +16,9 @@ If true A = A
 If false A = Unit {0}
 
 -- all of the part must be constant, or only the sizes and the bounds in it
-abbrev pub SaysOnly : (P : List ℕ → Type 0) (C : Type 0) → Bool → Tree → Type 0
+abbrev pub SaysOnly : (P : List ℕ → Type 0) (C : List ℕ → Type 0) → Bool → Tree → Type 0
 SaysOnly P C constant (tree.variable text at) = If constant (P text)
-SaysOnly P C constant (tree.call text args at) = If constant C × SaysOnly P C constant args
+SaysOnly P C constant (tree.call text args at) = If constant (C text) × SaysOnly P C constant args
 SaysOnly P C constant (tree.cons t ts) = SaysOnly P C constant t × SaysOnly P C constant ts
 SaysOnly P C constant (tree.present t) = SaysOnly P C constant t
 SaysOnly P C constant (tree.paren e at) = SaysOnly P C constant e
@@ -41,12 +41,15 @@ SaysOnly P C constant (tree.function x formals result vars body at) =
     SaysOnly P C false formals × SaysOnly P C true result × SaysOnly P C false vars × SaysOnly P C false body
 SaysOnly P C constant other = Unit {0}
 
-abbrev pub AllSay : (P : List ℕ → Type 0) (C : Type 0) → List FunDecl → Type 0
+abbrev pub AllSay : (P : List ℕ → Type 0) (C : List ℕ → Type 0) → List FunDecl → Type 0
 AllSay P C [] = Unit {0}
 AllSay P C (f ∷ fs) = SaysOnly P C false f.decl × AllSay P C fs
 
 abbrev pub Any : List ℕ → Type 0
 Any name = Unit {0}
+
+abbrev pub No : List ℕ → Type 0
+No name = ⊥
 
 -- ---- parts that call no function
 
@@ -58,7 +61,7 @@ or_right : (a b : Bool) → (a || b) ≡ false → b ≡ false
 or_right true b h = cc
 or_right false b h = h
 
-pub none_called : (t : Tree) → calls_any t ≡ false → SaysOnly Any ⊥ true t
+pub none_called : (t : Tree) → calls_any t ≡ false → SaysOnly Any No true t
 none_called (tree.number n at) h = tt
 none_called (tree.truth b at) h = tt
 none_called (tree.variable name at) h = tt
@@ -95,13 +98,13 @@ none_called other h = cc
 -- what was needed before is needed now
 record Grows (n m : Needed) : Type 0 where
   names : (x : List ℕ) → is_seen x n.names ≡ true → is_seen x m.names ≡ true
-  calls : m.calls ≡ false → n.calls ≡ false
+  calls : (x : List ℕ) → is_seen x n.calls ≡ true → is_seen x m.calls ≡ true
 
 same : (n : Needed) → Grows n n
-same n = record { names = λ x h. h; calls = λ h. h }
+same n = record { names = λ x h. h; calls = λ x h. h }
 
 and_then : (n m o : Needed) → Grows n m → Grows m o → Grows n o
-and_then n m o g h = record { names = λ x i. h.names x (g.names x i); calls = λ i. g.calls (h.calls i) }
+and_then n m o g h = record { names = λ x i. h.names x (g.names x i); calls = λ x i. h.calls x (g.calls x i) }
 
 seen_before : (x : List ℕ) (names more : List (List ℕ)) → is_seen x names ≡ true → is_seen x (names ++ more) ≡ true
 seen_before x [] more h = cc
@@ -119,14 +122,14 @@ seen_last x (y ∷ names) = go (bytes_eq y x) (seen_last x names)
     go true h = refl
     go false h = h
 
-still_seen : (x name : List ℕ) (names : List (List ℕ)) → is_seen x names ≡ true → is_seen x (with_seen names name) ≡ true
+pub still_seen : (x name : List ℕ) (names : List (List ℕ)) → is_seen x names ≡ true → is_seen x (with_seen names name) ≡ true
 still_seen x name names h = go (is_seen name names)
   where
     go : (b : Bool) → is_seen x (if b then names else names ++ name ∷ []) ≡ true
     go true = h
     go false = seen_before x names (name ∷ []) h
 
-now_seen : (name : List ℕ) (names : List (List ℕ)) → is_seen name (with_seen names name) ≡ true
+pub now_seen : (name : List ℕ) (names : List (List ℕ)) → is_seen name (with_seen names name) ≡ true
 now_seen name names = go (is_seen name names) refl
   where
     go : (b : Bool) → is_seen name names ≡ b → is_seen name (if b then names else names ++ name ∷ []) ≡ true
@@ -134,17 +137,18 @@ now_seen name names = go (is_seen name names) refl
     go false h = seen_last name names
 
 grows_name : (constant : Bool) (name : List ℕ) (n : Needed) → Grows n (with_name constant name n)
-grows_name true name n = record { names = λ x h. still_seen x name n.names h; calls = λ h. h }
+grows_name true name n = record { names = λ x h. still_seen x name n.names h; calls = λ x h. h }
 grows_name false name n = same n
 
-grows_call : (constant : Bool) (n : Needed) → Grows n (with_call constant n)
-grows_call true n = record { names = λ x h. h; calls = λ h. cc }
-grows_call false n = same n
+grows_call : (constant : Bool) (name : List ℕ) (n : Needed) → Grows n (with_call constant name n)
+grows_call true name n = record { names = λ x h. h; calls = λ x h. still_seen x name n.calls h }
+grows_call false name n = same n
 
 grows : (constant : Bool) (t : Tree) (n : Needed) → Grows n (with_needs constant t n)
 grows constant (tree.variable text at) n = grows_name constant text n
 grows constant (tree.call text args at) n =
-    and_then n (with_call constant n) (with_needs constant args (with_call constant n)) (grows_call constant n) (grows constant args (with_call constant n))
+    let m = with_call constant text n in
+    and_then n m (with_needs constant args m) (grows_call constant text n) (grows constant args m)
 grows constant (tree.cons t ts) n = and_then n (with_needs constant t n) (with_needs constant ts (with_needs constant t n)) (grows constant t n) (grows constant ts (with_needs constant t n))
 grows constant (tree.present t) n = grows constant t n
 grows constant (tree.paren e at) n = grows constant e n
@@ -174,34 +178,33 @@ grows constant (tree.function x formals result vars body at) n =
     (and_then m o (with_needs false body p) (grows true result m) (and_then o p (with_needs false body p) (grows false vars o) (grows false body p)))
 grows constant other n = same n
 
-module _ (P : List ℕ → Type 0) where
-  -- of these needs P holds, and they have no call
+module _ (P : List ℕ → Type 0) (C : List ℕ → Type 0) where
+  -- P holds of the names that are needed, and C of the functions
   record Allows (n : Needed) : Type 0 where
     names : (x : List ℕ) → is_seen x n.names ≡ true → P x
-    calls : n.calls ≡ false
+    calls : (x : List ℕ) → is_seen x n.calls ≡ true → C x
 
   before : (n m : Needed) → Grows n m → Allows m → Allows n
-  before n m g a = record { names = λ x h. a.names x (g.names x h); calls = g.calls a.calls }
+  before n m g a = record { names = λ x h. a.names x (g.names x h); calls = λ x h. a.calls x (g.calls x h) }
 
   name_said : (constant : Bool) (name : List ℕ) (n : Needed) → Allows (with_name constant name n) → If constant (P name)
   name_said true name n a = a.names name (now_seen name n.names)
   name_said false name n a = tt
 
-  none_made : (constant : Bool) (n : Needed) → Allows (with_call constant n) → If constant ⊥
-  none_made true n a = let h = a.calls in cc
-  none_made false n a = tt
+  name_called : (constant : Bool) (name : List ℕ) (n : Needed) → Allows (with_call constant name n) → If constant (C name)
+  name_called true name n a = a.calls name (now_seen name n.calls)
+  name_called false name n a = tt
 
   -- two parts in a row
-  both : (b c : Bool) (t u : Tree) (n : Needed) → (Allows (with_needs b t n) → SaysOnly P ⊥ b t) → (Allows (with_needs c u (with_needs b t n)) → SaysOnly P ⊥ c u)
-      → Allows (with_needs c u (with_needs b t n)) → SaysOnly P ⊥ b t × SaysOnly P ⊥ c u
+  both : (b c : Bool) (t u : Tree) (n : Needed) → (Allows (with_needs b t n) → SaysOnly P C b t) → (Allows (with_needs c u (with_needs b t n)) → SaysOnly P C c u)
+      → Allows (with_needs c u (with_needs b t n)) → SaysOnly P C b t × SaysOnly P C c u
   both b c t u n f g a = (f (before (with_needs b t n) (with_needs c u (with_needs b t n)) (grows c u (with_needs b t n)) a), g a)
 
-  says : (constant : Bool) (t : Tree) (n : Needed) → Allows (with_needs constant t n) → SaysOnly P ⊥ constant t
+  says : (constant : Bool) (t : Tree) (n : Needed) → Allows (with_needs constant t n) → SaysOnly P C constant t
   says constant (tree.variable text at) n a = name_said constant text n a
-  says constant (tree.call text args at) n a = (
-    none_made constant n (before (with_call constant n) (with_needs constant args (with_call constant n)) (grows constant args (with_call constant n)) a),
-    says constant args (with_call constant n) a,
-  )
+  says constant (tree.call text args at) n a =
+      let m = with_call constant text n in
+      (name_called constant text n (before m (with_needs constant args m) (grows constant args m) a), says constant args m a)
   says constant (tree.cons t ts) n a = both constant constant t ts n (λ x. says constant t n x) (λ x. says constant ts (with_needs constant t n) x) a
   says constant (tree.present t) n a = says constant t n a
   says constant (tree.paren e at) n a = says constant e n a
@@ -238,68 +241,54 @@ module _ (P : List ℕ → Type 0) where
   grow_all [] n = same n
   grow_all (f ∷ fs) n = and_then n (with_needs false f.decl n) (with_funs_needs fs (with_needs false f.decl n)) (grows false f.decl n) (grow_all fs (with_needs false f.decl n))
 
-  all_say : (fs : List FunDecl) (n : Needed) → Allows (with_funs_needs fs n) → AllSay P ⊥ fs
+  all_say : (fs : List FunDecl) (n : Needed) → Allows (with_funs_needs fs n) → AllSay P C fs
   all_say [] n a = tt
   all_say (f ∷ fs) n a =
       let m = with_needs false f.decl n in
       (says false f.decl n (before m (with_funs_needs fs m) (grow_all fs m) a), all_say fs m a)
 
--- functions say only what they need, if they call nothing there
-pub need_all : (P : List ℕ → Type 0) (fs : List FunDecl) → ((x : List ℕ) → is_seen x (needs_of fs).names ≡ true → P x) → (needs_of fs).calls ≡ false → AllSay P ⊥ fs
-need_all P fs h i = all_say P fs nothing (record { names = h; calls = i })
+-- functions say and call only what they need
+pub need_all : (P C : List ℕ → Type 0) (fs : List FunDecl) → ((x : List ℕ) → is_seen x (needs_of fs).names ≡ true → P x) → ((x : List ℕ) → is_seen x (needs_of fs).calls ≡ true → C x) → AllSay P C fs
+need_all P C fs h i = all_say P C fs nothing (record { names = h; calls = i })
 
--- ---- one function of several
+-- ---- two in one
 
-kept_uncalled : (constant : Bool) (text : List ℕ) (n : Needed) → n.calls ≡ false → (with_name constant text n).calls ≡ false
-kept_uncalled true text n h = h
-kept_uncalled false text n h = h
+both_if : {A B C : Type 0} (b : Bool) → (A → B → C) → If b A → If b B → If b C
+both_if true f x y = f x y
+both_if false f x y = tt
 
-still_uncalled : (constant : Bool) (n : Needed) → If constant ⊥ → n.calls ≡ false → (with_call constant n).calls ≡ false
-still_uncalled true n c h = absurd c
-still_uncalled false n c h = h
+module _ (P C Q D R E : List ℕ → Type 0) (f : (x : List ℕ) → P x → Q x → R x) (g : (x : List ℕ) → C x → D x → E x) where
+  pub says_both : (constant : Bool) (t : Tree) → SaysOnly P C constant t → SaysOnly Q D constant t → SaysOnly R E constant t
+  says_both constant (tree.variable text at) s r = both_if constant (f text) s r
+  says_both constant (tree.call text args at) s r = (both_if constant (g text) s.0 r.0, says_both constant args s.1 r.1)
+  says_both constant (tree.cons t ts) s r = (says_both constant t s.0 r.0, says_both constant ts s.1 r.1)
+  says_both constant (tree.present t) s r = says_both constant t s r
+  says_both constant (tree.paren e at) s r = says_both constant e s r
+  says_both constant (tree.if_expr test first other at) s r = (says_both constant test s.0 r.0, says_both constant first s.1 r.1, says_both constant other s.2 r.2)
+  says_both constant (tree.list items at) s r = says_both constant items s r
+  says_both constant (tree.comp item gens at) s r = (says_both constant item s.0 r.0, says_both true gens s.1 r.1)
+  says_both constant (tree.gen shape x from to at) s r = (says_both true shape s.0 r.0, says_both true from s.1 r.1, says_both true to s.2 r.2)
+  says_both constant (tree.index base place at) s r = (says_both constant base s.0 r.0, says_both constant place s.1 r.1)
+  says_both constant (tree.prefix op e at) s r = says_both constant e s r
+  says_both constant (tree.binary op l o at) s r = (says_both constant l s.0 r.0, says_both constant o s.1 r.1)
+  says_both constant (tree.type_of x args at) s r = says_both true args s r
+  says_both constant (tree.shape_arg x shape) s r = says_both true shape s r
+  says_both constant (tree.value_arg x value) s r = says_both true value s r
+  says_both constant (tree.port shape x at) s r = says_both true shape s r
+  says_both constant (tree.var shape x start changes at) s r = (says_both true shape s.0 r.0, says_both false start s.1 r.1)
+  says_both constant (tree.function x formals result vars body at) s r =
+      (says_both false formals s.0 r.0, says_both true result s.1 r.1, says_both false vars s.2 r.2, says_both false body s.3 r.3)
+  says_both constant other s r = tt
 
--- what calls nothing needs no call
-none_needed : (P : List ℕ → Type 0) (constant : Bool) (t : Tree) (n : Needed) → SaysOnly P ⊥ constant t → n.calls ≡ false → (with_needs constant t n).calls ≡ false
-none_needed P constant (tree.variable text at) n s h = kept_uncalled constant text n h
-none_needed P constant (tree.call text args at) n s h = none_needed P constant args (with_call constant n) s.1 (still_uncalled constant n s.0 h)
-none_needed P constant (tree.cons t ts) n s h = none_needed P constant ts (with_needs constant t n) s.1 (none_needed P constant t n s.0 h)
-none_needed P constant (tree.present t) n s h = none_needed P constant t n s h
-none_needed P constant (tree.paren e at) n s h = none_needed P constant e n s h
-none_needed P constant (tree.if_expr test first other at) n s h =
-    let m = with_needs constant test n in
-    none_needed P constant other (with_needs constant first m) s.2 (none_needed P constant first m s.1 (none_needed P constant test n s.0 h))
-none_needed P constant (tree.list items at) n s h = none_needed P constant items n s h
-none_needed P constant (tree.comp item gens at) n s h = none_needed P true gens (with_needs constant item n) s.1 (none_needed P constant item n s.0 h)
-none_needed P constant (tree.gen shape x from to at) n s h =
-    let m = with_needs true shape n in
-    none_needed P true to (with_needs true from m) s.2 (none_needed P true from m s.1 (none_needed P true shape n s.0 h))
-none_needed P constant (tree.index base place at) n s h = none_needed P constant place (with_needs constant base n) s.1 (none_needed P constant base n s.0 h)
-none_needed P constant (tree.prefix op e at) n s h = none_needed P constant e n s h
-none_needed P constant (tree.binary op l r at) n s h = none_needed P constant r (with_needs constant l n) s.1 (none_needed P constant l n s.0 h)
-none_needed P constant (tree.type_of x args at) n s h = none_needed P true args n s h
-none_needed P constant (tree.shape_arg x shape) n s h = none_needed P true shape n s h
-none_needed P constant (tree.value_arg x value) n s h = none_needed P true value n s h
-none_needed P constant (tree.port shape x at) n s h = none_needed P true shape n s h
-none_needed P constant (tree.var shape x start changes at) n s h = none_needed P false start (with_needs true shape n) s.1 (none_needed P true shape n s.0 h)
-none_needed P constant (tree.function x formals result vars body at) n s h =
-    let m = with_needs false formals n in
-    let o = with_needs true result m in
-    none_needed P false body (with_needs false vars o) s.3 (none_needed P false vars o s.2 (none_needed P true result m s.1 (none_needed P false formals n s.0 h)))
-none_needed P constant other n s h = h
-
--- a function that calls nothing there says only what it needs itself
-pub one_says : (P Q : List ℕ → Type 0) (f : FunDecl) → SaysOnly Q ⊥ false f.decl → ((x : List ℕ) → is_seen x (needs_of (f ∷ [])).names ≡ true → P x) → SaysOnly P ⊥ false f.decl
-one_says P Q f s h = (need_all P (f ∷ []) h (none_needed Q false f.decl nothing s refl)).0
-
--- ---- parts that use only such names, and may call
+-- ---- parts that use only such names
 
 if_so : {A : Type 0} (b : Bool) → A → If b A
 if_so true a = a
 if_so false a = tt
 
-pub uses_says : (P : List ℕ → Type 0) (constant : Bool) (t : Tree) → OnlyUses P t → SaysOnly P (Unit {0}) constant t
+pub uses_says : (P : List ℕ → Type 0) (constant : Bool) (t : Tree) → OnlyUses P t → SaysOnly P P constant t
 uses_says P constant (tree.variable text at) u = if_so constant u
-uses_says P constant (tree.call text args at) u = (if_so constant tt, uses_says P constant args u.1)
+uses_says P constant (tree.call text args at) u = (if_so constant u.0, uses_says P constant args u.1)
 uses_says P constant (tree.cons t ts) u = (uses_says P constant t u.0, uses_says P constant ts u.1)
 uses_says P constant (tree.present t) u = uses_says P constant t u
 uses_says P constant (tree.paren e at) u = uses_says P constant e u
@@ -321,7 +310,7 @@ uses_says P constant other u = tt
 
 -- ---- parts that say anything
 
-pub any_says : (constant : Bool) (t : Tree) → SaysOnly Any (Unit {0}) constant t
+pub any_says : (constant : Bool) (t : Tree) → SaysOnly Any Any constant t
 any_says constant (tree.variable text at) = if_so constant tt
 any_says constant (tree.call text args at) = (if_so constant tt, any_says constant args)
 any_says constant (tree.cons t ts) = (any_says constant t, any_says constant ts)

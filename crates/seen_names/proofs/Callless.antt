@@ -1,5 +1,5 @@
 -- Parts that call no function.
-use Rattle.std.proofs.Common.{◌≡◌, true, List, refl, ap, ◌∙◌}
+use Rattle.std.proofs.Common.{◌≡◌, ℕ, true, List, refl, ap, ◌∙◌}
 use Rattle.cal_ast.specs.Places.{begins}
 use Rattle.cal_ast.specs.Tree as tree
 use Rattle.cal_ast.specs.Tree.{Tree}
@@ -10,19 +10,19 @@ use Rattle.cal_check.specs.Routines.{FunDecl}
 use Rattle.cal_check.specs.Variables.{come, come_if, come_of, seen}
 use Rattle.seen_names.specs.Calls.{StartsAreSame, TypesAreSame}
 use Rattle.seen_names.specs.Known.{names_alone}
-use Rattle.seen_names.proofs.Bare.{Any, SaysOnly, none_called}
+use Rattle.seen_names.proofs.Bare.{Any, No, SaysOnly, none_called}
 use Rattle.seen_names.proofs.SameFuns.{mean_names}
 use Rattle.seen_names.proofs.SameKinds.{MeanSame, constant-same, kind-same, type-same}
 
 -- the names mean the same whatever functions there are
-mean_same : (fs : List FunDecl) (known : List Known) → MeanSame Any ⊥ (names_alone known) (seen fs known)
+mean_same : (fs : List FunDecl) (known : List Known) → MeanSame Any No (names_alone known) (seen fs known)
 mean_same fs known = mean_names Any (names_alone known) (seen fs known) (λ name p. refl)
 
 pub types_same : TypesAreSame
 types_same fs known shape h =
-    ap (λ j. not_yet j shape) (type-same Any ⊥ shape (names_alone known) (seen fs known) (mean_same fs known) (none_called shape h))
+    ap (λ j. not_yet j shape) (type-same Any No shape (names_alone known) (seen fs known) (mean_same fs known) (none_called shape h))
 
-pub start_same : (C : Type 0) (n m : Names) (t : Shape) (e : Tree) → MeanSame Any C n m → SaysOnly Any C true e → come t (tree.present e) n ≡ come t (tree.present e) m
+pub start_same : (C : List ℕ → Type 0) (n m : Names) (t : Shape) (e : Tree) → MeanSame Any C n m → SaysOnly Any C true e → come t (tree.present e) n ≡ come t (tree.present e) m
 start_same C n m t e s h =
     let kinds : kind e n ≡ kind e m = kind-same Any C e n m s h in
     let values = constant-same Any C e n m s h in
@@ -34,5 +34,5 @@ start_same C n m t e s h =
     go (Broken rule at) v = refl
 
 pub starts_same : StartsAreSame
-starts_same fs known t (tree.present e) h = start_same ⊥ (names_alone known) (seen fs known) t e (mean_same fs known) (none_called e h)
+starts_same fs known t (tree.present e) h = start_same No (names_alone known) (seen fs known) t e (mean_same fs known) (none_called e h)
 starts_same fs known t other h = refl

@@ -51,10 +51,10 @@ other_name name fs i f h is = go (bytes_eq name f.name) refl
     go true e = sym (named_at fs i f is) ∙ ap (λ n. is_named_in n fs) (sym ((bytes_eq-Decides name f.name).0 e)) ∙ h
     go false e = refl
 
-head_new : (f : FunDecl) (fs : List FunDecl) → names_differ (f ∷ fs) ≡ true → is_named_in f.name fs ≡ false
+pub head_new : (f : FunDecl) (fs : List FunDecl) → names_differ (f ∷ fs) ≡ true → is_named_in f.name fs ≡ false
 head_new f fs h = not_true (is_named_in f.name fs) (and_left (not (is_named_in f.name fs)) (names_differ fs) h)
 
-tail_differs : (f : FunDecl) (fs : List FunDecl) → names_differ (f ∷ fs) ≡ true → names_differ fs ≡ true
+pub tail_differs : (f : FunDecl) (fs : List FunDecl) → names_differ (f ∷ fs) ≡ true → names_differ fs ≡ true
 tail_differs f fs h = and_right (not (is_named_in f.name fs)) (names_differ fs) h
 
 pub same_place : (fs : List FunDecl) (i j : ℕ) (f g : FunDecl) → names_differ fs ≡ true → slice_get fs i ≡ Some f → slice_get fs j ≡ Some g → bytes_eq f.name g.name ≡ true → i ≡ j

@@ -28,19 +28,19 @@ within_alike (suc k) fs gs same globals name args left =
     let less : calls_within k fs ≡ calls_within k gs = fun_ext (λ hs. fun_ext (λ other. fun_ext (λ vs. fun_ext (λ n. within_alike k fs gs same hs other vs n)))) in
     ap (λ o. given_by o (calls_within k fs) globals args left) (same name) ∙ ap (λ c. given_by (fun_named name gs) c globals args left) less
 
-mean_alike : (n m : Names) → SeeAlike n m → MeanSame Any (Unit {0}) n m
+mean_alike : (n m : Names) → SeeAlike n m → MeanSame Any Any n m
 mean_alike n m h = record {
   names = λ name p. ap (λ ls. known_as name (ls ++ n.globals)) h.locals ∙ ap (λ gs. known_as name (m.locals ++ gs)) h.globals;
-  funs = λ c. h.funs;
-  given = λ c name args left.
+  funs = λ name c. h.funs name;
+  given = λ name c args left.
       ap (λ k. calls_within k n.funs (constants n.globals) name args left) h.count
       ∙ within_alike (length m.funs) n.funs m.funs h.funs (constants n.globals) name args left
       ∙ ap (λ gs. calls_of m.funs (constants gs) name args left) h.globals;
 }
 
 pub types_alike : AlikeTypes
-types_alike n m shape h = ap (λ j. not_yet j shape) (type-same Any (Unit {0}) shape n m (mean_alike n m h) (any_says true shape))
+types_alike n m shape h = ap (λ j. not_yet j shape) (type-same Any Any shape n m (mean_alike n m h) (any_says true shape))
 
 pub starts_alike : AlikeStarts
-starts_alike n m t (tree.present e) h = start_same (Unit {0}) n m t e (mean_alike n m h) (any_says true e)
+starts_alike n m t (tree.present e) h = start_same Any n m t e (mean_alike n m h) (any_says true e)
 starts_alike n m t other h = refl

@@ -1,14 +1,15 @@
 -- Functions that are judged anew, one after the other.
-use Rattle.std.proofs.Common.{◌≡◌, ℕ, zero, suc, Bool, true, false, List, [], ◌∷◌, length, refl, sym, ap, subst, ◌∙◌}
+use Rattle.std.proofs.Common.{◌≡◌, ℕ, Bool, true, false, List, [], ◌∷◌, length, refl, sym, ap, subst, ◌∙◌, arith}
 use Rattle.std.specs.Prelude.{◌||◌, ◌==◌, Option, None, Some, slice_get, if◌then◌else◌}
 use Rattle.std.specs.Str.{bytes_eq}
 use Rattle.std.proofs.lemmas.Bool.Decides.{Decides-eqb}
 use Rattle.std.proofs.lemmas.Slice.Eq.{bytes_eq-Decides}
 use Rattle.cal_model.specs.Actor.{Fun}
 use Rattle.cal_model.specs.Call.{fun_named}
-use Rattle.cal_model.specs.Kinding.{Judged, Fine, Broken, Known, Names, known_as}
+use Rattle.cal_model.specs.Kinding.{Judged, Fine, Broken, Known, Names}
 use Rattle.cal_model.specs.Tags.{is_seen}
-use Rattle.cal_check.specs.Routines.{FunDecl, fun_judged, funs_over}
+use Rattle.cal_model.proofs.KindNames.{same-text}
+use Rattle.cal_check.specs.Routines.{FunDecl, fun_judged}
 use Rattle.cal_check.specs.Variables.{seen}
 use Rattle.const_env.specs.Constants.{has_fun, with_set}
 use Rattle.const_env.proofs.Setting.{fun_set}
@@ -16,170 +17,198 @@ use Rattle.seen_names.specs.Alike.{SeeAlike}
 use Rattle.seen_names.specs.Known.{is_named_in, names_alone, names_differ}
 use Rattle.seen_names.specs.Left.{AreLeft, Leaves, decl_found, found_of, is_among, renewed, renewed_at, renewed_by}
 use Rattle.seen_names.specs.Needs.{needs_of}
+use Rattle.seen_names.specs.Order.{IsOrder}
 use Rattle.seen_names.specs.Said.{AreSaid, Saying, places_in}
-use Rattle.seen_names.proofs.Bare.{AllSay, Any, SaysOnly, need_all, one_says}
-use Rattle.seen_names.proofs.Counted.{count_over, count_same, count_set, found_named, has_one, named_at, other_name, over_none, over_right, same_place, text_turned}
-use Rattle.seen_names.proofs.OneRound.{after_one, another}
-use Rattle.seen_names.proofs.SameFuns.{judged-same, mean_names}
+use Rattle.seen_names.proofs.Counted.{count_same, count_set, found_named, has_one, named_at, other_name, over_none, same_place, text_turned}
+use Rattle.seen_names.proofs.Numbered.{number_most, within_seen}
+use Rattle.seen_names.proofs.Ordering.{before_last, early_same, found_right, last_round, unsaid_same}
+use Rattle.seen_names.proofs.Rounded.{count_after, over}
 use Rattle.seen_names.proofs.Sized.{fun_named_so}
 
 -- ---- one function
 
-same_some : (a b : List Fun) → Some a ≡ Some b → a ≡ b
+same_some : {A : Type 0} (a b : A) → Some a ≡ Some b → a ≡ b
 same_some a b h = cc
 
 none_some : {A : Type 0} (a : A) → None ≡ Some a → ⊥
 none_some a h = cc
 
-skips : (p : ℕ) (ps : List ℕ) (fs : List FunDecl) (names : Names) (found : List Fun) → slice_get fs p ≡ None → AreLeft (p ∷ ps) fs names found → AreLeft ps fs names found
-skips p ps fs names found e h = record {
-  right = λ i f is others. h.right i f is (go i f is others (i == p) refl);
-  none = h.none;
-  count = h.count;
-}
-  where
-    go : (i : ℕ) (f : FunDecl) → slice_get fs i ≡ Some f → is_among i ps ≡ false → (b : Bool) → (i == p) ≡ b → (b || is_among i ps) ≡ false
-    go i f is others true s = absurd (none_some f (sym e ∙ ap (slice_get fs) (sym ((Decides-eqb i p).0 s)) ∙ is))
-    go i f is others false s = others
-
--- it was found anew
-puts : (p : ℕ) (ps : List ℕ) (fs : List FunDecl) (names : Names) (found : List Fun) (g : FunDecl) (k : Fun) → names_differ fs ≡ true → slice_get fs p ≡ Some g → fun_judged g.name g.decl names ≡ Fine k
-    → AreLeft (p ∷ ps) fs names found → AreLeft ps fs names (with_set k found)
-puts p ps fs names found g k d there judged h = record {
-  right = λ i f is others. fun_set f.name k found ∙ right i f is others (i == p) refl;
-  none = λ name e.
-      fun_set name k found
-      ∙ ap (λ b. if b then Some k else fun_named name found) (ap (λ n. bytes_eq n name) named ∙ text_turned name g.name false (other_name name fs p g e there))
-      ∙ h.none name e;
-  count = count_set fs k found d (ap (λ n. is_named_in n fs) named ∙ named_at fs p g there) h.count;
-}
-  where
-    named : k.name ≡ g.name
-    named = fun_named_so g.name g.decl names k judged
-
-    right : (i : ℕ) (f : FunDecl) → slice_get fs i ≡ Some f → is_among i ps ≡ false → (b : Bool) → (i == p) ≡ b
-        → (if bytes_eq k.name f.name then Some k else fun_named f.name found) ≡ decl_found f names
-    right i f is others true s =
-        let own : Some f ≡ Some g = sym is ∙ ap (slice_get fs) ((Decides-eqb i p).0 s) ∙ there in
-        let it : f ≡ g = cc in
-        let here : bytes_eq k.name f.name ≡ true = (bytes_eq-Decides k.name f.name).1 (named ∙ ap (λ x. x.name) (sym it)) in
-        ap (λ b. if b then Some k else fun_named f.name found) here ∙ ap found_of (sym judged) ∙ ap (λ x. decl_found x names) (sym it)
-    right i f is others false s =
-        ap (λ b. if b then Some k else fun_named f.name found) (ap (λ n. bytes_eq n f.name) named ∙ differ (bytes_eq g.name f.name) refl)
-        ∙ h.right i f is (ap (λ b. b || is_among i ps) s ∙ others)
-      where
-        differ : (b : Bool) → bytes_eq g.name f.name ≡ b → b ≡ false
-        differ true e =
-            let same = same_place fs i p f g d is there (text_turned g.name f.name true e) in
-            sym ((Decides-eqb i p).1 same) ∙ s
-        differ false e = refl
-
 not_has : (o : Option Fun) → has_one o ≡ false → o ≡ None
 not_has None e = refl
 not_has (Some f) e = cc
 
--- its head breaks a rule, as before
-lacks : (p : ℕ) (ps : List ℕ) (fs : List FunDecl) (names : Names) (found : List Fun) (g : FunDecl) → slice_get fs p ≡ Some g → None ≡ decl_found g names → has_fun g.name found ≡ false
-    → AreLeft (p ∷ ps) fs names found → AreLeft ps fs names found
-lacks p ps fs names found g there judged new h = record {
-  right = λ i f is others. right i f is others (i == p) refl;
-  none = h.none;
-  count = h.count;
-}
-  where
-    right : (i : ℕ) (f : FunDecl) → slice_get fs i ≡ Some f → is_among i ps ≡ false → (b : Bool) → (i == p) ≡ b → fun_named f.name found ≡ decl_found f names
-    right i f is others true s =
-        let own : Some f ≡ Some g = sym is ∙ ap (slice_get fs) ((Decides-eqb i p).0 s) ∙ there in
-        let it : f ≡ g = cc in
-        ap (λ x. fun_named x.name found) it ∙ not_has (fun_named g.name found) new ∙ judged ∙ ap (λ x. decl_found x names) (sym it)
-    right i f is others false s = h.right i f is (ap (λ b. b || is_among i ps) s ∙ others)
+-- these are names that are known, with functions of which those at these places are to be judged anew
+pub record AreWith (order : List (List ℕ)) (places : List ℕ) (fs : List FunDecl) (known : List Known) (names : Names) : Type 0 where
+  pub globals : names.globals ≡ known
+  pub locals : names.locals ≡ []
+  pub left : AreLeft order places fs (seen fs known).funs names.funs
 
-one_renewed : (p : ℕ) (ps : List ℕ) (fs : List FunDecl) (names : Names) (found next : List Fun) → names_differ fs ≡ true → renewed_at (slice_get fs p) names found ≡ Some next
-    → AreLeft (p ∷ ps) fs names found → AreLeft ps fs names next
-one_renewed p ps fs names found next d e h = at_place (slice_get fs p) refl e
-  where
-    broken : (g : FunDecl) → slice_get fs p ≡ Some g → None ≡ decl_found g names → (b : Bool) → has_fun g.name found ≡ b → (if b then None else Some found) ≡ Some next → AreLeft ps fs names next
-    broken g there judged true has e = absurd (none_some next e)
-    broken g there judged false has e = subst (AreLeft ps fs names) (same_some found next e) (lacks p ps fs names found g there judged has h)
+pub is_over : (known : List Known) (names : Names) → names.globals ≡ known → names.locals ≡ [] → over known names.funs ≡ names
+is_over known names g l =
+    ap (λ ks. record { globals = ks; locals = []; funs = names.funs }) (sym g) ∙ ap (λ ls. record { globals = names.globals; locals = ls; funs = names.funs }) (sym l)
 
-    judged_so : (g : FunDecl) → slice_get fs p ≡ Some g → (j : Judged Fun) → fun_judged g.name g.decl names ≡ j → renewed_by g.name j found ≡ Some next → AreLeft ps fs names next
-    judged_so g there (Fine k) is e = subst (AreLeft ps fs names) (same_some (with_set k found) next e) (puts p ps fs names found g k d there is h)
-    judged_so g there (Broken rule at) is e = broken g there (ap found_of (sym is)) (has_fun g.name found) refl e
+module _ (order : List (List ℕ)) (fs : List FunDecl) (is : IsOrder order fs) (differ : names_differ fs ≡ true) (known : List Known) where
+  abbrev All : List Fun
+  All = (seen fs known).funs
 
-    at_place : (o : Option FunDecl) → slice_get fs p ≡ o → renewed_at o names found ≡ Some next → AreLeft ps fs names next
-    at_place None there e = subst (AreLeft ps fs names) (same_some found next e) (skips p ps fs names found there h)
-    at_place (Some g) there e = judged_so g there (fun_judged g.name g.decl names) refl e
+  skips : (p : ℕ) (ps : List ℕ) (found : List Fun) → slice_get fs p ≡ None → AreLeft order (p ∷ ps) fs All found → AreLeft order ps fs All found
+  skips p ps found e h = record {
+    right = λ i f there others. h.right i f there (go i f there others (i == p) refl);
+    early = h.early;
+    none = h.none;
+    count = h.count;
+  }
+    where
+      go : (i : ℕ) (f : FunDecl) → slice_get fs i ≡ Some f → is_among i ps ≡ false → (b : Bool) → (i == p) ≡ b → (b || is_among i ps) ≡ false
+      go i f there others true s = absurd (none_some f (sym e ∙ ap (slice_get fs) (sym ((Decides-eqb i p).0 s)) ∙ there))
+      go i f there others false s = others
 
-pub all_renewed : (ps : List ℕ) (fs : List FunDecl) (names : Names) (found last : List Fun) → names_differ fs ≡ true → renewed ps fs names found ≡ Some last → AreLeft ps fs names found → AreLeft [] fs names last
-all_renewed [] fs names found last d e h = subst (AreLeft [] fs names) (same_some found last e) h
-all_renewed (p ∷ ps) fs names found last d e h =
-    go (renewed_at (slice_get fs p) names found) refl e (λ next i left. all_renewed ps fs names next last d i left)
-  where
-    go : (o : Option (List Fun)) → renewed_at (slice_get fs p) names found ≡ o → (elim o [ None ↦ None | Some next ↦ renewed ps fs names next ]) ≡ Some last
-        → ((next : List Fun) → renewed ps fs names next ≡ Some last → AreLeft ps fs names next → AreLeft [] fs names last) → AreLeft [] fs names last
-    go None i e more = absurd (none_some last e)
-    go (Some next) i e more = more next e (one_renewed p ps fs names found next d i h)
+  -- the function at the place is that one
+  same_at : (p i : ℕ) (f g : FunDecl) → slice_get fs p ≡ Some g → slice_get fs i ≡ Some f → i ≡ p → f ≡ g
+  same_at p i f g there at e = same_some f g (sym at ∙ ap (slice_get fs) e ∙ there)
 
--- ---- all that are left, and none
+  -- it was found anew
+  puts : (p : ℕ) (ps : List ℕ) (names : Names) (g : FunDecl) (k : Fun) → slice_get fs p ≡ Some g → fun_judged g.name g.decl names ≡ Fine k → decl_found g names ≡ fun_named g.name All
+      → AreLeft order (p ∷ ps) fs All names.funs → AreLeft order ps fs All (with_set k names.funs)
+  puts p ps names g k there judged right h = record {
+    right = λ i f at others. set i f at (λ s. h.right i f at (ap (λ b. b || is_among i ps) s ∙ others)) (i == p) refl;
+    early = λ i f at seen. set i f at (λ s. h.early i f at seen) (i == p) refl;
+    none = λ name e.
+        fun_set name k found
+        ∙ ap (λ b. if b then Some k else fun_named name found) (ap (λ n. bytes_eq n name) named ∙ text_turned name g.name false (other_name name fs p g e there))
+        ∙ h.none name e;
+    count = count_set fs k found differ (ap (λ n. is_named_in n fs) named ∙ named_at fs p g there) h.count;
+  }
+    where
+      found : List Fun
+      found = names.funs
 
--- the functions over these names, each by its name
-pub record AreOver (fs : List FunDecl) (names : Names) (found : List Fun) : Type 0 where
-  pub funs : (name : List ℕ) → fun_named name found ≡ fun_named name (funs_over fs names)
-  pub count : length found ≡ length (funs_over fs names)
+      named : k.name ≡ g.name
+      named = fun_named_so g.name g.decl names k judged
 
-pub none_left : (fs : List FunDecl) (names : Names) (found : List Fun) → names_differ fs ≡ true → AreLeft [] fs names found → AreOver fs names found
-none_left fs names found d h = record {
+      set : (i : ℕ) (f : FunDecl) → slice_get fs i ≡ Some f → ((i == p) ≡ false → fun_named f.name found ≡ fun_named f.name All) → (b : Bool) → (i == p) ≡ b
+          → fun_named f.name (with_set k found) ≡ fun_named f.name All
+      set i f at old true s =
+          let it : f ≡ g = same_at p i f g there at ((Decides-eqb i p).0 s) in
+          let here : bytes_eq k.name f.name ≡ true = (bytes_eq-Decides k.name f.name).1 (named ∙ ap (λ x. x.name) (sym it)) in
+          fun_set f.name k found ∙ ap (λ b. if b then Some k else fun_named f.name found) here ∙ ap found_of (sym judged) ∙ right ∙ ap (λ x. fun_named x.name All) (sym it)
+      set i f at old false s =
+          fun_set f.name k found ∙ ap (λ b. if b then Some k else fun_named f.name found) (ap (λ n. bytes_eq n f.name) named ∙ differs (bytes_eq g.name f.name) refl) ∙ old s
+        where
+          differs : (b : Bool) → bytes_eq g.name f.name ≡ b → b ≡ false
+          differs true e =
+              let same = same_place fs i p f g differ at there (text_turned g.name f.name true e) in
+              sym ((Decides-eqb i p).1 same) ∙ s
+          differs false e = refl
+
+  -- its head breaks a rule, as before
+  lacks : (p : ℕ) (ps : List ℕ) (names : Names) (g : FunDecl) → slice_get fs p ≡ Some g → None ≡ fun_named g.name All → has_fun g.name names.funs ≡ false
+      → AreLeft order (p ∷ ps) fs All names.funs → AreLeft order ps fs All names.funs
+  lacks p ps names g there right new h = record {
+    right = λ i f at others. go i f at others (i == p) refl;
+    early = h.early;
+    none = h.none;
+    count = h.count;
+  }
+    where
+      go : (i : ℕ) (f : FunDecl) → slice_get fs i ≡ Some f → is_among i ps ≡ false → (b : Bool) → (i == p) ≡ b → fun_named f.name names.funs ≡ fun_named f.name All
+      go i f at others true s =
+          let it : f ≡ g = same_at p i f g there at ((Decides-eqb i p).0 s) in
+          ap (λ x. fun_named x.name names.funs) it ∙ not_has (fun_named g.name names.funs) new ∙ right ∙ ap (λ x. fun_named x.name All) (sym it)
+      go i f at others false s = h.right i f at (ap (λ b. b || is_among i ps) s ∙ others)
+
+  -- what is found of a function over them is what is seen
+  finds : (ps : List ℕ) (names : Names) (p : ℕ) (g : FunDecl) → slice_get fs p ≡ Some g → AreWith order ps fs known names → decl_found g names ≡ fun_named g.name All
+  finds ps names p g there h =
+      ap (decl_found g) (sym (is_over known names h.globals h.locals))
+      ∙ found_right order fs is differ known p g names.funs there (record {
+        right = λ i f at l. let most = number_most g.name order in h.left.early i f at (within_seen f.name order (omega (arith, l, most)));
+        none = h.left.none;
+        count = h.left.count;
+      })
+
+  one_renewed : (p : ℕ) (ps : List ℕ) (names next : Names) → renewed_at (slice_get fs p) names ≡ Some next → AreWith order (p ∷ ps) fs known names → AreWith order ps fs known next
+  one_renewed p ps names next e h = at_place (slice_get fs p) refl e
+    where
+      same : AreLeft order ps fs All names.funs → AreWith order ps fs known names
+      same left = record { globals = h.globals; locals = h.locals; left = left }
+
+      broken : (g : FunDecl) → slice_get fs p ≡ Some g → None ≡ decl_found g names → (b : Bool) → has_fun g.name names.funs ≡ b → (if b then None else Some names) ≡ Some next → AreWith order ps fs known next
+      broken g there judged true has e = absurd (none_some next e)
+      broken g there judged false has e =
+          subst (AreWith order ps fs known) (same_some names next e) (same (lacks p ps names g there (judged ∙ finds (p ∷ ps) names p g there h) has h.left))
+
+      judged_so : (g : FunDecl) → slice_get fs p ≡ Some g → (j : Judged Fun) → fun_judged g.name g.decl names ≡ j → renewed_by g.name j names ≡ Some next → AreWith order ps fs known next
+      judged_so g there (Fine k) is_k e =
+          subst (AreWith order ps fs known) (same_some (record names { funs = with_set k names.funs }) next e)
+          (record { globals = h.globals; locals = h.locals; left = puts p ps names g k there is_k (finds (p ∷ ps) names p g there h) h.left })
+      judged_so g there (Broken rule at) is_b e = broken g there (ap found_of (sym is_b)) (has_fun g.name names.funs) refl e
+
+      at_place : (o : Option FunDecl) → slice_get fs p ≡ o → renewed_at o names ≡ Some next → AreWith order ps fs known next
+      at_place None there e = subst (AreWith order ps fs known) (same_some names next e) (same (skips p ps names.funs there h.left))
+      at_place (Some g) there e = judged_so g there (fun_judged g.name g.decl names) refl e
+
+  pub all_renewed : (ps : List ℕ) (names last : Names) → renewed ps fs names ≡ Some last → AreWith order ps fs known names → AreWith order [] fs known last
+  all_renewed [] names last e h = subst (AreWith order [] fs known) (same_some names last e) h
+  all_renewed (p ∷ ps) names last e h =
+      go (renewed_at (slice_get fs p) names) refl e (λ next i left. all_renewed ps next last i left)
+    where
+      go : (o : Option Names) → renewed_at (slice_get fs p) names ≡ o → (elim o [ None ↦ None | Some next ↦ renewed ps fs next ]) ≡ Some last
+          → ((next : Names) → renewed ps fs next ≡ Some last → AreWith order ps fs known next → AreWith order [] fs known last) → AreWith order [] fs known last
+      go None i e more = absurd (none_some last e)
+      go (Some next) i e more = more next e (one_renewed p ps names next i h)
+
+-- ---- none is left
+
+none_seen : (fs : List FunDecl) (known : List Known) (name : List ℕ) → is_named_in name fs ≡ false → fun_named name (seen fs known).funs ≡ None
+none_seen fs known name h = ap (fun_named name) (last_round fs known) ∙ over_none name fs (over known (before_last fs known)) h
+
+-- names of whose functions none is left are alike those that are seen
+pub left_seen : (order : List (List ℕ)) (fs : List FunDecl) (known : List Known) (found : Names) → names_differ fs ≡ true → AreWith order [] fs known found → SeeAlike found (seen fs known)
+left_seen order fs known found d h = record {
+  globals = h.globals;
+  locals = h.locals;
   funs = funs;
-  count = h.count ∙ count_same fs found (funs_over fs names) (λ name i. ap has_one (funs name)) ∙ sym (count_over fs names d);
+  count = h.left.count ∙ count_same fs found.funs (seen fs known).funs (λ name i. ap has_one (funs name)) ∙ sym (count_after fs (length fs) (names_alone known) d);
 }
   where
-    funs : (name : List ℕ) → fun_named name found ≡ fun_named name (funs_over fs names)
+    funs : (name : List ℕ) → fun_named name found.funs ≡ fun_named name (seen fs known).funs
     funs name = go (is_named_in name fs) refl
       where
-        go : (b : Bool) → is_named_in name fs ≡ b → fun_named name found ≡ fun_named name (funs_over fs names)
+        go : (b : Bool) → is_named_in name fs ≡ b → fun_named name found.funs ≡ fun_named name (seen fs known).funs
         go true e =
-            let is = found_named name fs e in
-            subst (λ n. fun_named n found ≡ fun_named n (funs_over fs names)) is.named
-            (h.right is.place is.decl is.there refl ∙ sym (over_right fs names is.place is.decl d is.there))
-        go false e = h.none name e ∙ sym (over_none name fs names e)
+            let at = found_named name fs e in
+            subst (λ n. fun_named n found.funs ≡ fun_named n (seen fs known).funs) at.named (h.left.right at.place at.decl at.there refl)
+        go false e = h.left.none name e ∙ sym (none_seen fs known name e)
 
--- .. are those over the names, of which none is left
-pub over_left : (fs : List FunDecl) (names : Names) → names_differ fs ≡ true → AreLeft [] fs names (funs_over fs names)
-over_left fs names d = record {
-  right = λ i f is others. over_right fs names i f d is;
-  none = λ name e. over_none name fs names e;
-  count = count_over fs names d;
+-- of those that are seen none is left
+pub seen_left : (order : List (List ℕ)) (fs : List FunDecl) (known : List Known) → names_differ fs ≡ true → AreLeft order [] fs (seen fs known).funs (seen fs known).funs
+seen_left order fs known d = record {
+  right = λ i f there others. refl;
+  early = λ i f there early. refl;
+  none = λ name e. none_seen fs known name e;
+  count = count_after fs (length fs) (names_alone known) d;
 }
 
 -- ---- one name more
 
-all_at : (P : List ℕ → Type 0) (C : Type 0) (fs : List FunDecl) (i : ℕ) (f : FunDecl) → AllSay P C fs → slice_get fs i ≡ Some f → SaysOnly P C false f.decl
-all_at P C [] i f s is = cc
-all_at P C (g ∷ fs) zero f s is = let same : g ≡ f = cc in subst (λ k. SaysOnly P C false k.decl) same s.0
-all_at P C (g ∷ fs) (suc i) f s is = all_at P C fs i f s.1 is
-
--- a function that doesn't say it where something must be constant is the same, if none is called there
-pub unsaid_same : (fs : List FunDecl) (x : Known) (known : List Known) (i : ℕ) (f : FunDecl) → (needs_of fs).calls ≡ false → slice_get fs i ≡ Some f
-    → is_seen x.name (needs_of (f ∷ [])).names ≡ false → fun_judged f.name f.decl (names_alone known) ≡ fun_judged f.name f.decl (names_alone (x ∷ known))
-unsaid_same fs x known i f none is unsaid =
-    let said = (needs_of (f ∷ [])).names in
-    judged-same (λ name. is_seen name said ≡ true) ⊥ f.name f.decl (names_alone known) (names_alone (x ∷ known))
-    (mean_names (λ name. is_seen name said ≡ true) (names_alone known) (names_alone (x ∷ known))
-    (λ name j. ap (λ b. if b then Some x else known_as name known) (sym (another x.name name said unsaid j))))
-    (one_says (λ name. is_seen name said ≡ true) Any f (all_at Any ⊥ fs i f (need_all Any fs (λ y j. tt) none) is) (λ y j. j))
-
--- one round finds all
-one_finds : (fs : List FunDecl) (known : List Known) → (needs_of fs).calls ≡ false → funs_over fs (names_alone known) ≡ (seen fs known).funs
-one_finds [] known none = refl
-one_finds (f ∷ fs) known none = after_one (f ∷ fs) (length fs) (names_alone known) none
+-- a name that is among others isn't one that isn't
+pub another : (x name : List ℕ) (names : List (List ℕ)) → is_seen x names ≡ false → is_seen name names ≡ true → bytes_eq x name ≡ false
+another x name names h i = go (bytes_eq x name) refl
+  where
+    go : (b : Bool) → bytes_eq x name ≡ b → b ≡ false
+    go true e = absurd (let same = ap (λ y. is_seen y names) (same-text x name e) in cc)
+    go false e = refl
 
 -- those that say it are left besides
-pub left_more : (x : Known) (fs : List FunDecl) (known : List Known) (said : List Saying) (old new : List ℕ) (found : List Fun) → (needs_of fs).calls ≡ false → AreSaid fs said
-    → Leaves (places_in x.name said) old new → AreLeft old fs (names_alone known) found → AreLeft new fs (names_alone (x ∷ known)) found
-left_more x fs known said old new found none says leaves h = record {
-  right = λ i f is others.
+pub left_more : (order : List (List ℕ)) (x : Known) (fs : List FunDecl) (known : List Known) (said : List Saying) (old new : List ℕ) (found : List Fun) → IsOrder order fs → names_differ fs ≡ true
+    → is_seen x.name order ≡ false → AreSaid fs said → Leaves (places_in x.name said) old new → AreLeft order old fs (seen fs known).funs found
+    → AreLeft order new fs (seen fs (x ∷ known)).funs found
+left_more order x fs known said old new found is d out says leaves h = record {
+  right = λ i f there others.
       let before = leaves i others in
-      h.right i f is before.0 ∙ ap found_of (unsaid_same fs x known i f none is (unsaid i f is before.1 (is_seen x.name (needs_of (f ∷ [])).names) refl));
+      h.right i f there before.0 ∙ unsaid_same order fs is d x known i f out another there (unsaid i f there before.1 (is_seen x.name (needs_of (f ∷ [])).names) refl);
+  early = λ i f there early. h.early i f there early ∙ early_same order fs is d x known i f out another there early;
   none = h.none;
   count = h.count;
 }
@@ -187,22 +216,3 @@ left_more x fs known said old new found none says leaves h = record {
     unsaid : (i : ℕ) (f : FunDecl) → slice_get fs i ≡ Some f → is_among i (places_in x.name said) ≡ false → (b : Bool) → is_seen x.name (needs_of (f ∷ [])).names ≡ b → b ≡ false
     unsaid i f there others true e = sym (says i f there x.name e) ∙ others
     unsaid i f there others false e = refl
-
--- ---- what is seen
-
--- of names with the functions over them none is left
-pub seen_left : (fs : List FunDecl) (known : List Known) → names_differ fs ≡ true → (needs_of fs).calls ≡ false → AreLeft [] fs (names_alone known) (seen fs known).funs
-seen_left fs known d none = subst (AreLeft [] fs (names_alone known)) (one_finds fs known none) (over_left fs (names_alone known) d)
-
--- names of whose functions none is left are alike those that are seen
-pub left_seen : (fs : List FunDecl) (known : List Known) (found : Names) → names_differ fs ≡ true → (needs_of fs).calls ≡ false → found.globals ≡ known → found.locals ≡ []
-    → AreLeft [] fs (names_alone known) found.funs → SeeAlike found (seen fs known)
-left_seen fs known found d none globals locals h =
-    let over = none_left fs (names_alone known) found.funs d h in
-    let all = one_finds fs known none in
-    record {
-      globals = globals;
-      locals = locals;
-      funs = λ name. over.funs name ∙ ap (fun_named name) all;
-      count = over.count ∙ ap length all;
-    }

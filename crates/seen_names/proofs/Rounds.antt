@@ -15,7 +15,6 @@ use Rattle.cal_check.specs.Actors.{at_rest}
 use Rattle.cal_check.specs.Routines.{FunDecl, fun_judged, funs_after, funs_over, with_fun}
 use Rattle.cal_check.specs.Variables.{seen}
 use Rattle.seen_names.specs.Known.{AreNew, all_known, is_named_in, known_at, known_view, names_alone, names_differ}
-use Rattle.seen_names.specs.Needs.{AreEnough}
 use Rattle.seen_names.specs.declared.known.KnownName.{KnownName}
 
 -- ---- tests
@@ -130,11 +129,6 @@ pub rounds_all : (n : ℕ) (all : List FunDecl) (known : List Known) (env : Kept
 rounds_all n all known env e h =
     names_so known (funs_after n all (names_alone known)) env h.globals h.funs
     ∙ ap (λ m. record { globals = known; locals = []; funs = funs_after m all (names_alone known) }) e
-
-pub rounds_enough : (n : ℕ) (all : List FunDecl) (known : List Known) (env : Kept) → AreEnough n all → AreRounds n all known env → names_in env ≡ seen all known
-rounds_enough n all known env e h =
-    names_so known (funs_after n all (names_alone known)) env h.globals h.funs
-    ∙ ap (λ fs. record { globals = known; locals = []; funs = fs }) (e (names_alone known))
 
 -- ---- names
 

@@ -1,35 +1,29 @@
--- Functions that are found in rounds, over names of which those that the functions use mean the same.
-use Rattle.std.proofs.Common.{◌≡◌, ℕ, zero, suc, Bool, true, false, List, [], ◌∷◌, ◌++◌, length, refl, ap, subst, ◌∙◌, Option, None, Some}
-use Rattle.std.specs.Prelude.{◌||◌, if◌then◌else◌}
+-- What functions give over variables and calls of which those that they use give the same.
+use Rattle.std.proofs.Common.{◌≡◌, ℕ, true, List, [], ◌∷◌, ◌++◌, refl, ap, subst, ◌∙◌, Option, None, Some}
+use Rattle.std.specs.Prelude.{if◌then◌else◌}
 use Rattle.std.specs.Str.{bytes_eq}
 use Rattle.cal_ast.specs.Tree as tree
 use Rattle.cal_ast.specs.Tree.{Tree}
 use Rattle.cal_model.specs.Actor.{Fun, Local}
-use Rattle.cal_model.specs.Call.{answered, arguments, calls_of, calls_within, declared, first_value, fun_named}
+use Rattle.cal_model.specs.Call.{answered, arguments, declared, first_value}
 use Rattle.cal_model.specs.Env.{Env, Var, find, variable, with_local}
 use Rattle.cal_model.specs.Expression.{Calls, eval}
-use Rattle.cal_model.specs.Kinding.{Judged, Fine, Broken, Known, Names, constants, known_as}
+use Rattle.cal_model.specs.Kinding.{Judged, Fine, Broken, Names}
 use Rattle.cal_model.specs.Outcome.{Out, Gives, Traps, Lacks, Clashes, and_then, needed}
-use Rattle.cal_model.specs.Sound.{Each, with_locals}
+use Rattle.cal_model.specs.Sound.{with_locals}
 use Rattle.cal_model.specs.Value.{Shape, Single, Value, Values, stored}
 use Rattle.cal_model.proofs.KindValues.{fine-is, not-fine, split}
 use Rattle.cal_check.specs.Actors.{uses}
-use Rattle.cal_check.specs.Routines.{FunDecl, Head, fun_if, fun_judged, funs_after, funs_over, head_judged, with_fun}
+use Rattle.cal_check.specs.Routines.{Head, fun_if, fun_judged, head_judged}
 use Rattle.cal_check.specs.Statements.{names_behind}
 use Rattle.cal_check.specs.Uses.{OnlyUses}
 use Rattle.cal_check.specs.Written.{behind_vars}
-use Rattle.cal_check.proofs.FittingValues.{named-one}
-use Rattle.cal_check.proofs.UsedNames.{only-uses}
 use Rattle.cal_check.proofs.WrittenUses.{EachStart, OfStart, locals-use, written-uses}
-use Rattle.seen_names.specs.Known.{names_alone}
-use Rattle.seen_names.specs.Needs.{any_uses}
-use Rattle.seen_names.proofs.Bare.{AllSay, uses_says}
-use Rattle.seen_names.proofs.SameFuns.{over-same}
-use Rattle.seen_names.proofs.SameKinds.{found-same}
+use Rattle.seen_names.proofs.Bare.{uses_says}
 use Rattle.seen_names.proofs.SameValues.{SeeSame, eval-same, more-same}
 
 -- what a function gives, if there is one
-abbrev given_by : Option Fun → Calls → List Var → Values → ℕ → Out Value
+abbrev pub given_by : Option Fun → Calls → List Var → Values → ℕ → Out Value
 given_by o calls globals args left = elim o [ None ↦ Lacks | Some f ↦ answered f calls globals args left ]
 
 module _ (P : List ℕ → Type 0) where
@@ -44,19 +38,19 @@ module _ (P : List ℕ → Type 0) where
   found-behind (x ∷ vars) g h s = λ name p. ap (λ o. if bytes_eq x.name name then Some x.value else o) (found-behind vars g h s name p)
 
   module _ (c d : Calls) where
-    first-same : (t : Shape) (start : Option Tree) (x y : Env) (left : ℕ) → SeeSame P (Unit {0}) c d x y → OfStart (OnlyUses P) start
+    first-same : (t : Shape) (start : Option Tree) (x y : Env) (left : ℕ) → SeeSame P P c d x y → OfStart (OnlyUses P) start
         → first_value t start c x left ≡ first_value t start d y left
     first-same t None x y left s u = refl
-    first-same t (Some e) x y left s u = ap (λ o. and_then o (λ v k. Gives (stored t v) k)) (eval-same P (Unit {0}) c d e x y left s (uses_says P true e u))
+    first-same t (Some e) x y left s u = ap (λ o. and_then o (λ v k. Gives (stored t v) k)) (eval-same P P c d e x y left s (uses_says P true e u))
 
-    declared-same : {B : Type 0} (xs : List Local) (x y : Env) (left : ℕ) (f g : Env → ℕ → Out B) → SeeSame P (Unit {0}) c d x y → EachStart (OnlyUses P) xs
-        → ((v w : Env) (k : ℕ) → SeeSame P (Unit {0}) c d v w → f v k ≡ g w k) → and_then (declared xs c x left) f ≡ and_then (declared xs d y left) g
+    declared-same : {B : Type 0} (xs : List Local) (x y : Env) (left : ℕ) (f g : Env → ℕ → Out B) → SeeSame P P c d x y → EachStart (OnlyUses P) xs
+        → ((v w : Env) (k : ℕ) → SeeSame P P c d v w → f v k ≡ g w k) → and_then (declared xs c x left) f ≡ and_then (declared xs d y left) g
     declared-same [] x y left f g s u h = h x y left s
     declared-same {B} (z ∷ zs) x y left f g s u h =
         ap (λ o. and_then (and_then o (λ v m. declared zs c (with_local (variable z.name z.shape z.changes v) x) m)) f) (first-same z.shape z.start x y left s u.0)
         ∙ go (first_value z.shape z.start d y left)
         (λ v m. declared-same zs (with_local (variable z.name z.shape z.changes v) x) (with_local (variable z.name z.shape z.changes v) y) m f g
-        (more-same P (Unit {0}) c d (variable z.name z.shape z.changes v) x y s) u.1 h)
+        (more-same P P c d (variable z.name z.shape z.changes v) x y s) u.1 h)
       where
         go : (o : Out Value)
             → ((v : Value) (m : ℕ) → and_then (declared zs c (with_local (variable z.name z.shape z.changes v) x) m) f ≡ and_then (declared zs d (with_local (variable z.name z.shape z.changes v) y) m) g)
@@ -67,8 +61,8 @@ module _ (P : List ℕ → Type 0) where
         go Lacks less = refl
         go Clashes less = refl
 
-    answered-same : (f : Fun) (g h : List Var) (args : Values) (left : ℕ) → FoundSame g h
-        → ((name : List ℕ) (vs : Values) (k : ℕ) → c g name vs k ≡ d h name vs k) → EachStart (OnlyUses P) f.locals → OnlyUses P f.body
+    pub answered-same : (f : Fun) (g h : List Var) (args : Values) (left : ℕ) → FoundSame g h
+        → ((name : List ℕ) → P name → (vs : Values) (k : ℕ) → c g name vs k ≡ d h name vs k) → EachStart (OnlyUses P) f.locals → OnlyUses P f.body
         → answered f c g args left ≡ answered f d h args left
     answered-same f g h args left s calls starts body = go (arguments f.formals args)
       where
@@ -80,25 +74,13 @@ module _ (P : List ℕ → Type 0) where
         go None = refl
         go (Some vars) =
             declared-same f.locals (record { globals = g; locals = vars }) (record { globals = h; locals = vars }) left _ _
-            (record { names = found-behind vars g h s; given = λ u. calls }) starts (λ v w k a.
-            ap (λ o. and_then o (λ z m. Gives (stored (Single f.result) z) m)) (eval-same P (Unit {0}) c d f.body v w k a (uses_says P true f.body body)))
+            (record { names = found-behind vars g h s; given = calls }) starts (λ v w k a.
+            ap (λ o. and_then o (λ z m. Gives (stored (Single f.result) z) m)) (eval-same P P c d f.body v w k a (uses_says P true f.body body)))
 
   -- the variables and functions that a function uses are such
   pub record FunUses (f : Fun) : Type 0 where
     pub locals : EachStart (OnlyUses P) f.locals
     pub body : OnlyUses P f.body
-
-  within-same : (n : ℕ) (fs : List Fun) (g h : List Var) → FoundSame g h → Each FunUses fs → (name : List ℕ) (args : Values) (left : ℕ)
-      → calls_within n fs g name args left ≡ calls_within n fs h name args left
-  within-same zero fs g h s u name args left = refl
-  within-same (suc n) fs g h s u name args left = go (fun_named name fs) refl (λ other vs k. within-same n fs g h s u other vs k)
-    where
-      go : (o : Option Fun) → fun_named name fs ≡ o → ((other : List ℕ) (vs : Values) (k : ℕ) → calls_within n fs g other vs k ≡ calls_within n fs h other vs k)
-          → given_by o (calls_within n fs) g args left ≡ given_by o (calls_within n fs) h args left
-      go None e less = refl
-      go (Some f) e less =
-          let is = named-one FunUses name fs f u e in
-          answered-same (calls_within n fs) (calls_within n fs) f g h args left s less is.0.locals is.0.body
 
   -- ---- functions that are found
 
@@ -107,57 +89,9 @@ module _ (P : List ℕ → Type 0) where
       record { locals = locals-use P vars (with_locals head.formals names) u; body = written-uses P body (behind_vars vars (with_locals head.formals names)) w }
   made-uses (Broken rule at) full head vars body names u w = record { locals = tt; body = tt }
 
-  fun-uses : (full : List ℕ) (decl : Tree) (names : Names) (g : Fun) → OnlyUses P decl → fun_judged full decl names ≡ Fine g → FunUses g
+  pub fun-uses : (full : List ℕ) (decl : Tree) (names : Names) (g : Fun) → OnlyUses P decl → fun_judged full decl names ≡ Fine g → FunUses g
   fun-uses full (tree.function name formals result vars body at) names g u h =
       let s = split (head_judged (tree.function name formals result vars body at) names) (λ head. Fine (fun_if (names_behind vars (with_locals head.formals names)) full head vars body names)) g h in
       let made : FunUses (fun_if (names_behind vars (with_locals s.0.formals names)) full s.0 vars body names) = made-uses (names_behind vars (with_locals s.0.formals names)) full s.0 vars body names u.2 u.3 in
       subst (λ k. FunUses k) (fine-is _ g s.2) made
   fun-uses full other names g u h = absurd (not-fine _ 0 g h)
-
-  over-uses : (fs : List FunDecl) (names : Names) → Each (λ f. OnlyUses P f.decl) fs → Each FunUses (funs_over fs names)
-  over-uses [] names u = tt
-  over-uses (f ∷ fs) names u = go (fun_judged f.name f.decl names) (λ g e. fun-uses f.name f.decl names g u.0 e) (over-uses fs names u.1)
-    where
-      go : (j : Judged Fun) → ((g : Fun) → j ≡ Fine g → FunUses g) → Each FunUses (funs_over fs names) → Each FunUses (with_fun j (funs_over fs names))
-      go (Fine g) h rest = (h g refl, rest)
-      go (Broken rule at) h rest = rest
-
-  after-uses : (k : ℕ) (fs : List FunDecl) (names : Names) → Each (λ f. OnlyUses P f.decl) fs → Each FunUses (funs_after k fs names)
-  after-uses zero fs names u = tt
-  after-uses (suc k) fs names u = over-uses fs (record names { funs = funs_after k fs names }) u
-
-  all-say : (fs : List FunDecl) → Each (λ f. OnlyUses P f.decl) fs → AllSay P (Unit {0}) fs
-  all-say [] u = tt
-  all-say (f ∷ fs) u = (uses_says P false f.decl u.0, all-say fs u.1)
-
-  -- functions that use only names of which P holds are the same over names that mean the same by these
-  pub after-called : (k : ℕ) (fs : List FunDecl) (ks ls : List Known) → ((name : List ℕ) → P name → known_as name ks ≡ known_as name ls) → Each (λ f. OnlyUses P f.decl) fs
-      → funs_after k fs (names_alone ks) ≡ funs_after k fs (names_alone ls)
-  after-called zero fs ks ls s u = refl
-  after-called (suc k) fs ks ls s u =
-      let same = after-called k fs ks ls s u in
-      let there = funs_after k fs (names_alone ls) in
-      over-same P (Unit {0}) fs (record (names_alone ks) { funs = funs_after k fs (names_alone ks) }) (record (names_alone ls) { funs = funs_after k fs (names_alone ls) })
-      (record {
-        names = s;
-        funs = λ c name. ap (fun_named name) same;
-        given = λ c name args left.
-            ap (λ gs. calls_of gs (constants ks) name args left) same
-            ∙ within-same (length there) there (constants ks) (constants ls) (λ n p. found-same n ks ls (s n p)) (after-uses k fs (names_alone ls) u) name args left;
-      })
-      (all-say fs u)
-
--- ---- names that are used
-
-or-left : (a b : Bool) → a ≡ true → (a || b) ≡ true
-or-left true b h = refl
-or-left false b h = cc
-
-or-right : (a b : Bool) → b ≡ true → (a || b) ≡ true
-or-right true b h = refl
-or-right false b h = h
-
-pub all-use : (P : List ℕ → Type 0) (fs : List FunDecl) → ((name : List ℕ) → any_uses name fs ≡ true → P name) → Each (λ f. OnlyUses P f.decl) fs
-all-use P [] h = tt
-all-use P (f ∷ fs) h =
-    (only-uses P f.decl (λ name e. h name (or-left (uses name f.decl) (any_uses name fs) e)), all-use P fs (λ name e. h name (or-right (uses name f.decl) (any_uses name fs) e)))

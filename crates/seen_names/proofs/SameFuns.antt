@@ -11,7 +11,7 @@ use Rattle.cal_model.specs.Value.{Shape}
 use Rattle.cal_check.specs.Routines.{FunDecl, Head, formal_judged, formal_of, formals_judged, fun_if, fun_judged, fun_of, funs_over, head_judged, local_of, locals_of, result_judged, shape_of, single, single_type, start_of, with_fun}
 use Rattle.cal_check.specs.Statements.{behind, names_behind}
 use Rattle.cal_check.specs.Written.{behind_vars, by_number, constant_written, gens_written, with_inner, written}
-use Rattle.seen_names.proofs.Bare.{AllSay, SaysOnly}
+use Rattle.seen_names.proofs.Bare.{AllSay, No, SaysOnly}
 use Rattle.seen_names.proofs.SameKinds.{MeanSame, and-same, counters-same, kind-same, more-same, number-same, type-same}
 
 abbrev is_fine : {A : Type 0} → Judged A → Bool
@@ -21,7 +21,7 @@ is_fine (Broken rule at) = false
 abbrev made : List ℕ → Head → List Local → Tree → Fun
 made name head locals body = record { name = name; formals = head.formals; locals = locals; result = head.result; body = body }
 
-module _ (P : List ℕ → Type 0) (C : Type 0) where
+module _ (P : List ℕ → Type 0) (C : List ℕ → Type 0) where
   -- ---- what is written out
 
   constant-written-same : (e : Tree) (n m : Names) → MeanSame P C n m → SaysOnly P C true e → constant_written e n ≡ constant_written e m
@@ -167,5 +167,5 @@ abbrev pub NamesSame : (List ℕ → Type 0) → Names → Names → Type 0
 NamesSame P n m = (name : List ℕ) → P name → meant_by name n ≡ meant_by name m
 
 -- whatever functions there are, if none may be called
-pub mean_names : (P : List ℕ → Type 0) (n m : Names) → NamesSame P n m → MeanSame P ⊥ n m
-mean_names P n m s = record { names = s; funs = λ c. absurd c; given = λ c. absurd c }
+pub mean_names : (P : List ℕ → Type 0) (n m : Names) → NamesSame P n m → MeanSame P No n m
+mean_names P n m s = record { names = s; funs = λ name c. absurd c; given = λ name c. absurd c }

@@ -44,12 +44,12 @@ call-same None args at n m h = refl
 call-same (Some f) args at n m h =
     ap (λ j. and_so j (λ as_many. if as_many then Fine (kind_of_scalar f.result) else Broken wrong_number_of_arguments at)) (h f.formals)
 
-module _ (P : List ℕ → Type 0) (C : Type 0) where
-  -- the names of which P holds mean the same; if calls are allowed, the functions of each name are the same and give the same
+module _ (P : List ℕ → Type 0) (C : List ℕ → Type 0) where
+  -- the names of which P holds mean the same; the functions that may be called are the same and give the same
   pub record MeanSame (n m : Names) : Type 0 where
     pub names : (name : List ℕ) → P name → meant_by name n ≡ meant_by name m
-    pub funs : C → (name : List ℕ) → fun_named name n.funs ≡ fun_named name m.funs
-    pub given : C → (name : List ℕ) (args : Values) (left : ℕ)
+    pub funs : (name : List ℕ) → C name → fun_named name n.funs ≡ fun_named name m.funs
+    pub given : (name : List ℕ) → C name → (args : Values) (left : ℕ)
         → calls_of n.funs (constants n.globals) name args left ≡ calls_of m.funs (constants m.globals) name args left
 
   pub more-same : (x : Known) (n m : Names) → MeanSame n m → MeanSame (with_known x n) (with_known x m)
@@ -91,7 +91,7 @@ module _ (P : List ℕ → Type 0) (C : Type 0) where
     kind-same (tree.truth b at) n m s r = refl
     kind-same (tree.variable name at) n m s r = ap (λ o. kind_meant o at) (s.names name r)
     kind-same (tree.call name args at) n m s r =
-        ap (λ o. of_call o args at n) (s.funs r.0 name) ∙ call-same (fun_named name m.funs) args at n m (λ fs. fit-same args fs n m s r.1)
+        ap (λ o. of_call o args at n) (s.funs name r.0) ∙ call-same (fun_named name m.funs) args at n m (λ fs. fit-same args fs n m s r.1)
     kind-same (tree.paren e at) n m s r = kind-same e n m s r
     kind-same (tree.if_expr test first other at) n m s r =
         and-same (kind test n) (kind test m) _ _ (kind-same test n m s r.0)

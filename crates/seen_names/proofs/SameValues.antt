@@ -50,14 +50,14 @@ each-same (suc n) i f g left h =
     then-same (f i left) (g i left) _ _ (h i left) (λ vs m.
     ap (λ o. and_then o (λ ws k. Gives (joined vs ws) k)) (each-same n (i +ℤ pos 1) f g m h))
 
-module _ (P : List ℕ → Type 0) (C : Type 0) where
+module _ (P : List ℕ → Type 0) (C : List ℕ → Type 0) where
   module _ (c d : Calls) where
     -- ---- environments
 
     -- the names of which P holds mean the same, and functions give the same if calls are allowed
     pub record SeeSame (x y : Env) : Type 0 where
       pub names : (name : List ℕ) → P name → look_up name x ≡ look_up name y
-      pub given : C → (name : List ℕ) (args : Values) (left : ℕ) → c x.globals name args left ≡ d y.globals name args left
+      pub given : (name : List ℕ) → C name → (args : Values) (left : ℕ) → c x.globals name args left ≡ d y.globals name args left
 
     pub more-same : (z : Var) (x y : Env) → SeeSame x y → SeeSame (with_local z x) (with_local z y)
     more-same z x y s = record {
@@ -73,7 +73,7 @@ module _ (P : List ℕ → Type 0) (C : Type 0) where
       eval-same (tree.truth b at) x y left s r = refl
       eval-same (tree.variable name at) x y left s r = ap (λ o. known o left) (s.names name r)
       eval-same (tree.call name args at) x y left s r =
-          then-same (eval_all args c x left) (eval_all args d y left) _ _ (all-same args x y left s r.1) (λ vs m. turn-same m _ _ (λ k. s.given r.0 name vs k))
+          then-same (eval_all args c x left) (eval_all args d y left) _ _ (all-same args x y left s r.1) (λ vs m. turn-same m _ _ (λ k. s.given name r.0 vs k))
       eval-same (tree.paren e at) x y left s r = eval-same e x y left s r
       eval-same (tree.if_expr test first other at) x y left s r =
           then-same (eval test c x left) (eval test d y left) _ _ (eval-same test x y left s r.0) (λ v m.

@@ -1,6 +1,6 @@
 -- What functions need where they stand: the names that are said in what must be constant in them, the sizes of types and
--- the bounds of generators, and whether a function is called there.
--- Trusted but for `AddsTo`, `AddsNeeds`, `AreEnough`, `with_both`, `with_three`, `with_comp` and the lists of parts as
+-- the bounds of generators, and the functions that are called there.
+-- Trusted but for `AddsTo`, `AddsNeeds`, `with_both`, `with_three`, `with_comp` and the lists of parts as
 -- trees: part of what a promise means.
 use Rattle.std.specs.Prelude.{◌≡◌, ℕ, Bool, true, false, ◌||◌, List, [], ◌∷◌, OnOk, length, map, if◌then◌else◌}
 use Rattle.std.specs.declared.result.Result.{Result}
@@ -13,18 +13,16 @@ use Rattle.cal_ast.specs.declared.expr.Gen.{Gen}
 use Rattle.cal_ast.specs.declared.expr.TypeArg.{TypeArg}
 use Rattle.cal_ast.specs.declared.member.PortDecl.{PortDecl}
 use Rattle.cal_ast.specs.declared.member.VarDecl.{VarDecl}
-use Rattle.cal_model.specs.Kinding.{Names}
 use Rattle.cal_model.specs.Tags.{with_seen}
-use Rattle.cal_check.specs.Actors.{uses}
-use Rattle.cal_check.specs.Routines.{FunDecl, funs_after}
+use Rattle.cal_check.specs.Routines.{FunDecl}
 
--- names in order of first appearance, and whether something is called
+-- names, and names of functions that are called, in order of first appearance
 pub record Needed : Type 0 where
   pub names : List (List ℕ)
-  pub calls : Bool
+  pub calls : List (List ℕ)
 
 abbrev pub nothing : Needed
-nothing = record { names = []; calls = false }
+nothing = record { names = []; calls = [] }
 
 -- a name is said, or a function is called, in what must be constant or elsewhere
 
@@ -32,13 +30,15 @@ abbrev pub with_name : Bool → List ℕ → Needed → Needed
 with_name constant name n =
     if constant then record { names = with_seen n.names name; calls = n.calls } else n
 
-abbrev pub with_call : Bool → Needed → Needed
-with_call constant n = if constant then record { names = n.names; calls = true } else n
+abbrev pub with_call : Bool → List ℕ → Needed → Needed
+with_call constant name n =
+    if constant then record { names = n.names; calls = with_seen n.calls name } else n
 
 -- what a part needs besides, all of which must be constant or not
 abbrev pub with_needs : Bool → Tree → Needed → Needed
 with_needs constant (tree.variable text at) n = with_name constant text n
-with_needs constant (tree.call text args at) n = with_needs constant args (with_call constant n)
+with_needs constant (tree.call text args at) n =
+    with_needs constant args (with_call constant text n)
 with_needs constant (tree.cons t ts) n = with_needs constant ts (with_needs constant t n)
 with_needs constant (tree.present t) n = with_needs constant t n
 with_needs constant (tree.paren e at) n = with_needs constant e n
@@ -70,11 +70,6 @@ with_funs_needs (f ∷ fs) n = with_funs_needs fs (with_needs false f.decl n)
 
 abbrev pub needs_of : List FunDecl → Needed
 needs_of fs = with_funs_needs fs nothing
-
--- some function uses the name, as a variable or a function, anywhere
-abbrev pub any_uses : List ℕ → List FunDecl → Bool
-any_uses name [] = false
-any_uses name (f ∷ fs) = uses name f.decl || any_uses name fs
 
 -- ---- what calls answer
 
@@ -113,9 +108,3 @@ formals_tree formals = listed (map port_tree formals)
 
 abbrev pub vars_tree : List VarDecl → Tree
 vars_tree vars = listed (map var_tree vars)
-
--- ---- rounds
-
--- so many rounds find all functions
-abbrev pub AreEnough : ℕ → List FunDecl → Type 0
-AreEnough n fs = (names : Names) → funs_after n fs names ≡ funs_after (length fs) fs names

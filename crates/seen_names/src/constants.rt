@@ -20,7 +20,7 @@ fn add_expr(needs: &mut Needs, constant: bool, e: &Expr) -> Result<(), Memory>
         ExprForm::Number(_) => Ok(()),
         ExprForm::Bool(_) => Ok(()),
         ExprForm::Name(name) => needs.add_name(constant, name.as_str()),
-        ExprForm::Call { name: _, args } => add_call(needs, constant, args),
+        ExprForm::Call { name, args } => add_call(needs, constant, name.as_str(), args),
         ExprForm::Paren(inner) => add_expr(needs, constant, inner),
         ExprForm::If { test, yes, no } => add_three(needs, constant, test, yes, no),
         ExprForm::List(items) => add_exprs(needs, constant, items),
@@ -33,11 +33,12 @@ fn add_expr(needs: &mut Needs, constant: bool, e: &Expr) -> Result<(), Memory>
 
 /// Adds what a call with these arguments needs.
 #[cycle(needs)]
-fn add_call(needs: &mut Needs, constant: bool, args: &[Expr]) -> Result<(), Memory>
-    ensures { AddsTo result (λ n. with_needs constant (exprs_tree args.now) (with_call constant n))
+fn add_call(needs: &mut Needs, constant: bool, name: &str, args: &[Expr]) -> Result<(), Memory>
+    ensures { AddsTo result
+        (λ n. with_needs constant (exprs_tree args.now) (with_call constant name.now n))
         needs.old needs.new }
 {
-    needs.add_call(constant);
+    needs.add_call(constant, name)?;
     add_exprs(needs, constant, args)
 }
 

@@ -4,41 +4,38 @@ ghost use Rattle.std.specs.Prelude.{◌≡◌, ◌∷◌, IfOk, IsSome, List, On
 ghost use Rattle.cal_check.specs.Routines.{FunDecl};
 ghost use Rattle.cal_check.specs.Variables.{seen};
 ghost use Rattle.cal_model.specs.Kinding.{Known};
-ghost use Rattle.seen_names.specs.Growing.{AreRenewed, Grows, IsKept, IsMade, IsSame, kept_in, with_alone, with_left, with_used};
+ghost use Rattle.seen_names.specs.Growing.{AreRenewed, Grows, IsKept, IsMade, IsSame, kept_in, with_alone, with_left};
 ghost use Rattle.seen_names.specs.Known.{all_known, fun_decls, known_view, names_differ};
 ghost use Rattle.seen_names.specs.Left.{Leaves};
+ghost use Rattle.seen_names.specs.Order.{changes_all};
 ghost use Rattle.seen_names.specs.Said.{places_in};
 
-use crate::constants::needs_of;
 use crate::declared::DeclaredFun;
 use crate::known::{KnownName, add_name, names_alone};
-use crate::needs::Needs;
+use crate::order::{Order, order_of};
 use crate::renewing::{leave, renew_each};
 use crate::said::{Said, said_in};
 use crate::seen::seen_over;
-use crate::using::names_used;
-use const_eval::{Env, Names};
+use const_eval::Env;
 use indexmap::IndexSet;
 use rvc_base::Memory;
 use std::alloc::Global;
 use std::marker::Model;
-use used_names::NameSet;
 
 /// Names that become known one after the other: alone, and with all functions that are seen over them.
 ///
 /// The names with the functions are made when they are asked for, and stay. A name that becomes known is added to them.
-/// If no size and no bound in the functions calls one, each function depends on those names alone that it says there. So
-/// those that say the name are judged anew when the names with the functions are asked for next. If a size or a bound
-/// calls a function, each may be another once a name is known that any of them uses, and all is made anew then; so it is
-/// if a function that was found breaks a rule in its head now.
+/// A function depends on the names that it says in its sizes and bounds, and on those that the functions use which it calls
+/// there. So those that say the name are judged anew when the names with the functions are asked for next. All is made
+/// anew then if a function uses the name that is called in some size or bound, directly or indirectly; so it is if a
+/// function that was found breaks a rule in its head now.
 #[derive(Drop)]
 pub struct GrowingNames {
     alloc: Global,
     alone: Env,
-    needs: Needs,
+    /// What is called in sizes and bounds, and the names that it uses.
+    order: Option<Order>,
     said: Said,
-    /// The names that the functions use anywhere.
-    used: NameSet,
     seen: Option<Env>,
     /// The places of the functions that are to be judged anew before those names are asked for.
     left: IndexSet<usize>,
@@ -57,9 +54,8 @@ impl Model for GrowingNames {
 
     ghost view = { λ names. record {
       alone = names.alone;
-      needs = names.needs;
+      order = names.order;
       said = names.said;
-      used = names.used;
       seen = names.seen;
       left = names.left.keys;
     } };
@@ -79,15 +75,13 @@ impl GrowingNames {
         ensures { IfOk result (λ names. IsKept (kept_in names) (fun_decls funs.now) (all_known known.now)) }
     {
         let alone = names_alone(alloc, known)?;
-        let needs = needs_of(alloc, funs)?;
+        let order = order_of(alloc, funs)?;
         let said = said_in(alloc, funs)?;
-        let used = names_used(alloc, funs)?;
         Ok(GrowingNames {
             alloc,
             alone,
-            needs,
+            order,
             said,
-            used,
             seen: None,
             left: IndexSet::new(alloc),
         })
@@ -128,7 +122,7 @@ impl GrowingNames {
             self.left.clear();
             return Ok(());
         }
-        let env = seen_over(self.alloc, known, funs, self.needs.calls())?;
+        let env = seen_over(self.alloc, known, funs, &self.order)?;
         self.left.clear();
         self.seen = Some(env);
         Ok(())
@@ -140,9 +134,8 @@ impl GrowingNames {
         ensures renewed { IfOk result (λ fits. fits ≡ true
             → AreRenewed (fun_decls funs.now) (kept_in self.old) (kept_in self.new)) }
     {
-        let names = Names::outermost(self.alloc, &self.alone);
         match &mut self.seen {
-            Some(env) => renew_each(env, &names, self.left.as_slice(), funs),
+            Some(env) => renew_each(env, self.alloc, self.left.as_slice(), funs),
             None => Ok(false),
         }
     }
@@ -168,28 +161,24 @@ impl GrowingNames {
         add_name(&mut self.alone, self.alloc, x)
     }
 
-    /// Adds a name to those with functions, if they are kept.
+    /// Adds a name to those with functions, if they are kept. They aren't if all functions may be others now.
     fn add_seen(&mut self, x: &KnownName) -> Result<(), Memory>
         ensures { OnOk result (Grows (known_view x.now) (kept_in self.old) (kept_in self.new)) }
     {
-        if self.needs.calls() {
-            return self.add_used(x);
+        if self.changes_all(x.name.as_str()) {
+            self.seen = None;
+            return Ok(());
         }
         self.add_said(x)
     }
 
-    /// Adds a name to those with functions, if no function uses it; else they aren't kept.
-    fn add_used(&mut self, x: &KnownName) -> Result<(), Memory>
-        ensures { OnOk result (kept_in self.new
-            ≡ with_used (known_view x.now) (kept_in self.old)) }
+    /// Whether all functions may be others once a name is known.
+    fn changes_all(&self, name: &str) -> bool
+        ensures { result ≡ changes_all name.now self.now.order }
     {
-        if self.used.contains(x.name.as_str()) {
-            self.seen = None;
-            return Ok(());
-        }
-        match &mut self.seen {
-            Some(env) => add_name(env, self.alloc, x),
-            None => Ok(()),
+        match &self.order {
+            Some(order) => order.contains(name),
+            None => true,
         }
     }
 

@@ -12,11 +12,10 @@ mod declared;
 mod growing;
 mod known;
 mod needs;
+mod order;
 mod renewing;
 mod said;
 mod seen;
-mod settling;
-mod using;
 
 pub use calls::{alike_names_suffice, calls_alone_need_functions, calls_any, type_calls_any};
 pub use declared::{DeclaredFun, names_differ};

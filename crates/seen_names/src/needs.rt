@@ -5,27 +5,25 @@ ghost use Rattle.seen_names.specs.Needs.{nothing, with_call, with_name};
 ghost use Rattle.seen_names.specs.Said.{Says};
 
 use crate::said::Said;
-use indexmap::IndexSet;
 use rvc_base::Memory;
 use std::alloc::Global;
 use std::marker::Model;
+use used_names::NameSet;
 
-/// The names that are said in what must be constant in functions, and whether a function is called there. What must be
+/// The names that are said in what must be constant in functions, and the functions that are called there. What must be
 /// constant are the sizes of types and the bounds of generators.
 #[derive(Drop)]
 pub(crate) struct Needs {
-    alloc: Global,
-    names: IndexSet<String>,
-    calls: bool,
+    names: NameSet,
+    calls: NameSet,
 }
 
 impl Model for Needs {
-    ghost use Rattle.std.specs.Prelude.{map, string_bytes};
     ghost use Rattle.seen_names.specs.Needs.{Needed};
 
     ghost Value = { Needed };
 
-    ghost view = { λ needs. record { names = map string_bytes needs.names.keys; calls = needs.calls } };
+    ghost view = { λ needs. record { names = needs.names; calls = needs.calls } };
 }
 
 impl Needs {
@@ -34,17 +32,16 @@ impl Needs {
         ensures { result ≡ nothing }
     {
         Needs {
-            alloc,
-            names: IndexSet::new(alloc),
-            calls: false,
+            names: NameSet::new(alloc),
+            calls: NameSet::new(alloc),
         }
     }
 
-    /// Whether a function is called.
-    pub fn calls(&self) -> bool
-        ensures { result ≡ self.now.calls }
+    /// The functions that are called.
+    pub fn calls(&self) -> &NameSet
+        ensures { result.now ≡ self.now.calls }
     {
-        self.calls
+        &self.calls
     }
 
     /// A name is said, in what must be constant or elsewhere.
@@ -52,20 +49,21 @@ impl Needs {
         ensures { OnOk result (self.new ≡ with_name constant name.now self.old) }
     {
         if constant {
-            let name = String::from_str(self.alloc, name)?;
-            let (_number, _is_new) = self.names.insert_full(name)?;
+            return self.names.add(name);
         }
         Ok(())
     }
 
     /// A function is called, in what must be constant or elsewhere.
-    pub fn add_call(&mut self, constant: bool)
-        ensures { self.new ≡ with_call constant self.old }
+    pub fn add_call(&mut self, constant: bool, name: &str) -> Result<(), Memory>
+        ensures { OnOk result (self.new ≡ with_call constant name.now self.old) }
     {
         if constant {
-            self.calls = true;
+            return self.calls.add(name);
         }
+        Ok(())
     }
+
     /// Says each name of a function that stands at a place.
     pub fn say(&self, said: &mut Said, place: usize) -> Result<(), Memory>
         ensures { OnOk result (Says self.now.names place said.old said.new) }

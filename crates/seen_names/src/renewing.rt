@@ -3,28 +3,38 @@
 ghost use Rattle.std.specs.Prelude.{◌≡◌, IfOk, OnOk, Some, slice_get, true};
 ghost use Rattle.cal_ast.specs.View.{function_tree};
 ghost use Rattle.cal_check.specs.Routines.{fun_judged};
-ghost use Rattle.const_env.specs.Counting.{names_view};
-ghost use Rattle.const_env.specs.Held.{globals_of, held};
+ghost use Rattle.cal_model.specs.View.{fun_view};
+ghost use Rattle.const_env.specs.Held.{names_in};
+ghost use Rattle.const_env.specs.Judging.{Judges};
 ghost use Rattle.seen_names.specs.Known.{fun_decls};
 ghost use Rattle.seen_names.specs.Left.{Leaves, renewed, renewed_at, renewed_by};
 
 use crate::declared::DeclaredFun;
-use cal_model::types_are_kept;
+use cal_model::{BoundFun, types_are_kept};
 use const_eval::{Env, KindFault, Names};
 use indexmap::IndexSet;
 use routine_build::fun_of;
 use rvc_base::Memory;
+use std::alloc::Global;
 
-/// Judges a function over these names, and puts it in the place of the one of its name. Tells whether that can be done:
-/// not if its head breaks a rule now, and didn't before.
-fn renew_fun(env: &mut Env, names: &Names, f: DeclaredFun) -> Result<bool, Memory>
-    ensures renewed { IfOk result (λ fits. fits ≡ true → renewed_by f.entry.name.now
-        (fun_judged f.entry.name.now (function_tree f.entry.decl.now) (names_view names.now))
-        (held env.old).funs ≡ Some (held env.new).funs) }
-    ensures same_names { OnOk result (globals_of env.new ≡ globals_of env.old) }
+/// A function as it is over these names and functions.
+pub(crate) fn judged_over(alloc: Global, env: &Env, f: DeclaredFun) -> Result<BoundFun, KindFault>
+    ensures { Judges fun_view result (fun_judged f.entry.name.now
+        (function_tree f.entry.decl.now) (names_in env.now)) }
+{
+    let names = Names::outermost(alloc, env);
+    fun_of(&names, f.name, f.decl)
+}
+
+/// Judges a function over these names and functions, and puts it in the place of the one of its name. Tells whether that
+/// can be done: not if its head breaks a rule now, and didn't before.
+fn renew_fun(env: &mut Env, alloc: Global, f: DeclaredFun) -> Result<bool, Memory>
+    ensures { IfOk result (λ fits. fits ≡ true → renewed_by f.entry.name.now
+        (fun_judged f.entry.name.now (function_tree f.entry.decl.now) (names_in env.old))
+        (names_in env.old) ≡ Some (names_in env.new)) }
 {
     types_are_kept();
-    match fun_of(names, f.name, f.decl) {
+    match judged_over(alloc, env, f) {
         Ok(fun) => {
             env.set_fun(fun)?;
             Ok(true)
@@ -37,17 +47,16 @@ fn renew_fun(env: &mut Env, names: &Names, f: DeclaredFun) -> Result<bool, Memor
 /// The same for the function at a place.
 fn renew_at(
     env: &mut Env,
-    names: &Names,
+    alloc: Global,
     place: usize,
     funs: &[DeclaredFun],
 ) -> Result<bool, Memory>
-    ensures renewed { IfOk result (λ fits. fits ≡ true
-        → renewed_at (slice_get (fun_decls funs.now) place) (names_view names.now) (held env.old).funs
-        ≡ Some (held env.new).funs) }
-    ensures same_names { OnOk result (globals_of env.new ≡ globals_of env.old) }
+    ensures { IfOk result (λ fits. fits ≡ true
+        → renewed_at (slice_get (fun_decls funs.now) place) (names_in env.old)
+        ≡ Some (names_in env.new)) }
 {
     match funs.get(place) {
-        Some(f) => renew_fun(env, names, *f),
+        Some(f) => renew_fun(env, alloc, *f),
         None => Ok(true),
     }
 }
@@ -55,18 +64,16 @@ fn renew_at(
 /// The same for those at these places, one after the other.
 pub(crate) fn renew_each(
     env: &mut Env,
-    names: &Names,
+    alloc: Global,
     places: &[usize],
     funs: &[DeclaredFun],
 ) -> Result<bool, Memory>
-    ensures renewed { IfOk result (λ fits. fits ≡ true
-        → renewed places.now (fun_decls funs.now) (names_view names.now) (held env.old).funs
-        ≡ Some (held env.new).funs) }
-    ensures same_names { OnOk result (globals_of env.new ≡ globals_of env.old) }
+    ensures { IfOk result (λ fits. fits ≡ true
+        → renewed places.now (fun_decls funs.now) (names_in env.old) ≡ Some (names_in env.new)) }
 {
     let mut rest = places;
     'places: while let Some((first, others)) = rest.split_first() {
-        if !renew_at(env, names, *first, funs)? {
+        if !renew_at(env, alloc, *first, funs)? {
             return Ok(false);
         }
         rest = others;

@@ -1,6 +1,6 @@
 //! Names with all functions that are seen over them.
 
-ghost use Rattle.std.specs.Prelude.{◌≡◌, ◌≤◌, ◌++◌, [], IfOk, OnOk, false, length, map, true};
+ghost use Rattle.std.specs.Prelude.{◌≡◌, ◌++◌, [], IfOk, OnOk, false, map, slice_get, true};
 ghost use Rattle.cal_ast.specs.View.{function_tree};
 ghost use Rattle.cal_check.specs.Actors.{at_rest};
 ghost use Rattle.cal_check.specs.Routines.{fun_judged, funs_over, with_fun};
@@ -9,12 +9,12 @@ ghost use Rattle.const_env.specs.Constants.{has_fun};
 ghost use Rattle.const_env.specs.Counting.{names_view};
 ghost use Rattle.const_env.specs.Held.{globals_of, held, last_first, names_in};
 ghost use Rattle.seen_names.specs.Known.{all_known, fun_decls, known_at, names_differ};
-ghost use Rattle.seen_names.specs.Needs.{AreEnough, needs_of};
+ghost use Rattle.seen_names.specs.Order.{AreOrdered, IsOrderOf, laid, laid_at, laid_by, laid_named};
 
-use crate::constants::needs_of;
 use crate::declared::DeclaredFun;
 use crate::known::{KnownName, names_without};
-use crate::settling::funs_stay;
+use crate::order::{Order, order_of};
+use crate::renewing::judged_over;
 use cal_model::types_are_kept;
 use const_eval::{Env, KindFault, Names};
 use routine_build::fun_of;
@@ -57,69 +57,114 @@ fn round(
     Ok(next)
 }
 
-/// How many rounds find all functions: one, if no size and no bound in them calls a function, and else as many as there are
-/// functions.
-#[tactic(auto, using(crate::proofs::OneRound::all_rounds, crate::proofs::OneRound::one_round))]
-fn rounds_needed(funs: &[DeclaredFun], calls: bool) -> usize
-    requires { calls ≡ (needs_of (fun_decls funs.now)).calls }
-    ensures enough { AreEnough result (fun_decls funs.now) }
-    ensures few { result ≤ length funs.now }
+/// Adds a function as it is over these names and functions, if its head breaks no rule there.
+fn lay_fun(env: &mut Env, alloc: Global, f: DeclaredFun) -> Result<(), Memory>
+    ensures { OnOk result (names_in env.new ≡ laid_by (fun_judged f.entry.name.now
+        (function_tree f.entry.decl.now) (names_in env.old)) (names_in env.old)) }
 {
-    if calls || funs.is_empty() {
-        return funs.len();
+    types_are_kept();
+    match judged_over(alloc, env, f) {
+        Ok(fun) => env.set_fun(fun),
+        Err(KindFault::Broken { .. }) => Ok(()),
+        Err(KindFault::Memory) => Err(Memory),
     }
-    1
 }
 
-/// One round more. Tells whether it is known that all further rounds find the same functions; it isn't sought if nothing
-/// that must be constant calls a function.
-fn advance(
-    alloc: Global,
-    at_rest: bool,
-    known: &[KnownName],
-    funs: &[DeclaredFun],
-    calls: bool,
-    env: &mut Env,
-) -> Result<bool, Memory>
-    requires { names_differ (fun_decls funs.now) ≡ true }
-    ensures names { OnOk result (globals_of env.new ≡ last_first (known_at at_rest) known.now []) }
-    ensures funs { OnOk result ((held env.new).funs ≡ funs_over (fun_decls funs.now) (names_in env.old)) }
-    ensures stay { IfOk result (λ stay. stay ≡ true
-        → funs_over (fun_decls funs.now) (names_in env.new) ≡ (held env.new).funs) }
-{
-    let next = round(alloc, at_rest, known, funs, env)?;
-    let stay = funs_stay(alloc, calls, env, &next, funs);
-    *env = next;
-    stay
-}
-
-/// Adds all functions to names without functions. A head may call functions in its sizes, so there may be as many rounds
-/// as functions; they are over once one of them finds what the one before it found.
-#[tactic(auto, using(crate::proofs::Settled::last_round, crate::proofs::Settled::one_further))]
-fn add_funs(
-    alloc: Global,
-    at_rest: bool,
-    known: &[KnownName],
-    funs: &[DeclaredFun],
-    calls: bool,
-    env: &mut Env,
-) -> Result<(), Memory>
-    requires differ { names_differ (fun_decls funs.now) ≡ true }
-    requires calls { calls ≡ (needs_of (fun_decls funs.now)).calls }
-    requires names { globals_of env.old ≡ last_first (known_at at_rest) known.now [] }
-    requires no_funs { (held env.old).funs ≡ [] }
+/// The same for the function at a place.
+fn lay_at(env: &mut Env, alloc: Global, place: usize, funs: &[DeclaredFun]) -> Result<(), Memory>
     ensures { OnOk result (names_in env.new
-        ≡ seen (fun_decls funs.now) (last_first (known_at at_rest) known.now [])) }
+        ≡ laid_at (slice_get (fun_decls funs.now) place) (names_in env.old)) }
 {
-    let needed = rounds_needed(funs, calls);
-    let mut rounds = 0usize;
-    'rounds: while rounds < needed {
-        if advance(alloc, at_rest, known, funs, calls, env)? {
-            return Ok(());
-        }
-        rounds += 1;
+    match funs.get(place) {
+        Some(f) => lay_fun(env, alloc, *f),
+        None => Ok(()),
+    }
+}
+
+/// The same for the function of a name, if it is one.
+fn lay_named(
+    env: &mut Env,
+    alloc: Global,
+    order: &Order,
+    funs: &[DeclaredFun],
+    name: &str,
+) -> Result<(), Memory>
+    ensures { OnOk result (names_in env.new
+        ≡ laid_named name.now order.now (fun_decls funs.now) (names_in env.old)) }
+{
+    match order.place(name) {
+        Some(place) => lay_at(env, alloc, place, funs),
+        None => Ok(()),
+    }
+}
+
+/// The same for each name of an order.
+fn lay_all(env: &mut Env, alloc: Global, order: &Order, funs: &[DeclaredFun]) -> Result<(), Memory>
+    ensures { OnOk result (names_in env.new
+        ≡ laid order.now.names order.now (fun_decls funs.now) (names_in env.old)) }
+{
+    let mut rest = order.as_slice();
+    'names: while let Some((first, others)) = rest.split_first() {
+        lay_named(env, alloc, order, funs, first.as_str())?;
+        rest = others;
     }
     Ok(())
+}
+
+/// All functions over names, to which those of an order are added one after the other.
+fn over_order(
+    env: &mut Env,
+    alloc: Global,
+    at_rest: bool,
+    known: &[KnownName],
+    funs: &[DeclaredFun],
+    order: &Order,
+) -> Result<Env, Memory>
+    requires differ { names_differ (fun_decls funs.now) ≡ true }
+    requires ordered { IsOrderOf order.now (fun_decls funs.now) }
+    requires names { globals_of env.old ≡ last_first (known_at at_rest) known.now [] }
+    requires no_funs { (held env.old).funs ≡ [] }
+    ensures { IfOk result (λ env. names_in env
+        ≡ seen (fun_decls funs.now) (last_first (known_at at_rest) known.now [])) }
+{
+    lay_all(env, alloc, order, funs)?;
+    round(alloc, at_rest, known, funs, env)
+}
+
+/// The names with all functions, whose calls have an order: those in it one after the other, and then all of them over
+/// these.
+fn in_order(
+    alloc: Global,
+    at_rest: bool,
+    known: &[KnownName],
+    funs: &[DeclaredFun],
+    order: &Order,
+) -> Result<Env, Memory>
+    requires differ { names_differ (fun_decls funs.now) ≡ true }
+    requires ordered { IsOrderOf order.now (fun_decls funs.now) }
+    ensures { IfOk result (λ env. names_in env
+        ≡ seen (fun_decls funs.now) (last_first (known_at at_rest) known.now [])) }
+{
+    let mut env = names_without(alloc, at_rest, known)?;
+    over_order(&mut env, alloc, at_rest, known, funs, order)
+}
+
+/// The names with all functions. A head may call functions in its sizes, so there are as many rounds as functions.
+fn in_rounds(
+    alloc: Global,
+    at_rest: bool,
+    known: &[KnownName],
+    funs: &[DeclaredFun],
+) -> Result<Env, Memory>
+    requires { names_differ (fun_decls funs.now) ≡ true }
+    ensures { IfOk result (λ env. names_in env
+        ≡ seen (fun_decls funs.now) (last_first (known_at at_rest) known.now [])) }
+{
+    let mut env = names_without(alloc, at_rest, known)?;
+    for _f in funs {
+        env = round(alloc, at_rest, known, funs, &env)?;
+    }
+    Ok(env)
 }
 
 /// The names with all functions.
@@ -128,16 +173,17 @@ fn with_funs(
     at_rest: bool,
     known: &[KnownName],
     funs: &[DeclaredFun],
-    calls: bool,
+    order: &Option<Order>,
 ) -> Result<Env, Memory>
     requires differ { names_differ (fun_decls funs.now) ≡ true }
-    requires calls { calls ≡ (needs_of (fun_decls funs.now)).calls }
+    requires ordered { AreOrdered order.now (fun_decls funs.now) }
     ensures { IfOk result (λ env. names_in env
         ≡ seen (fun_decls funs.now) (last_first (known_at at_rest) known.now [])) }
 {
-    let mut env = names_without(alloc, at_rest, known)?;
-    add_funs(alloc, at_rest, known, funs, calls, &mut env)?;
-    Ok(env)
+    match order {
+        Some(order) => in_order(alloc, at_rest, known, funs, order),
+        None => in_rounds(alloc, at_rest, known, funs),
+    }
 }
 
 /// What is seen of names that are known while values are sought: their values, and all functions over them. The names of
@@ -152,22 +198,22 @@ pub fn names_seen(alloc: Global, known: &[KnownName], funs: &[DeclaredFun]) -> R
     requires { names_differ (fun_decls funs.now) ≡ true }
     ensures { IfOk result (λ env. names_in env ≡ seen (fun_decls funs.now) (all_known known.now)) }
 {
-    let needs = needs_of(alloc, funs)?;
-    seen_over(alloc, known, funs, needs.calls())
+    let order = order_of(alloc, funs)?;
+    seen_over(alloc, known, funs, &order)
 }
 
-/// The same, once it is known whether what must be constant in the functions calls one.
+/// The same, once an order of what is called is known.
 pub(crate) fn seen_over(
     alloc: Global,
     known: &[KnownName],
     funs: &[DeclaredFun],
-    calls: bool,
+    order: &Option<Order>,
 ) -> Result<Env, Memory>
     requires differ { names_differ (fun_decls funs.now) ≡ true }
-    requires calls { calls ≡ (needs_of (fun_decls funs.now)).calls }
+    requires ordered { AreOrdered order.now (fun_decls funs.now) }
     ensures { IfOk result (λ env. names_in env ≡ seen (fun_decls funs.now) (all_known known.now)) }
 {
-    with_funs(alloc, false, known, funs, calls)
+    with_funs(alloc, false, known, funs, order)
 }
 
 /// What is seen of them inside an actor, once all values are known: of what changes only the kind.
@@ -186,6 +232,6 @@ pub fn names_at_rest(
     ensures { IfOk result (λ env. names_in env
         ≡ seen (fun_decls funs.now) (map at_rest (all_known known.now))) }
 {
-    let needs = needs_of(alloc, funs)?;
-    with_funs(alloc, true, known, funs, needs.calls())
+    let order = order_of(alloc, funs)?;
+    with_funs(alloc, true, known, funs, &order)
 }

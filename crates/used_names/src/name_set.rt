@@ -1,7 +1,7 @@
 //! Sets of names.
 
-ghost use Rattle.std.specs.Prelude.{◌≡◌, [], OnOk};
-ghost use Rattle.cal_model.specs.Tags.{is_seen, with_seen};
+ghost use Rattle.std.specs.Prelude.{◌≡◌, [], None, OnOk, Some, if◌then◌else◌, map, string_bytes};
+ghost use Rattle.cal_model.specs.Tags.{is_seen, number_of_name, with_seen};
 
 use indexmap::IndexSet;
 use rvc_base::Memory;
@@ -49,10 +49,24 @@ impl NameSet {
         Ok(())
     }
 
+    /// The names.
+    pub fn as_slice(&self) -> &[String]
+        ensures { map string_bytes result.now ≡ self.now }
+    {
+        self.names.as_slice()
+    }
+
     /// Whether a name is there.
     pub fn contains(&self, name: &str) -> bool
         ensures { result ≡ is_seen name.now self.now }
     {
         self.names.contains(name)
+    }
+    /// The number of a name: how many stand before it, or `None` if it isn't there.
+    pub fn number(&self, name: &str) -> Option<usize>
+        ensures { result ≡ (if is_seen name.now self.now
+            then Some (number_of_name name.now self.now) else None) }
+    {
+        self.names.get_index_of(name)
     }
 }

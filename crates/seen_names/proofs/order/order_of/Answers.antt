@@ -1,0 +1,13 @@
+use Rattle.std.proofs.Common.{◌≡◌, true, ap, subst, sym, ◌∙◌, rules}
+use Rattle.seen_names.specs.Known.{fun_decls}
+use Rattle.seen_names.specs.Needs.{needs_of}
+use Rattle.seen_names.specs.Order.{Extends, all_seen}
+use Rattle.seen_names.proofs.Visiting.{ordered}
+use Rattle.seen_names.proofs.order.order_of.Goals as goal
+
+pub returns-then-branch : goal.returns-then-branch
+returns-then-branch c =
+    let fs = fun_decls c.args.funs.now in
+    let new = c.visit_all.new.order in
+    let all : all_seen (needs_of fs).calls new.names ≡ true = search rules in
+    ordered fs new (subst (λ o. Extends fs o new) c.in_ok-order.ensures c.in_ok-visit_all.ensures.extends) all
