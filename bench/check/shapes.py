@@ -243,6 +243,14 @@ ROUTINES = {
     "functions with sizes that call a function, and such variables": actor(
         "function n(int a) --> int : 8 end ",
         lambda k: "function f%d(int(size=n(1)) a) --> int : a end int x%d := f%d(1); " % (k, k, k)),
+    "functions with a size that calls one of a constant of its own, and such variables": actor(
+        "", lambda k: "int n%d = 8; function n_of%d() --> int : n%d end function f%d(int(size=n_of%d()) a) --> int : a end "
+                      "int x%d := f%d(1); " % (k, k, k, k, k, k, k)),
+    "functions with a size that calls the one before": actor(
+        "function f0(int a) --> int : 8 end ", lambda k: "function f%d(int(size=f%d(1)) a) --> int : 8 end " % (k + 1, k)),
+    "functions with a size that calls the one before, and such variables": actor(
+        "function f0(int a) --> int : 8 end ",
+        lambda k: "function f%d(int(size=f%d(1)) a) --> int : 8 end int x%d := f%d(1); " % (k + 1, k, k, k + 1)),
     "functions with sizes that call a function": actor(
         "function n(int a) --> int : 8 end ", lambda k: "function f%d(int(size=n(1)) a) --> int : a end " % k),
     "functions of long expressions": actor(
