@@ -1,13 +1,9 @@
-//! Rows of files with what a loading reads of them: which, in which order, and the rule that refuses them.
+//! Rows of files of actors with what a loading reads of them: which, in which order, and the rule that refuses them.
 //!
-//! The rows are text, so they need the lexer and the parser; the calls are those of `actor_files` and `network_files`.
+//! The rows are text, so they need the lexer and the parser; the calls are those of `actor_files`.
 #![tactic(auto)]
 
 #[cfg(test)]
 mod limits;
-#[cfg(test)]
-mod logged;
-#[cfg(test)]
-mod networks;
 #[cfg(test)]
 mod rows;

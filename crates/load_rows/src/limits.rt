@@ -1,7 +1,7 @@
 //! The limits of one file and of their number. That of all bytes is proved alone: to pass it takes a minute.
 
-use crate::rows::outcome;
 use actor_files::{Names, load};
+use logged_files::outcome;
 use rvc_io::{MAX_FILE_BYTES, MemLibrary, names_are_distinct};
 use std::alloc::Global;
 use std::process::Abort;

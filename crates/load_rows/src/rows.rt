@@ -1,14 +1,10 @@
 //! Rows of files, and what a loading asks for and answers.
 
-use crate::logged::Logged;
-use actor_files::{LoadFault, Names, class_of, load, read_actor};
-use rvc_io::{MemLibrary, names_are_distinct};
+use actor_files::{Names, class_of, load, read_actor};
+use logged_files::{Files, library, outcome, told};
 use std::alloc::Global;
 use std::process::Abort;
 use std::test::Fail;
-
-/// Files: each a name and its text.
-pub(crate) type Files = &'static [(&'static str, &'static str)];
 
 /// A top, the files, and what is answered: the names that were asked for, and how the loading ended, with the names of
 /// the files that have a number.
@@ -110,47 +106,9 @@ const FAILING: &[(u64, Row)] = &[
     ),
 ];
 
-/// A library of the files, of whose reads the one of a number fails.
-pub(crate) fn library(
-    rt: &impl Abort,
-    a: Global,
-    files: Files,
-    failing: u64,
-) -> Result<Logged, Fail> {
-    let mut held = Vec::new(a);
-    for &(name, text) in files {
-        let bytes = Vec::from_slice(a, text.as_bytes())?;
-        held.push((String::from_str(a, name)?, bytes))?;
-    }
-    assert!(rt; names_are_distinct(&held));
-    Ok(Logged {
-        files: MemLibrary::new(held, vec![in a; failing]?),
-        asked: String::new(a),
-    })
-}
-
-/// How a loading ended.
-pub(crate) fn outcome(a: Global, fault: Option<LoadFault>) -> Result<String, Fail> {
-    match fault {
-        None => Ok(String::from_str(a, "loaded")?),
-        Some(LoadFault::Refused(r)) => {
-            let (rule, file, at) = (r.rule, r.place.file, r.place.offset);
-            Ok(format!(in a; "{rule} in {file} at {at}")?)
-        }
-        Some(LoadFault::ReadFault { file }) => Ok(format!(in a; "read fault {file}")?),
-        Some(LoadFault::Memory) => Ok(String::from_str(a, "Memory")?),
-    }
-}
-
 /// What a row answers.
-fn answer(
-    rt: &impl Abort,
-    a: Global,
-    top: &str,
-    files: Files,
-    failing: u64,
-) -> Result<String, Fail> {
-    let mut library = library(rt, a, files, failing)?;
+fn answer(a: Global, top: &str, files: Files, failing: u64) -> Result<String, Fail> {
+    let mut library = library(a, files, failing)?;
     let class = class_of(a, top)?;
     let mut names = Names::new(a);
     let fault = load(a, &mut library, class.as_str(), &mut names).err();
@@ -158,23 +116,10 @@ fn answer(
     told(a, library.asked.as_str(), ended.as_str(), &names)
 }
 
-/// The names that were asked for, how the loading ended, and the names of the files that have a number.
-pub(crate) fn told(a: Global, asked: &str, ended: &str, names: &Names) -> Result<String, Fail> {
-    let mut text = String::from_str(a, asked)?;
-    text.push_str("| ")?;
-    text.push_str(ended)?;
-    text.push_str(" |")?;
-    for name in &names.files {
-        text.push_str(" ")?;
-        text.push_str(name.as_str())?;
-    }
-    Ok(text)
-}
-
 /// Stops at a row whose answer is another.
 fn hold(rt: &impl Abort, a: Global, row: Row, failing: u64) -> Result<(), Fail> {
     let (top, files, want) = row;
-    let found = answer(rt, a, top, files, failing)?;
+    let found = answer(a, top, files, failing)?;
     let holds = found.as_str() == want;
     assert!(rt; holds, "{want} is wanted, and {found} is given");
     Ok(())
@@ -205,8 +150,8 @@ fn reads_that_fail(rt: HostRuntime) -> Result<(), Fail> {
 }
 
 /// How the reading of an actor ended: its class, and how many declarations of other files there are.
-fn actor(rt: &impl Abort, a: Global, top: &str, files: Files) -> Result<String, Fail> {
-    let mut library = library(rt, a, files, 0)?;
+fn actor(a: Global, top: &str, files: Files) -> Result<String, Fail> {
+    let mut library = library(a, files, 0)?;
     let class = class_of(a, top)?;
     let mut names = Names::new(a);
     match read_actor(a, &mut library, class.as_str(), &mut names) {
@@ -249,7 +194,7 @@ const ACTORS: &[Row] = &[
 #[test]
 fn actors_with_their_imports(rt: HostRuntime) -> Result<(), Fail> {
     for &(top, files, want) in ACTORS {
-        let found = actor(&rt, rt.alloc(), top, files)?;
+        let found = actor(rt.alloc(), top, files)?;
         let holds = found.as_str() == want;
         assert!(&rt; holds, "{want} is wanted, and {found} is given");
     }

@@ -8,7 +8,7 @@ fn expressions(rt: HostRuntime) -> Result<(), Fail> {
     hold(&rt, rt.alloc(), Asked::Expression, EXPRESSIONS)
 }
 
-/// Expressions that see the names of `rows`: unknown names and names that are used as what they aren't, and inner names
+/// Expressions that see the names of `scope_texts`: unknown names and names that are used as what they aren't, and inner names
 /// that hide outer ones, of which a generator doesn't see itself.
 const EXPRESSIONS: &str = "
 # n + k

@@ -1,8 +1,7 @@
 //! What names stand for inside scopes, as rows.
 
-use crate::rows::names_of;
-use crate::table::{answered, cut, role_of};
-use cal_scope::{Frame, Inside, NameSet, Role, ScopeFault};
+use cal_scope::{Frame, Inside, NameSet, Role};
+use scope_texts::{answered, cut, fault_shown, names_of, role_of};
 use std::alloc::Global;
 use std::process::Abort;
 use std::test::Fail;
@@ -11,8 +10,7 @@ use std::test::Fail;
 fn answer(a: Global, names: &Inside, name: &str, role: Role) -> Result<String, Fail> {
     match names.full_name(role, name, 7) {
         Ok(full) => Ok(full),
-        Err(ScopeFault::Broken { rule, at }) => Ok(format!(in a; "{rule} at {at}")?),
-        Err(ScopeFault::Memory) => Ok(String::from_str(a, "Memory")?),
+        Err(fault) => fault_shown(a, fault, ""),
     }
 }
 

@@ -1,12 +1,8 @@
 //! One way from the text of an expression to its answer as text.
 
-use crate::table::answered;
 use cal_ast::{Body, File, Ident, Member, UnitFile, VarDecl};
-use cal_lexer::lex;
-use cal_parser::parse_file;
-use cal_print::print_file;
-use cal_scope::{FileNames, Role, ScopeFault, resolve_expr, resolve_type};
-use rvc_base::Front;
+use cal_scope::{FileNames, ScopeFault, resolve_expr, resolve_type};
+use scope_texts::{answered, fault_shown, file_of, names_of, printed};
 use std::alloc::Global;
 use std::process::Abort;
 use std::test::Fail;
@@ -22,59 +18,6 @@ const BEFORE_TYPE: &str = "unit U : ";
 pub(crate) enum Asked {
     Expression,
     Type,
-}
-
-/// The file that a text spells.
-pub(crate) fn file_of(alloc: Global, text: &[u8]) -> Result<File, Front> {
-    if text.len() >= 1 << 32 {
-        return Err(Front::Memory);
-    }
-    let tokens = lex(alloc, 1, text)?;
-    parse_file(alloc, 1, &tokens, text.len() as u32)
-}
-
-/// The names that rows use: of the file the variable `n`, the function `f` and the procedure `p`, and of the unit
-/// `lib.U` the variable `k` and the function `g`.
-pub(crate) fn names_of(a: Global) -> Result<FileNames, Fail> {
-    let mut names = FileNames::new(a);
-    for &(name, role, full) in NAMES {
-        if !names.has(name) {
-            names.add(name, role, full)?;
-        }
-    }
-    Ok(names)
-}
-
-const NAMES: &[(&str, Role, &str)] = &[
-    ("n", Role::Variable, "n"),
-    ("f", Role::Function, "f"),
-    ("p", Role::Procedure, "p"),
-    ("k", Role::Variable, "lib.U.k"),
-    ("g", Role::Function, "lib.U.g"),
-];
-
-/// The text of a file, in one line.
-pub(crate) fn printed(alloc: Global, file: &File) -> Result<String, Fail> {
-    let Ok(bytes) = print_file(alloc, file) else {
-        return Ok(String::from_str(alloc, "Memory")?);
-    };
-    let mut text = String::new(alloc);
-    for byte in bytes {
-        let c = if byte == b'\n' { ' ' } else { byte as char };
-        text.push(c)?;
-    }
-    Ok(text)
-}
-
-/// A rule with its place in the text of the row.
-pub(crate) fn fault_shown(alloc: Global, fault: ScopeFault, before: &str) -> Result<String, Fail> {
-    match fault {
-        ScopeFault::Broken { rule, at } => {
-            let place = (at as usize).saturating_sub(before.len());
-            Ok(format!(in alloc; "{rule} at {place}")?)
-        }
-        ScopeFault::Memory => Ok(String::from_str(alloc, "Memory")?),
-    }
 }
 
 /// The variable that the file of a row declares.

@@ -1,9 +1,8 @@
 //! Members of an actor with each name written out in full, or the rule of scope that they break, with its place.
 
-use crate::rows::{fault_shown, file_of, names_of, printed};
-use crate::table::answered;
 use cal_ast::{Actor, Body, File};
 use cal_scope::{FileNames, PortNames, ScopeFault, resolve_members};
+use scope_texts::{answered, fault_shown, file_of, names_of, printed};
 use std::alloc::Global;
 use std::process::Abort;
 use std::test::Fail;

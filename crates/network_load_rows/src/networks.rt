@@ -1,7 +1,7 @@
 //! Rows of networks with what a loading asks for and answers.
 
-use crate::rows::{Files, library, outcome, told};
 use actor_files::Names;
+use logged_files::{Files, library, outcome, told};
 use network_files::{FileKind, load_network};
 use std::alloc::Global;
 use std::process::Abort;
@@ -156,7 +156,7 @@ const FAILING: &[(u64, Row)] = &[
 /// Stops at a row whose answer is another.
 fn hold(rt: &impl Abort, a: Global, row: Row, failing: u64) -> Result<(), Fail> {
     let (top, kind, files, want) = row;
-    let mut library = library(rt, a, files, failing)?;
+    let mut library = library(a, files, failing)?;
     let mut names = Names::new(a);
     let fault = load_network(a, &mut library, top, kind, &mut names).err();
     let ended = outcome(a, fault)?;

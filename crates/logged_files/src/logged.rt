@@ -11,7 +11,7 @@ use std::alloc::Global;
 
 /// Files in memory, and the names that were asked for, with a blank behind each.
 #[derive(Drop)]
-pub(crate) struct Logged {
+pub struct Logged {
     pub files: MemLibrary,
     pub asked: String,
 }

@@ -1,9 +1,8 @@
 //! The names that files declare themselves, as text, or the second declaration of one.
 
-use crate::rows::{fault_shown, file_of};
-use crate::table::{answered, cut, role_of};
 use cal_ast::Body;
 use cal_scope::{FileNames, Inside, Role, ScopeFault};
+use scope_texts::{answered, cut, fault_shown, file_of, role_of};
 use std::alloc::Global;
 use std::process::Abort;
 use std::test::Fail;

@@ -5,17 +5,17 @@
 use cal_scope::Role;
 
 /// A text, cut at the first of a mark.
-pub(crate) fn cut<'a>(text: &'a str, mark: &str) -> (&'a str, &'a str) {
+pub fn cut<'a>(text: &'a str, mark: &str) -> (&'a str, &'a str) {
     text.split_once(mark).unwrap_or((text, ""))
 }
 
 /// What is asked in a row, and the answer.
-pub(crate) fn answered(row: &str) -> (&str, &str) {
+pub fn answered(row: &str) -> (&str, &str) {
     cut(row, "\n= ")
 }
 
 /// The role of a word.
-pub(crate) fn role_of(word: &str) -> Role {
+pub fn role_of(word: &str) -> Role {
     match word {
         "variable" => Role::Variable,
         "function" => Role::Function,

@@ -1,0 +1,25 @@
+//! The names that rows use.
+
+use cal_scope::{FileNames, Role};
+use std::alloc::Global;
+use std::test::Fail;
+
+/// The names that rows use: of the file the variable `n`, the function `f` and the procedure `p`, and of the unit
+/// `lib.U` the variable `k` and the function `g`.
+pub fn names_of(a: Global) -> Result<FileNames, Fail> {
+    let mut names = FileNames::new(a);
+    for &(name, role, full) in NAMES {
+        if !names.has(name) {
+            names.add(name, role, full)?;
+        }
+    }
+    Ok(names)
+}
+
+const NAMES: &[(&str, Role, &str)] = &[
+    ("n", Role::Variable, "n"),
+    ("f", Role::Function, "f"),
+    ("p", Role::Procedure, "p"),
+    ("k", Role::Variable, "lib.U.k"),
+    ("g", Role::Function, "lib.U.g"),
+];
