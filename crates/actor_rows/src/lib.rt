@@ -1,8 +1,8 @@
-//! Rows of actors that are lowered and fire.
+//! Sound actors for tests: [`count`] makes one with a guard, a local, a loop and an output, and [`double`] one with a
+//! function, a procedure and a list. That they are sound is proved.
 //!
-//! Tests that stand beside a crate make it be proved twice, so those of `actor_lower` are here. [`count`] makes a sound
-//! actor with a guard, a local, a loop and an output, and [`double`] one with a function, a procedure and a list. Others
-//! are sources, each with tokens and what its actor does with them.
+//! Tests that stand beside a crate make it be proved twice, so those that lower these actors and let them fire are in
+//! `lowered_rows`.
 #![tactic(auto)]
 
 mod actors;
@@ -11,10 +11,3 @@ mod trees;
 
 pub use actors::count;
 pub use doubling::double;
-
-#[cfg(test)]
-mod compiled;
-#[cfg(test)]
-mod firing;
-#[cfg(test)]
-mod functions;

@@ -1,6 +1,6 @@
 //! Functions with lists, and truth values in front of `and` and `or`, at work in cells.
 
-use crate::compiled::hold;
+use crate::sources::hold;
 use std::test::Fail;
 
 const FUNCTIONS: &str = "

@@ -1,157 +1,9 @@
-//! Sources as text, and what the cells of their actors do with tokens.
+//! Actions, guards that call functions, lists, and turns that run out, at work in cells.
 
-use actor_cell::Cell;
-use actor_files::Names;
-use lowered_actor::Lowered;
-use net_model::{BurstEnd, Firing};
-use rvc_base::{Memory, Num};
-use rvc_engine::{BuildFault, Image, build};
-use rvc_io::{MemLibrary, names_are_distinct};
-use std::alloc::{AllocError, Global};
-use std::process::Abort;
-use std::sync::Arc;
+use crate::sources::{code_of, hold};
+use cell_texts::fire_twice;
+use rvc_base::Memory;
 use std::test::Fail;
-
-/// What comes before a mark, and what comes behind it.
-fn cut<'a>(text: &'a str, mark: &str) -> (&'a str, &'a str) {
-    text.split_once(mark).unwrap_or((text, ""))
-}
-
-/// A library with one file, which has this name.
-fn library_of(alloc: Global, name: &str, source: &str) -> Result<Option<MemLibrary>, AllocError> {
-    let mut files = Vec::new(alloc);
-    let file = format!(in alloc; "{name}.cal")?;
-    let bytes = Vec::from_slice(alloc, source.as_bytes())?;
-    files.push((file, bytes))?;
-    if !names_are_distinct(&files) {
-        return Ok(None);
-    }
-    Ok(Some(MemLibrary::new(files, Vec::new(alloc))))
-}
-
-/// The code of the first actor of an image.
-fn first_code(image: &Image) -> Result<Option<Arc<Lowered>>, Memory> {
-    match image.codes.get(0) {
-        Some(code) => Ok(Some(Arc::clone(code)?)),
-        None => Ok(None),
-    }
-}
-
-/// The code of the actor of a source, and none if it is refused.
-fn code_of(alloc: Global, source: &str) -> Result<Option<Arc<Lowered>>, Fail> {
-    let (_, rest) = cut(source, "actor ");
-    let (name, _) = cut(rest, "(");
-    let Some(mut library) = library_of(alloc, name, source)? else {
-        return Ok(None);
-    };
-    let top = format!(in alloc; "{name}.cal")?;
-    let mut names = Names::new(alloc);
-    match build(alloc, &mut library, top.as_str(), &mut names) {
-        Ok(image) => Ok(first_code(&image)?),
-        Err(BuildFault::Memory) => Err(Fail::from(Memory)),
-        Err(_) => Ok(None),
-    }
-}
-
-/// A cell of an actor with one or two input ports and one output port, whose queues have room for 8 tokens.
-fn cell_of(alloc: Global, code: Arc<Lowered>) -> Result<Option<Cell>, Memory> {
-    if code.outs() != 1 {
-        return Ok(None);
-    }
-    match code.ins() {
-        1 => Ok(Some(Cell::new(alloc, code, &[8], &[8], 8)?)),
-        2 => Ok(Some(Cell::new(alloc, code, &[8, 8], &[8], 8)?)),
-        _ => Ok(None),
-    }
-}
-
-/// Puts tokens before an input port of the cell.
-fn accept(cell: &mut Cell, port: u32, tokens: &str) {
-    for word in tokens.split_whitespace() {
-        if port < cell.actor().ins() && cell.room_before(port) > 0 {
-            let token: Num = word.parse().unwrap_or(0);
-            cell.accept(port, token);
-        }
-    }
-}
-
-/// Lets the cell fire up to 8 times.
-fn burst(cell: &mut Cell) -> Option<BurstEnd> {
-    if cell.is_trapped() || !cell.are_rooms(&[8]) || cell.room_in_journal() < 8 {
-        return None;
-    }
-    Some(cell.burst(8, &[8]))
-}
-
-/// Adds how a burst ended.
-fn add_end(out: &mut String, end: Option<BurstEnd>) -> Result<(), AllocError> {
-    match end {
-        Some(BurstEnd::Waits) => out.push_str(", waits"),
-        Some(BurstEnd::Trap { action, trap }) => {
-            let number = action.0;
-            let name = trap.name();
-            write!(out, ", traps in {number} by {name}")
-        }
-        _ => out.push_str(", goes on"),
-    }
-}
-
-/// Which actions fired, what was sent, how the burst ended, and how many tokens wait then before the first port.
-fn told(alloc: Global, cell: &Cell, end: Option<BurstEnd>) -> Result<String, AllocError> {
-    let mut out = String::from_str(alloc, "fires")?;
-    for action in cell.journal() {
-        write!(out, " {action}")?;
-    }
-    out.push_str(", sends")?;
-    if cell.actor().outs() > 0 {
-        for k in 0..cell.sent(0) {
-            let token = cell.sent_at(0, k);
-            write!(out, " {token}")?;
-        }
-    }
-    add_end(&mut out, end)?;
-    if cell.actor().ins() > 0 {
-        let held = cell.held(0);
-        write!(out, ", {held} left")?;
-    }
-    Ok(out)
-}
-
-/// What the cell of a source's actor does with tokens; those of two ports have a semicolon between them.
-fn answer(alloc: Global, source: &str, tokens: &str) -> Result<String, Fail> {
-    let Some(code) = code_of(alloc, source)? else {
-        return Ok(String::from_str(alloc, "is refused")?);
-    };
-    let Some(mut cell) = cell_of(alloc, code)? else {
-        return Ok(String::from_str(alloc, "has other ports")?);
-    };
-    let (first, second) = cut(tokens, ";");
-    accept(&mut cell, 0, first);
-    accept(&mut cell, 1, second);
-    let end = burst(&mut cell);
-    Ok(told(alloc, &cell, end)?)
-}
-
-/// Stops unless the cell of a row does what is told.
-fn hold_row(rt: &impl Abort, alloc: Global, row: &str) -> Result<(), Fail> {
-    let (_, row) = cut(row, "\n");
-    let (source, rest) = cut(row, "\n> ");
-    let (tokens, want) = cut(rest, "\n= ");
-    let found = answer(alloc, source, tokens)?;
-    assert!(rt; found.as_str() == want, "{source}: {found}");
-    Ok(())
-}
-
-/// Stops unless all cells do what is told. A table is one text: each row begins with `# ` and what it shows, and has a
-/// source, a line `> ` with the tokens, and a line `= ` with what comes of them.
-pub(crate) fn hold(rt: &impl Abort, alloc: Global, table: &str) -> Result<(), Fail> {
-    for row in table.split("\n# ") {
-        if !row.is_empty() {
-            hold_row(rt, alloc, row)?;
-        }
-    }
-    Ok(())
-}
 
 const ACTIONS: &str = "
 # The initialize action comes first.
@@ -339,37 +191,16 @@ fn turns_run_out(rt: HostRuntime) -> Result<(), Fail> {
     hold(&rt, rt.alloc(), TURNS)
 }
 
-/// A cell of a source's actor whose queues are full after one firing.
-fn small_cell(alloc: Global, source: &str) -> Result<Option<Cell>, Fail> {
-    let Some(code) = code_of(alloc, source)? else {
-        return Ok(None);
-    };
-    if code.ins() != 1 || code.outs() != 1 {
-        return Ok(None);
-    }
-    Ok(Some(Cell::new(alloc, code, &[5], &[4], 1)?))
-}
-
-/// Puts tokens before the cell, lets it fire once, and tells what it did.
-fn fire_once(alloc: Global, cell: &mut Cell, tokens: &str) -> Result<String, AllocError> {
-    accept(cell, 0, tokens);
-    if cell.is_trapped() || !cell.are_rooms(&[4]) || cell.room_in_journal() < 1 {
-        return String::from_str(alloc, "can't fire");
-    }
-    let end = cell.burst(1, &[4]);
-    told(alloc, cell, Some(end))
-}
-
 #[test]
 fn queues_go_round(rt: HostRuntime) -> Result<(), Fail> {
     let source =
         "actor Rep() uint(size=8) In ==> uint(size=8) Out : action In:[a, b] repeat 2 ==> Out:[b, a] repeat 2 end end";
-    let Some(mut cell) = small_cell(rt.alloc(), source)? else {
+    let Some(code) = code_of(rt.alloc(), source)? else {
         return Err(Fail::from(Memory));
     };
-    let first = fire_once(rt.alloc(), &mut cell, "1 2 3 4 5")?;
-    cell.clear();
-    let second = fire_once(rt.alloc(), &mut cell, "6 7 8")?;
+    let Some((first, second)) = fire_twice(rt.alloc(), code, "1 2 3 4 5", "6 7 8")? else {
+        return Err(Fail::from(Memory));
+    };
     assert!(rt;
         first.as_str() == "fires 0, sends 2 1 4 3, goes on, 1 left"
             && second.as_str() == "fires 0, sends 6 5 8 7, goes on, 0 left",

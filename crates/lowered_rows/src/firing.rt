@@ -1,8 +1,8 @@
 //! Actors that are lowered and at work.
 
-use crate::{count, double};
 use actor_cell::Cell;
 use actor_lower::lower;
+use actor_rows::{count, double};
 use lowered_actor::Lowered;
 use net_model::{BurstEnd, Firing};
 use rvc_base::{Memory, Num};
