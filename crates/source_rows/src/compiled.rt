@@ -1,6 +1,7 @@
 //! Actions, guards that call functions, lists, and turns that run out, at work in cells.
 
-use crate::sources::{code_of, hold};
+use crate::sources::hold;
+use built_actors::code_of;
 use cell_texts::fire_twice;
 use rvc_base::Memory;
 use std::test::Fail;
