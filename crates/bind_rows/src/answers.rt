@@ -1,7 +1,7 @@
 //! Networks with their actors and links.
 
-use crate::asked::hold;
-use crate::told::Told;
+use crate::rows::hold;
+use network_answers::Told;
 use std::test::Fail;
 
 #[test]

@@ -1,8 +1,8 @@
 //! Networks that were made at random, with what another implementation says of them: the rule and its place, of which it
 //! may allow several, or the actors and how many links there are.
 
-use crate::asked::hold;
-use crate::told::Told;
+use crate::rows::hold;
+use network_answers::Told;
 use std::test::Fail;
 
 #[test]

@@ -1,7 +1,7 @@
 //! Networks at their limits, and one past them. Offsets are found in the text that was made.
 
-use crate::asked::{answer, cut, same};
-use crate::told::Told;
+use crate::rows::same;
+use network_answers::{Told, answer, cut};
 use std::alloc::{AllocError, Global};
 use std::process::Abort;
 use std::test::Fail;

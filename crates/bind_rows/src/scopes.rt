@@ -1,9 +1,10 @@
 //! One network where it stands, and networks in a set.
 
-use crate::asked::{add, cut, read, same};
+use crate::rows::same;
 use fnl_read::NetFile;
 use fnl_scopes::{ScopeFault, check_scopes};
 use net_set::NetSet;
+use network_answers::{add, cut, read};
 use std::alloc::{AllocError, Global};
 use std::process::Abort;
 use std::test::Fail;

@@ -1,7 +1,7 @@
 //! Names, types and values in networks that break a rule, with its place: the number of the file and the offset.
 
-use crate::asked::hold;
-use crate::told::Told;
+use crate::rows::hold;
+use network_answers::Told;
 use std::test::Fail;
 
 #[test]

@@ -1,8 +1,7 @@
 //! Sources with what the check of them reports: the numbers of the network that they mean, or the rule that they break and
 //! where.
 
-use crate::settings::{NEVER, Setting, hold_report, run_setting};
-use crate::table::cut;
+use memory_runs::{NEVER, Setting, cut, reports};
 use std::alloc::Global;
 use std::process::Abort;
 use std::test::Fail;
@@ -28,8 +27,7 @@ fn hold_source<R: Abort + Threads + Sync>(
         step: 1000,
         failing: NEVER,
     };
-    let ran = run_setting(rt, alloc, &setting)?;
-    hold_report(rt, alloc, setting.words, &ran, report)?;
+    assert!(rt; reports(rt, alloc, &setting, report)?, "not {report}");
     Ok(())
 }
 

@@ -97,7 +97,7 @@ fn network(alloc: Global, leaves: &[Leaf], flat: &Flat) -> Result<String, AllocE
 
 /// How a network is told.
 #[derive(Clone, Copy)]
-pub(crate) enum Told {
+pub enum Told {
     Whole,
     Outline,
 }

@@ -1,6 +1,5 @@
 //! Lines of words with what they ask for, or the cause why they ask for nothing.
 
-use crate::table::{cut, words};
 use rvc_words::{Job, PortWord, WordFault, read_words};
 use std::alloc::{AllocError, Global};
 use std::process::Abort;
@@ -37,9 +36,18 @@ fn asked(alloc: Global, words: &[String]) -> Result<String, Fail> {
     }
 }
 
+/// The words of a line, which one blank each parts.
+fn words(alloc: Global, line: &str) -> Result<Vec<String>, AllocError> {
+    let mut words = Vec::new(alloc);
+    for word in line.split(' ') {
+        words.push(String::from_str(alloc, word)?)?;
+    }
+    Ok(words)
+}
+
 /// Stops unless a line has its answer.
 fn hold_row(rt: &impl Abort, alloc: Global, row: &str) -> Result<(), Fail> {
-    let (line, expected) = cut(row, " = ");
+    let (line, expected) = row.split_once(" = ").unwrap_or((row, ""));
     let words = words(alloc, line)?;
     let found = asked(alloc, &words)?;
     assert!(rt; found.as_str() == expected, "{line}: {found}");

@@ -19,7 +19,8 @@ use std::test::Fail;
 /// Why nothing is asked.
 const NOTHING: Front = Front::Memory;
 
-pub(crate) fn cut<'a>(text: &'a str, at: &str) -> (&'a str, &'a str) {
+/// A text, cut at the first of a mark.
+pub fn cut<'a>(text: &'a str, at: &str) -> (&'a str, &'a str) {
     text.split_once(at).unwrap_or((text, ""))
 }
 
@@ -80,7 +81,7 @@ fn heads(alloc: Global, leaves: &[Leaf], actors: &str) -> Result<Vec<Head>, Fail
 }
 
 /// A network that is read from its text.
-pub(crate) fn read(alloc: Global, file: u32, text: &str) -> Result<NetFile, Front> {
+pub fn read(alloc: Global, file: u32, text: &str) -> Result<NetFile, Front> {
     let text = text.as_bytes();
     if text.len() >= 1 << 32 {
         return Err(NOTHING);
@@ -89,7 +90,7 @@ pub(crate) fn read(alloc: Global, file: u32, text: &str) -> Result<NetFile, Fron
 }
 
 /// Adds a network to a set, in which its class isn't yet.
-pub(crate) fn add(set: &mut NetSet, class: &str, file: u32, net: NetFile) -> Result<(), Front> {
+pub fn add(set: &mut NetSet, class: &str, file: u32, net: NetFile) -> Result<(), Front> {
     if set.has(class) {
         return Err(NOTHING);
     }
@@ -141,41 +142,9 @@ fn answer_of_tree(alloc: Global, told: Told, tree: &Tree, actors: &str) -> Resul
 /// What networks come to, of which the first is the top. They stand with `\nnet ` between as `CLASS TEXT`, and are
 /// numbered from 1. The actors stand with `\nactor ` between as `CLASS INPUTS ; OUTPUTS`, with ports as `name:type` or
 /// `name:type:rate`.
-pub(crate) fn answer(alloc: Global, told: Told, nets: &str, actors: &str) -> Result<String, Fail> {
+pub fn answer(alloc: Global, told: Told, nets: &str, actors: &str) -> Result<String, Fail> {
     match tree_from(alloc, nets) {
         Ok(tree) => answer_of_tree(alloc, told, &tree, actors),
         Err(front) => Ok(refusal(alloc, front)?),
     }
-}
-
-/// Stops unless it is one of those that are allowed, between which ` or ` stands.
-pub(crate) fn same(rt: &impl Abort, found: &str, allowed: &str) {
-    for told in allowed.split(" or ") {
-        if found == told {
-            return;
-        }
-    }
-    assert!(rt; found == allowed, "{found}");
-}
-
-/// Stops unless the networks of a row come to what is told.
-fn hold_row(rt: &impl Abort, alloc: Global, told: Told, row: &str) -> Result<(), Fail> {
-    let (_, row) = cut(row, "\n= ");
-    let (allowed, parts) = cut(row, "\nnet ");
-    let (nets, actors) = cut(parts, "\nactor ");
-    let found = answer(alloc, told, nets, actors)?;
-    same(rt, found.as_str(), allowed);
-    Ok(())
-}
-
-/// Stops unless all networks come to what is told. A table is one text, since the parts of tables made of slices and pairs
-/// are each proved apart. Each row begins with `# ` and what it shows; then come a line `= ` with what the networks come
-/// to, a line `net ` for each of them, and a line `actor ` for each actor.
-pub(crate) fn hold(rt: &impl Abort, alloc: Global, told: Told, table: &str) -> Result<(), Fail> {
-    for row in table.split("\n# ") {
-        if !row.is_empty() {
-            hold_row(rt, alloc, told, row)?;
-        }
-    }
-    Ok(())
 }
