@@ -1,12 +1,15 @@
 //! Rows with their answers: runs of the top call over objects in memory, and sources that are checked.
 //!
-//! Tests that stand beside a crate make it be proved twice, so those of `rvc_top` are here, over its public call, which
-//! `memory_runs` makes.
+//! Tests that stand beside a crate make it be proved twice, so those of `rvc_top` are all here, over its public call.
 #![tactic(auto)]
 
 #[cfg(test)]
 mod runs;
 #[cfg(test)]
+mod settings;
+#[cfg(test)]
 mod sources;
+#[cfg(test)]
+mod table;
 #[cfg(test)]
 mod verbs;

@@ -1,11 +1,12 @@
 //! Runs over the objects in memory: their outputs, traces, reports and statuses, and what faults leave.
 //!
 //! A table has parts. Each begins with `# ` and the text of the file `Inc.cal`; then come groups, each a line `= ` with what
-//! is left (`left_amiss`) and the lines of words that leave it. A line is run with calls of each size. One that begins with
+//! is left (`hold_left`) and the lines of words that leave it. A line is run with calls of each size. One that begins with
 //! numbers and a colon is run once: they are the most bytes of a call, and the read of a file, the call to the feeds and the
 //! call to the channels that fails.
 
-use memory_runs::{Failing, NEVER, Setting, cut, left_amiss};
+use crate::settings::{Failing, NEVER, Setting, hold_left, run_setting};
+use crate::table::cut;
 use std::alloc::Global;
 use std::process::Abort;
 use std::test::Fail;
@@ -13,16 +14,15 @@ use std::thread::Threads;
 
 const BYTES: &[u8] = &[0, 1, 255];
 
-/// Stops unless a run of a file's text leaves this.
+/// A run of a file's text over these bytes leaves this.
 fn leaves<R: Abort + Threads + Sync>(
     rt: &R,
     alloc: Global,
     setting: &Setting<'_>,
     left: &str,
 ) -> Result<(), Fail> {
-    let words = setting.words;
-    let amiss = left_amiss(rt, alloc, setting, left)?;
-    assert!(rt; amiss.as_str() == "", "{words}: {amiss}, not {left}");
+    let ran = run_setting(rt, alloc, setting)?;
+    hold_left(rt, alloc, setting.words, &ran, left)?;
     Ok(())
 }
 

@@ -1,7 +1,8 @@
 //! Sources with what the check of them reports: the numbers of the network that they mean, or the rule that they break and
 //! where.
 
-use memory_runs::{NEVER, Setting, cut, reports};
+use crate::settings::{NEVER, Setting, hold_report, run_setting};
+use crate::table::cut;
 use std::alloc::Global;
 use std::process::Abort;
 use std::test::Fail;
@@ -27,7 +28,8 @@ fn hold_source<R: Abort + Threads + Sync>(
         step: 1000,
         failing: NEVER,
     };
-    assert!(rt; reports(rt, alloc, &setting, report)?, "not {report}");
+    let ran = run_setting(rt, alloc, &setting)?;
+    hold_report(rt, alloc, setting.words, &ran, report)?;
     Ok(())
 }
 

@@ -1,6 +1,7 @@
 //! The other verbs over the objects in memory: how each ended, and what it leaves.
 
-use memory_runs::{Files, add_file, cut, left_of_files_amiss, lines};
+use crate::settings::{Files, NEVER, add, hold_left, run_words};
+use crate::table::{cut, lines};
 use std::alloc::{AllocError, Global};
 use std::process::Abort;
 use std::test::Fail;
@@ -11,7 +12,7 @@ fn sources(alloc: Global) -> Result<Files, AllocError> {
     let mut files = Vec::new(alloc);
     for row in FILES.lines() {
         let (name, text) = cut(row, " ");
-        add_file(&mut files, alloc, name, text.as_bytes())?;
+        add(&mut files, alloc, name, text.as_bytes())?;
     }
     Ok(files)
 }
@@ -20,8 +21,8 @@ fn sources(alloc: Global) -> Result<Files, AllocError> {
 fn inputs(alloc: Global, trace: &str) -> Result<Files, AllocError> {
     let trace = lines(alloc, trace)?;
     let mut files = Vec::new(alloc);
-    add_file(&mut files, alloc, "in", &[0, 1, 255])?;
-    add_file(&mut files, alloc, "t", &trace)?;
+    add(&mut files, alloc, "in", &[0, 1, 255])?;
+    add(&mut files, alloc, "t", &trace)?;
     Ok(files)
 }
 
@@ -31,8 +32,8 @@ fn leaves<R: Abort + Threads + Sync>(rt: &R, alloc: Global, row: &str) -> Result
     let (line, trace) = cut(command, " < ");
     let sources = sources(alloc)?;
     let inputs = inputs(alloc, trace)?;
-    let amiss = left_of_files_amiss(rt, alloc, line, sources, inputs, 3, left)?;
-    assert!(rt; amiss.as_str() == "", "{line}: {amiss}, not {left}");
+    let ran = run_words(rt, alloc, line, sources, inputs, 3, NEVER)?;
+    hold_left(rt, alloc, line, &ran, left)?;
     Ok(())
 }
 
@@ -47,7 +48,7 @@ fn other_verbs_leave_their_verdicts(rt: HostRuntime) -> Result<(), Fail> {
 }
 
 /// Each row begins with `# ` and the words, with ` < ` and the trace under the name `t`, in which `/` ends each line; then
-/// comes a line `= ` with what they leave (`left_amiss`).
+/// comes a line `= ` with what they leave (`hold_left`).
 const ROWS: &str = "
 # rvc replay Inc.cal In=in --trace t < rvc-trace 1 1 2/i 0 Inc Inc/r/f 0 0/f 0 0/f 0 0/r/q/
 = 0 Done | instances 1/links 2/certified 1/firings 3/rounds 2/in In 0 tokens 3 rest 0/out Out tokens 3/done/

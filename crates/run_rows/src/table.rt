@@ -3,12 +3,12 @@
 use std::alloc::{AllocError, Global};
 
 /// A text, cut at the first of a mark.
-pub fn cut<'a>(text: &'a str, mark: &str) -> (&'a str, &'a str) {
+pub(crate) fn cut<'a>(text: &'a str, mark: &str) -> (&'a str, &'a str) {
     text.split_once(mark).unwrap_or((text, ""))
 }
 
 /// The bytes of a text in which `/` ends each line.
-pub fn lines(alloc: Global, text: &str) -> Result<Vec<u8>, AllocError> {
+pub(crate) fn lines(alloc: Global, text: &str) -> Result<Vec<u8>, AllocError> {
     let mut bytes = Vec::new(alloc);
     for &byte in text.as_bytes() {
         bytes.push(if byte == b'/' { b'\n' } else { byte })?;
