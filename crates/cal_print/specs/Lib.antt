@@ -1,4 +1,1 @@
-pub mod Spelling
 pub mod Canon
-pub mod Inputs
-pub mod Writes

@@ -3,15 +3,16 @@
 ghost use Rattle.std.specs.Prelude.{◌≡◌, IfOk, map, option_map};
 ghost use Rattle.cal_ast.specs.Tree.{listed};
 ghost use Rattle.cal_ast.specs.View.{actor_tree, file_body_tree, file_tree, ident_tree, import_tree, optional, tag_tree, unit_tree};
-ghost use Rattle.cal_print.specs.Canon.{canon, words, dotted, last_name, packaged};
-ghost use Rattle.cal_print.specs.Writes.{Writes};
+ghost use Rattle.cal_print.specs.Canon.{canon};
+ghost use Rattle.member_print.specs.Tokens.{words, dotted, last_name, packaged};
+ghost use Rattle.member_print.specs.Writes.{Writes};
 
-use crate::member::print_members;
-use crate::name::{print_ident, print_tag};
-use crate::part::{Part, print_each, print_joined};
-use crate::writer::Writer;
 use cal_ast::{Actor, Body, File, Ident, Import, Tag, UnitFile};
 use cal_lexer::Word;
+use member_print::member::print_members;
+use member_print::name::{print_ident, print_tag};
+use member_print::part::print_joined;
+use member_print::writer::Writer;
 use rvc_base::Memory;
 use std::alloc::Global;
 
@@ -51,7 +52,7 @@ fn print_whole(file: &File, out: &mut Writer)
     ensures { Writes out.old (words (file_tree file.now)) out.new }
 {
     print_package(&file.package, out);
-    print_each(&file.imports, out);
+    print_imports(&file.imports, out);
     print_body(&file.body, out);
 }
 
@@ -66,15 +67,23 @@ fn print_package(named: &Option<Tag>, out: &mut Writer)
     }
 }
 
-impl Part for Import {
-    ghost tree = { import_tree };
-
-    fn print(&self, out: &mut Writer) {
-        out.put(Word::Import);
-        print_path(&self.path, out);
-        print_last(&self.last, out);
-        out.put(Word::Semicolon);
+/// Prints imports one behind the other.
+fn print_imports(imports: &[Import], out: &mut Writer)
+    ensures { Writes out.old (words (listed (map import_tree imports.now))) out.new }
+{
+    for import in imports {
+        print_import(import, out);
     }
+}
+
+/// Prints an import.
+fn print_import(import: &Import, out: &mut Writer)
+    ensures { Writes out.old (words (import_tree import.now)) out.new }
+{
+    out.put(Word::Import);
+    print_path(&import.path, out);
+    print_last(&import.last, out);
+    out.put(Word::Semicolon);
 }
 
 /// Prints names, each with a dot behind it.

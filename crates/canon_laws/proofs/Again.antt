@@ -4,7 +4,7 @@ use Rattle.rvc_base.specs.declared.refusal.Rule.{Rule}
 use Rattle.cal_lexer.specs.Lexeme.{Lexeme, Placed}
 use Rattle.cal_lexer.specs.Lexes.{LexesFrom, lexes, faults}
 use Rattle.cal_lexer.proofs.Once.{one_list, not_both}
-use Rattle.cal_print.specs.Spelling.{text_of}
+use Rattle.member_print.specs.Spelling.{text_of}
 use Rattle.canon_laws.specs.Printable.{ArePrintable, kinds}
 use Rattle.canon_laws.proofs.Lexing.{lexes_back}
 use Rattle.canon_laws.proofs.Lexed.{lexed_is_printable}

@@ -12,7 +12,7 @@ use Rattle.cal_lexer.specs.Lexis.{max_name, front, Token, Gap, IsNext, flaw, is_
 use Rattle.cal_lexer.specs.Lexes.{LexesFrom, ends, after_gap, after_token}
 use Rattle.cal_lexer.proofs.Fronts.{front_other}
 use Rattle.cal_lexer.specs.Words.{spelling}
-use Rattle.cal_print.specs.Spelling.{gap_behind, text_of}
+use Rattle.member_print.specs.Spelling.{gap_behind, text_of}
 use Rattle.canon_laws.specs.Printable.{IsPrintable, ArePrintable, kinds}
 use Rattle.canon_laws.proofs.Blanks.{blank_in}
 use Rattle.canon_laws.proofs.Digits.{AreDigitsOf, decimal_digits, no_leading_zero}

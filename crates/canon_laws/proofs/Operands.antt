@@ -11,7 +11,7 @@ use Rattle.cal_lexer.specs.Lexeme.{Lexeme, Placed}
 use Rattle.cal_grammar.specs.Operators.{group, level_of, loosest, binary_of, is_prefix, prefix_of}
 use Rattle.cal_grammar.specs.Spells.{Part, Spells, level, a_postfix, a_primary, an_expr, the_tighter, the_postfix, the_primary, the_pair}
 use Rattle.canon_laws.specs.Printable.{IsPrintable}
-use Rattle.cal_print.specs.Canon.{words, is_loose, paired, word_of_prefix, word_of_binary}
+use Rattle.member_print.specs.Tokens.{words, is_loose, paired, word_of_prefix, word_of_binary}
 use Rattle.canon_laws.proofs.Phrases.{Respells, IsBack, back, done, word, part, Reads, at_end, a_word, a_part, respells}
 use Rattle.canon_laws.proofs.RespelledExpressions.{back_prefix, back_binary, back_if, back_index}
 use Rattle.canon_laws.proofs.Said.{said}

@@ -4,7 +4,7 @@ use Rattle.cal_ast.specs.Tree.{Tree, absent, present, nil, cons, ident, tag, imp
 use Rattle.cal_ast.specs.Apart.{unplaced}
 use Rattle.cal_lexer.specs.Lexeme.{Lexeme}
 use Rattle.cal_grammar.specs.Operators.{height}
-use Rattle.cal_print.specs.Canon.{word_of_prefix, word_of_binary, is_loose, paired, where_any, words, joined, following, each_place, each_chain, each_member, dotted, last_name, packaged, label, start_words, under}
+use Rattle.member_print.specs.Tokens.{word_of_prefix, word_of_binary, is_loose, paired, where_any, words, joined, following, each_place, each_chain, each_member, dotted, last_name, packaged, label, start_words, under}
 
 -- what is computed of a tree without offsets is what is computed of the tree
 

@@ -5,8 +5,9 @@ use Rattle.cal_ast.specs.Apart.{unplaced}
 use Rattle.cal_lexer.specs.Lexeme.{Placed}
 use Rattle.cal_lexer.specs.Lexes.{lexes}
 use Rattle.cal_grammar.specs.Spells.{a_file, spells}
-use Rattle.cal_print.specs.Spelling.{text_of}
-use Rattle.cal_print.specs.Canon.{words, canon}
+use Rattle.member_print.specs.Spelling.{text_of}
+use Rattle.member_print.specs.Tokens.{words}
+use Rattle.cal_print.specs.Canon.{canon}
 use Rattle.canon_laws.specs.Printable.{ArePrintable, kinds}
 use Rattle.canon_laws.specs.ReadBack.{IsReadBack}
 use Rattle.canon_laws.proofs.Lexing.{lexes_back}

@@ -8,7 +8,7 @@ use Rattle.cal_lexer.specs.Lexeme.{Lexeme, Placed}
 use Rattle.cal_grammar.specs.Operators.{with_tag, onto, import_at, with_package}
 use Rattle.cal_grammar.specs.Spells.{Mark, mark, Part, Spells, separated, rest, any, repeated, level, a_postfix, a_primary, a_tag, a_stmt, otherwise, an_action, a_labelled, a_path, an_import, some_imports, a_file, an_expr, the_separated, the_last, the_more, the_none, the_some, the_end, the_again, the_binary, the_tighter, the_prefix, the_postfix, the_index, the_primary, the_number, the_true, the_false, the_variable, the_call, the_pair, the_if, the_list, the_comp, the_gen, the_type, the_type_with, the_shape_arg, the_value_arg, the_var, the_var_changing, the_var_constant, the_no_vars, the_vars, the_param, the_param_default, the_port, the_name, the_tag, the_place, the_assign, the_call_stmt, the_if_stmt, the_while, the_foreach, the_block, the_block_with, the_if_end, the_else, the_elsif, the_function, the_procedure, the_no_guards, the_guards, the_no_repeat, the_repeat, the_no_body, the_body, the_in, the_in_at, the_out, the_out_at, the_action, the_initialize, the_unlabelled, the_labelled, the_move, the_schedule, the_chain, the_priority, the_var_member, the_function_member, the_procedure_member, the_action_member, the_priority_member, the_no_members, the_member, the_schedule_member, the_unit_var, the_unit_function, the_path_name, the_path_all, the_path_on, the_import, the_actor, the_unit, the_actor_file, the_unit_file, the_file, the_package_file}
 use Rattle.canon_laws.specs.Printable.{IsPrintable, ArePrintable, kinds}
-use Rattle.cal_print.specs.Canon.{words, joined, each_member, where_any, under}
+use Rattle.member_print.specs.Tokens.{words, joined, each_member, where_any, under}
 use Rattle.canon_laws.proofs.Phrases.{Respells}
 use Rattle.canon_laws.proofs.Said.{said, joined_by, path_words, said_joined, said_each, said_places, said_chains, said_units, said_member, said_var, said_function, said_procedure, said_priority, said_schedule, said_labelled, some_of, following_of, is_untagged, untagged, is_import, path_is, is_unpackaged, unpackaged}
 use Rattle.canon_laws.proofs.Operands.{IsOperand, passes, as_said, level_said, primary_operand, binary_operand, prefix_operand, if_operand, index_operand, group_operand}

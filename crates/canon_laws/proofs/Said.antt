@@ -5,7 +5,7 @@ use Rattle.cal_ast.specs.Tree.{Tree, absent, cons, ident, import_part, file, var
 use Rattle.cal_lexer.specs.Lexeme.{Lexeme, Placed}
 use Rattle.cal_grammar.specs.Operators.{loosest, with_tag, onto}
 use Rattle.cal_grammar.specs.Spells.{Mark, mark, Part, Spells, separated, rest, any, repeated, level, a_postfix, a_primary, a_var, some_vars, a_place, otherwise, a_function, a_procedure, some_guards, some_repeat, a_body, an_action, a_labelled, a_schedule, a_chain, a_priority, a_member, members, a_unit_member, a_path, the_separated, the_end, the_again, the_var, the_var_changing, the_var_constant, the_function, the_procedure, the_action, the_initialize, the_unlabelled, the_labelled, the_schedule, the_priority, some_imports, the_path_name, the_path_all, the_path_on, the_actor_file, the_unit_file}
-use Rattle.cal_print.specs.Canon.{words, is_loose, paired, where_any, joined, following, each_place, each_chain, each_member, dotted, last_name, under}
+use Rattle.member_print.specs.Tokens.{words, is_loose, paired, where_any, joined, following, each_place, each_chain, each_member, dotted, last_name, under}
 
 -- the parts of a list, with a mark between them, before each, or none
 abbrev mutual
