@@ -1,4 +1,4 @@
 pub mod Cursor
 pub mod Leading
-pub mod Steps
+pub mod Pairs
 pub mod Tells

@@ -12,8 +12,7 @@ use Rattle.cal_ast.specs.Places.{begins}
 use Rattle.cal_grammar.specs.Operators.{binary_of, height, is_prefix, prefix_of}
 use Rattle.cal_grammar.specs.Rules.{Step, at_level, chain, expect, part, places, read}
 use Rattle.cal_grammar.specs.Spells.{a_postfix, a_primary, an_expr, level}
-use Rattle.cal_cursor.specs.Steps.{closing_step, does}
-use Rattle.cal_expr.specs.Steps.{climbs, index_step}
+use Rattle.cal_expr.specs.Steps.{climbs, closing_step, does, index_step}
 use Rattle.cal_cursor.specs.Tells.{TellsFault}
 use Rattle.cal_grammar.specs.Token.{here, kind_of, offset, same_word}
 use Rattle.cal_cursor.specs.declared.fault.Fault.{Fault}

@@ -8,8 +8,7 @@ use Rattle.cal_cursor.specs.Cursor.{Took, TookName, TookWord, stands}
 use Rattle.cal_cursor.specs.Leading.{LedByName, LedByWord, TookOpens}
 use Rattle.cal_grammar.specs.Rules.{expect, ident_of, if_body, list_body, name_body, part, read, type_tail}
 use Rattle.cal_grammar.specs.Spells.{a_gen, a_type, a_type_arg, an_expr, any, comma, separated}
-use Rattle.cal_cursor.specs.Steps.{Answers, does}
-use Rattle.cal_expr.specs.Steps.{call_step, comp_step, if_step, list_step, type_step}
+use Rattle.cal_expr.specs.Steps.{Answers, call_step, comp_step, does, if_step, list_step, type_step}
 use Rattle.cal_cursor.specs.Tells.{TellsFault}
 use Rattle.cal_grammar.specs.Token.{kind_of, same_word}
 use Rattle.cal_cursor.specs.declared.fault.Fault.{Fault}

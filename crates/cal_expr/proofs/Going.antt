@@ -9,7 +9,7 @@ use Rattle.cal_cursor.specs.Cursor.{Stays, Took, TookName, TookWord, stands}
 use Rattle.cal_cursor.specs.Leading.{HasNoRoom, LedByName, LedByWord}
 use Rattle.cal_grammar.specs.Rules.{Rule, Step, expect, named, part, read}
 use Rattle.cal_grammar.specs.Spells.{Part}
-use Rattle.cal_cursor.specs.Steps.{Answers, does}
+use Rattle.cal_expr.specs.Steps.{Answers, does}
 use Rattle.cal_cursor.specs.Tells.{Tells, TellsFault}
 use Rattle.cal_grammar.specs.Token.{here, names, same_word}
 use Rattle.cal_cursor.specs.declared.fault.Fault.{Fault}

@@ -7,8 +7,7 @@ use Rattle.cal_lexer.specs.declared.token.Token.{Token}
 use Rattle.cal_grammar.specs.Spells.{a_postfix, a_primary, an_expr, level}
 use Rattle.cal_grammar.specs.Rules.{part, places, read}
 use Rattle.cal_cursor.specs.Leading.{opened}
-use Rattle.cal_cursor.specs.Steps.{closing_step, does}
-use Rattle.cal_expr.specs.Steps.{climbs}
+use Rattle.cal_expr.specs.Steps.{climbs, closing_step, does}
 use Rattle.cal_cursor.specs.Tells.{TellsFault}
 use Rattle.cal_cursor.specs.declared.fault.Fault.{Fault}
 use Rattle.cal_grammar.proofs.Reading.{read_is}

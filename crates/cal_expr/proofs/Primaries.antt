@@ -9,8 +9,7 @@ use Rattle.cal_cursor.specs.Cursor.{Took, TookName, TookWord, stands}
 use Rattle.cal_cursor.specs.Leading.{LedByName}
 use Rattle.cal_grammar.specs.Rules.{Step, expect, ident_of, if_body, list_body, name_body, named, on, part, read, starts, starts_expr, type_tail}
 use Rattle.cal_grammar.specs.Spells.{Part, a_gen, a_primary, a_type, a_type_arg, an_expr, any, comma, rest, separated}
-use Rattle.cal_cursor.specs.Steps.{does, number_step, truth_step}
-use Rattle.cal_expr.specs.Steps.{call_step, comp_step, if_step, list_step, type_step}
+use Rattle.cal_expr.specs.Steps.{call_step, comp_step, does, if_step, list_step, number_step, truth_step, type_step}
 use Rattle.cal_cursor.specs.Tells.{TellsFault, before}
 use Rattle.cal_grammar.specs.Token.{counts, here, names, offset, same_word, text_of}
 use Rattle.cal_cursor.specs.declared.fault.Fault.{Fault}

@@ -1,13 +1,15 @@
-//! Lists of expressions, types and generators that are read, each with its height.
+//! Parts that are read, each with its height.
 //!
 //! A part stands on the heap, where what is made of it takes it from.
 
-ghost use Rattle.std.specs.Prelude.{◌≡◌, map};
+ghost use Rattle.std.specs.Prelude.{◌≡◌, IfOk, map};
 ghost use Rattle.cal_ast.specs.Tree.{listed};
-ghost use Rattle.cal_ast.specs.View.{expr_tree, gen_tree, type_arg_tree, type_tree};
+ghost use Rattle.cal_ast.specs.View.{expr_tree, form_tree, gen_tree, type_arg_tree, type_tree};
 ghost use Rattle.cal_grammar.specs.Operators.{height};
 
-use cal_ast::{Expr, Gen, TypeArg, TypeExpr};
+use cal_ast::{Expr, ExprForm, Gen, TypeArg, TypeExpr};
+use cal_cursor::tall::TallExpr;
+use std::alloc::{AllocError, Global};
 
 /// Expressions and the greatest of their heights.
 #[derive(Drop)]
@@ -55,4 +57,14 @@ pub struct TallTypeArgs {
     pub args: Vec<TypeArg>,
     pub high: u32,
     ghost is_high: { high ≡ height (listed (map type_arg_tree args.items)) },
+}
+
+/// An expression of this form that begins here, and its height.
+pub fn tall(alloc: Global, form: ExprForm, at: u32, high: u32) -> Result<TallExpr, AllocError>
+    requires { high ≡ height (form_tree form at) }
+    ensures is { IfOk result (λ x. expr_tree x.expr.value ≡ form_tree form at) }
+    ensures same { IfOk result (λ x. x.high ≡ high) }
+{
+    let expr = Box::new(alloc, Expr { form, at })?;
+    Ok(TallExpr { expr, high })
 }
