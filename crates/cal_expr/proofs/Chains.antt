@@ -6,18 +6,18 @@ use Rattle.cal_ast.specs.Tree.{Tree, binary, index, prefix}
 use Rattle.cal_ast.specs.declared.expr.BinOp.{BinOp}
 use Rattle.cal_lexer.specs.Lexeme.{Lexeme, Placed, placed, plain_tokens}
 use Rattle.cal_lexer.specs.declared.token.Token.{Token}
-use Rattle.cal_expr.specs.Cursor.{Took, stands}
-use Rattle.cal_expr.specs.Leading.{HasNoRoom, IsOperator, IsPrefix, TookOperator, TookPrefix, opened}
+use Rattle.cal_cursor.specs.Cursor.{Took, stands}
+use Rattle.cal_cursor.specs.Leading.{HasNoRoom, IsOperator, IsPrefix, TookOperator, TookPrefix, opened}
 use Rattle.cal_ast.specs.Places.{begins}
 use Rattle.cal_grammar.specs.Operators.{binary_of, height, is_prefix, prefix_of}
 use Rattle.cal_grammar.specs.Rules.{Step, at_level, chain, expect, part, places, read}
 use Rattle.cal_grammar.specs.Spells.{a_postfix, a_primary, an_expr, level}
 use Rattle.cal_expr.specs.Steps.{climbs, closing_step, does, index_step}
-use Rattle.cal_expr.specs.Tells.{TellsFault}
+use Rattle.cal_cursor.specs.Tells.{TellsFault}
 use Rattle.cal_grammar.specs.Token.{here, kind_of, offset, same_word}
-use Rattle.cal_expr.specs.declared.fault.Fault.{Fault}
-use Rattle.cal_expr.specs.declared.fault.Fault.TheVariants as faults
-use Rattle.cal_expr.specs.declared.operators.Prefix.{Prefix}
+use Rattle.cal_cursor.specs.declared.fault.Fault.{Fault}
+use Rattle.cal_cursor.specs.declared.fault.Fault.TheVariants as faults
+use Rattle.cal_cursor.specs.declared.operators.Prefix.{Prefix}
 use Rattle.cal_expr.proofs.Climbing.{Next, climbs_more, climbs_none, fault_after, fault_same, level_climbs}
 use Rattle.cal_expr.proofs.Going.{fault_on, gave_on, high_on, yes_on}
 use Rattle.cal_expr.proofs.Nesting.{closes, fault_nests, leaves, nests, nests_last, opened_is, postfix_is}

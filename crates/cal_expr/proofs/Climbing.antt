@@ -7,9 +7,9 @@ use Rattle.cal_lexer.specs.declared.token.Token.{Token}
 use Rattle.cal_grammar.specs.Spells.{level}
 use Rattle.cal_grammar.specs.Rules.{part, chain, read}
 use Rattle.cal_expr.specs.Steps.{climbs}
-use Rattle.cal_expr.specs.Tells.{TellsFault}
-use Rattle.cal_expr.specs.declared.fault.Fault.{Fault}
-use Rattle.cal_expr.specs.declared.fault.Fault.TheVariants as faults
+use Rattle.cal_cursor.specs.Tells.{TellsFault}
+use Rattle.cal_cursor.specs.declared.fault.Fault.{Fault}
+use Rattle.cal_cursor.specs.declared.fault.Fault.TheVariants as faults
 use Rattle.cal_grammar.proofs.Reading.{read_is}
 
 abbrev pub Next : Type 0

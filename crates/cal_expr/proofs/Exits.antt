@@ -4,18 +4,18 @@ use Rattle.look_ahead.specs.Program.{Outcome, Gave, Refused, after, check, take,
 use Rattle.cal_ast.specs.Tree.{Tree, cons, ident, gen, nil, shape_arg, value_arg, type_of}
 use Rattle.cal_lexer.specs.Lexeme.{Lexeme, Placed, plain_tokens}
 use Rattle.cal_lexer.specs.declared.token.Token.{Token}
-use Rattle.cal_expr.specs.Cursor.{Took, TookName, TookWord, stands}
-use Rattle.cal_expr.specs.Leading.{LedByName, LedByWord, TookOpens}
+use Rattle.cal_cursor.specs.Cursor.{Took, TookName, TookWord, stands}
+use Rattle.cal_cursor.specs.Leading.{LedByName, LedByWord, TookOpens}
 use Rattle.cal_grammar.specs.Rules.{expect, ident_of, if_body, list_body, name_body, part, read, type_tail}
 use Rattle.cal_grammar.specs.Spells.{a_gen, a_type, a_type_arg, an_expr, any, comma, separated}
 use Rattle.cal_expr.specs.Steps.{Answers, call_step, comp_step, does, if_step, list_step, type_step}
-use Rattle.cal_expr.specs.Tells.{TellsFault}
+use Rattle.cal_cursor.specs.Tells.{TellsFault}
 use Rattle.cal_grammar.specs.Token.{kind_of, same_word}
-use Rattle.cal_expr.specs.declared.fault.Fault.{Fault}
-use Rattle.cal_expr.specs.declared.fault.Fault.TheVariants as faults
+use Rattle.cal_cursor.specs.declared.fault.Fault.{Fault}
+use Rattle.cal_cursor.specs.declared.fault.Fault.TheVariants as faults
 use Rattle.cal_expr.proofs.Climbing.{fault_same}
 use Rattle.cal_expr.proofs.Going.{answers_same, expect_on, fault_on, gave_on, name_led, named_on, word_led}
-use Rattle.cal_expr.proofs.Taking.{length-plain}
+use Rattle.cal_cursor.proofs.Taking.{length-plain}
 use Rattle.cal_expr.proofs.Primaries
 
 -- a fault that is passed on

@@ -5,19 +5,19 @@ use Rattle.look_ahead.specs.Program.{Outcome, Gave, Refused, TooHigh, ahead, aft
 use Rattle.cal_ast.specs.Tree.{Tree}
 use Rattle.cal_lexer.specs.Lexeme.{Lexeme, Placed, placed, plain_tokens}
 use Rattle.cal_lexer.specs.declared.token.Token.{Token}
-use Rattle.cal_expr.specs.Cursor.{Stays, Took, TookName, TookWord, stands}
-use Rattle.cal_expr.specs.Leading.{HasNoRoom, LedByName, LedByWord}
+use Rattle.cal_cursor.specs.Cursor.{Stays, Took, TookName, TookWord, stands}
+use Rattle.cal_cursor.specs.Leading.{HasNoRoom, LedByName, LedByWord}
 use Rattle.cal_grammar.specs.Rules.{Rule, Step, expect, named, part, read}
 use Rattle.cal_grammar.specs.Spells.{Part}
 use Rattle.cal_expr.specs.Steps.{Answers, does}
-use Rattle.cal_expr.specs.Tells.{Tells, TellsFault}
+use Rattle.cal_cursor.specs.Tells.{Tells, TellsFault}
 use Rattle.cal_grammar.specs.Token.{here, names, same_word}
-use Rattle.cal_expr.specs.declared.fault.Fault.{Fault}
-use Rattle.cal_expr.specs.declared.fault.Fault.TheVariants as faults
+use Rattle.cal_cursor.specs.declared.fault.Fault.{Fault}
+use Rattle.cal_cursor.specs.declared.fault.Fault.TheVariants as faults
 use Rattle.cal_expr.proofs.Climbing.{Next, fault_after, fault_same}
 use Rattle.cal_grammar.proofs.Costs.{Cost, costs, takes}
 use Rattle.cal_grammar.proofs.Meets.{IsRead, Meets}
-use Rattle.cal_expr.proofs.Taking.{length-plain}
+use Rattle.cal_cursor.proofs.Taking.{length-plain}
 use Rattle.cal_grammar.proofs.Reading.{read_keeps}
 
 pub answers_same : {A : Type 0} (view : A → Tree) (result : Result A Fault) (new : List Token) (o o' : Outcome Placed Tree) → o ≡ o' → Answers view o' result new → Answers view o result new

@@ -1,5 +1,3 @@
-pub mod Taking
-pub mod Tests
 pub mod ListSteps
 mod Climbing
 mod Nesting

@@ -6,7 +6,7 @@ use Rattle.cal_lexer.specs.Lexeme.{Placed, placed}
 use Rattle.cal_grammar.specs.Token.{here, same_word}
 use Rattle.cal_grammar.specs.Spells.{Mark, mark, Part, separated, rest}
 use Rattle.cal_grammar.specs.Rules.{part, read}
-use Rattle.cal_expr.specs.Tells.{joined, before}
+use Rattle.cal_cursor.specs.Tells.{joined, before}
 use Rattle.cal_grammar.proofs.Reading.{read_is}
 use Rattle.cal_grammar.proofs.Follow.{same_mark}
 

@@ -6,10 +6,10 @@ use Rattle.cal_lexer.specs.Lexeme.{Lexeme, Placed, placed}
 use Rattle.cal_lexer.specs.declared.token.Token.{Token}
 use Rattle.cal_grammar.specs.Spells.{a_postfix, a_primary, an_expr, level}
 use Rattle.cal_grammar.specs.Rules.{part, places, read}
-use Rattle.cal_expr.specs.Leading.{opened}
-use Rattle.cal_expr.specs.Steps.{closing_step, climbs, does}
-use Rattle.cal_expr.specs.Tells.{TellsFault}
-use Rattle.cal_expr.specs.declared.fault.Fault.{Fault}
+use Rattle.cal_cursor.specs.Leading.{opened}
+use Rattle.cal_expr.specs.Steps.{climbs, closing_step, does}
+use Rattle.cal_cursor.specs.Tells.{TellsFault}
+use Rattle.cal_cursor.specs.declared.fault.Fault.{Fault}
 use Rattle.cal_grammar.proofs.Reading.{read_is}
 use Rattle.cal_expr.proofs.Climbing.{Next, after_after, fault_after, level_climbs}
 
@@ -59,8 +59,3 @@ nests_last m (p ∷ qs) q o = ap (λ v. after v (leaves m p)) (nests_last m qs q
 pub fault_nests : (m : ℕ) (qs : List ℕ) (fault : Fault) (new : List Token) (o : Outcome Placed Tree) → TellsFault fault new o → TellsFault fault new (nests m qs o)
 fault_nests m [] fault new o h = h
 fault_nests m (q ∷ qs) fault new o h = fault_after fault new (nests m qs o) (leaves m q) (fault_nests m qs fault new o h)
-
--- one more parenthesis that was taken
-pub opened_push : (qs : List ℕ) (q : ℕ) (ts : List Placed) → opened (qs ++ q ∷ []) ts ≡ opened qs (placed Lexeme.LeftParen q ∷ ts)
-opened_push [] q ts = refl
-opened_push (p ∷ qs) q ts = ap (λ l. placed Lexeme.LeftParen p ∷ l) (opened_push qs q ts)

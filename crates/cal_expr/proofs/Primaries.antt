@@ -5,15 +5,15 @@ use Rattle.look_ahead.specs.Program.{Outcome, Gave, Refused, ahead, after, exec,
 use Rattle.cal_ast.specs.Tree.{Tree, cons, nil, ident, variable, gen, type_of, shape_arg, value_arg, listed}
 use Rattle.cal_lexer.specs.Lexeme.{Lexeme, Placed, placed, plain_tokens}
 use Rattle.cal_lexer.specs.declared.token.Token.{Token}
-use Rattle.cal_expr.specs.Cursor.{Took, TookName, TookWord, stands}
-use Rattle.cal_expr.specs.Leading.{LedByName}
+use Rattle.cal_cursor.specs.Cursor.{Took, TookName, TookWord, stands}
+use Rattle.cal_cursor.specs.Leading.{LedByName}
 use Rattle.cal_grammar.specs.Rules.{Step, expect, ident_of, if_body, list_body, name_body, named, on, part, read, starts, starts_expr, type_tail}
 use Rattle.cal_grammar.specs.Spells.{Part, a_gen, a_primary, a_type, a_type_arg, an_expr, any, comma, rest, separated}
 use Rattle.cal_expr.specs.Steps.{call_step, comp_step, does, if_step, list_step, number_step, truth_step, type_step}
-use Rattle.cal_expr.specs.Tells.{TellsFault, before}
+use Rattle.cal_cursor.specs.Tells.{TellsFault, before}
 use Rattle.cal_grammar.specs.Token.{counts, here, names, offset, same_word, text_of}
-use Rattle.cal_expr.specs.declared.fault.Fault.{Fault}
-use Rattle.cal_expr.specs.declared.fault.Fault.TheVariants as faults
+use Rattle.cal_cursor.specs.declared.fault.Fault.{Fault}
+use Rattle.cal_cursor.specs.declared.fault.Fault.TheVariants as faults
 use Rattle.cal_expr.proofs.Climbing.{Next}
 use Rattle.cal_expr.proofs.Going.{begin_on, check_low, name_led, named_on, yes_on}
 use Rattle.cal_expr.proofs.ListSteps

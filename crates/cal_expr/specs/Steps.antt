@@ -2,12 +2,11 @@
 -- Not trusted: no promise is read with it.
 use Rattle.std.specs.Prelude.{◌≡◌, ℕ, zero, suc, Bool, true, false, List, map, Result, Ok, Err}
 use Rattle.look_ahead.specs.Program.{Outcome, Gave, give, fail, ask, take, check, after, exec}
-use Rattle.cal_ast.specs.Tree.{Tree, number, truth, call, if_expr, list, comp, index, prefix, binary, type_of, ident, listed}
+use Rattle.cal_ast.specs.Tree.{Tree, number, truth, call, if_expr, list, comp, index, type_of, ident, listed}
 use Rattle.cal_ast.specs.View.{expr_tree, gen_tree, type_tree, type_arg_tree}
 use Rattle.cal_lexer.specs.Lexeme.{Lexeme, Placed, plain_tokens}
 use Rattle.cal_lexer.specs.declared.token.Token.{Token}
-use Rattle.cal_expr.specs.declared.fault.Fault.{Fault}
-use Rattle.cal_expr.specs.declared.tall.TallExpr.{TallExpr}
+use Rattle.cal_cursor.specs.declared.fault.Fault.{Fault}
 use Rattle.cal_expr.specs.declared.tall.TallExprs.{TallExprs}
 use Rattle.cal_expr.specs.declared.tall.TallGen.{TallGen}
 use Rattle.cal_expr.specs.declared.tall.TallGens.{TallGens}
@@ -17,7 +16,7 @@ use Rattle.cal_expr.specs.declared.tall.TallTypeArgs.{TallTypeArgs}
 use Rattle.cal_ast.specs.Places.{begins}
 use Rattle.cal_grammar.specs.Operators.{group, height}
 use Rattle.cal_grammar.specs.Rules.{Rule, Step, chain, expect, finish, read}
-use Rattle.cal_expr.specs.Tells.{TellsFault}
+use Rattle.cal_cursor.specs.Tells.{TellsFault}
 use Rattle.cal_grammar.specs.Token.{here, offset, same_word, value_of}
 
 -- what a step does in a room
@@ -42,9 +41,6 @@ Reads view m r result old new = Answers view (read m r (plain_tokens old)) resul
 
 -- the trees of parts with their heights
 
-abbrev pub tall_tree : TallExpr → Tree
-tall_tree x = expr_tree x.expr.value
-
 abbrev pub each_expr : TallExprs → Tree
 each_expr xs = listed (map expr_tree xs.exprs.items)
 
@@ -67,13 +63,6 @@ each_type_arg ts = listed (map type_arg_tree ts.args.items)
 abbrev pub truth_word : Bool → Lexeme
 truth_word true = Lexeme.True
 truth_word false = Lexeme.False
-
--- whether a pair of parentheses round an expression is dropped
-abbrev pub drops : Tree → Bool
-drops (if_expr test first other at) = true
-drops (prefix op operand at) = true
-drops (binary op left right at) = true
-drops _ = false
 
 -- steps of the rules
 

@@ -7,29 +7,32 @@ ghost use Rattle.std.specs.Prelude.{◌≡◌, ◌≤◌, IfOk, false, string_by
 ghost use Rattle.cal_ast.specs.View.{expr_tree, type_tree};
 ghost use Rattle.cal_lexer.specs.Lexeme.{If, LeftBracket, LeftParen, plain_tokens};
 ghost use Rattle.look_ahead.specs.Program.{check, take};
-ghost use Rattle.cal_expr.specs.Cursor.{stands};
+ghost use Rattle.cal_cursor.specs.Cursor.{stands};
 ghost use Rattle.cal_grammar.specs.Rules.{if_body, list_body, name_body, part, places, type_tail};
 ghost use Rattle.cal_grammar.specs.Spells.{a_gen, a_primary, a_type, a_type_arg, an_expr, any, comma, level, separated};
-ghost use Rattle.cal_expr.specs.Steps.{Answers, Does, Reads, climbs, each_expr, each_gen, each_type_arg, tall_gen, tall_tree, tall_type, tall_type_arg};
-ghost use Rattle.cal_expr.specs.Tells.{Tells, boxed, each};
+ghost use Rattle.cal_cursor.specs.Pairs.{tall_tree};
+ghost use Rattle.cal_expr.specs.Steps.{Answers, Does, Reads, climbs, each_expr, each_gen, each_type_arg, tall_gen, tall_type, tall_type_arg};
+ghost use Rattle.cal_cursor.specs.Tells.{Tells, boxed, each};
 ghost use Rattle.cal_grammar.specs.Token.{names, same_word};
 
-use crate::cursor::{expect, is_name, is_number, is_word, name, take_word};
-use crate::fault::Fault;
 use crate::forms::{
     before_exprs, called, comprehension, conditional, indexed, listing, no_exprs, operation,
     prefixed, with_expr,
 };
-use crate::leading::{leading_name, leading_word, starts_expr};
 use crate::leaves::{number, truth, variable};
-use crate::operators::{LOOSEST, is_operator, is_prefix, take_operator, take_prefix};
-use crate::pairs::{close_pair, take_opens};
-use crate::tall::{TallExpr, TallExprs, TallGen, TallGens, TallType, TallTypeArg, TallTypeArgs};
+use crate::pairs::close_pair;
+use crate::tall::{TallExprs, TallGen, TallGens, TallType, TallTypeArg, TallTypeArgs};
 use crate::types::{
     bare_type, closed_type, generated, no_gens, no_type_args, shape_arg, value_arg, with_gen,
     with_type_arg,
 };
 use cal_ast::{Expr, Ident, TypeExpr};
+use cal_cursor::cursor::{expect, is_name, is_number, is_word, name, take_word};
+use cal_cursor::fault::Fault;
+use cal_cursor::leading::{leading_name, leading_word, starts_expr};
+use cal_cursor::operators::{LOOSEST, is_operator, is_prefix, take_operator, take_prefix};
+use cal_cursor::pairs::take_opens;
+use cal_cursor::tall::TallExpr;
 use cal_lexer::{Token, Word};
 use std::alloc::Global;
 

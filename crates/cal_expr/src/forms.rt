@@ -4,14 +4,16 @@ ghost use Rattle.std.specs.Prelude.{◌≡◌, ◌≤◌, ◌<◌, ◌++◌, ◌
 ghost use Rattle.cal_ast.specs.Places.{begins};
 ghost use Rattle.cal_ast.specs.Tree.{binary, prefix};
 ghost use Rattle.cal_ast.specs.View.{expr_tree};
-ghost use Rattle.cal_expr.specs.Steps.{Does, each_expr, each_gen, call_step, comp_step, if_step, index_step, list_step, tall_tree};
+ghost use Rattle.cal_cursor.specs.Pairs.{tall_tree};
+ghost use Rattle.cal_expr.specs.Steps.{Does, call_step, comp_step, each_expr, each_gen, if_step, index_step, list_step};
 
-use crate::cursor::{expect, finish};
-use crate::fault::Fault;
-use crate::operators::Prefix;
-use crate::parts::{before_parts, with_part};
-use crate::tall::{TallExpr, TallExprs, TallGens, tall};
+use crate::tall::{TallExprs, TallGens, tall};
 use cal_ast::{BinOp, ExprForm, Ident};
+use cal_cursor::cursor::{expect, finish};
+use cal_cursor::fault::Fault;
+use cal_cursor::operators::Prefix;
+use cal_cursor::parts::{before_parts, with_part};
+use cal_cursor::tall::TallExpr;
 use cal_lexer::{Token, Word};
 use std::alloc::{AllocError, Global};
 

@@ -2,17 +2,18 @@
 
 ghost use Rattle.std.specs.Prelude.{◌≡◌, ◌≤◌, IfOk, true, string_bytes};
 ghost use Rattle.cal_ast.specs.Tree.{variable};
-ghost use Rattle.cal_expr.specs.Cursor.{stands};
-ghost use Rattle.cal_expr.specs.Steps.{number_step, truth_step};
-ghost use Rattle.cal_expr.specs.Steps.{Does, tall_tree, truth_word};
+ghost use Rattle.cal_cursor.specs.Cursor.{stands};
+ghost use Rattle.cal_cursor.specs.Pairs.{tall_tree};
+ghost use Rattle.cal_expr.specs.Steps.{Does, number_step, truth_step, truth_word};
 ghost use Rattle.cal_grammar.specs.Token.{counts, same_word};
 ghost use Rattle.cal_lexer.specs.Words.{lexeme_of};
 
-use crate::cursor::take_word;
-use crate::fault::Fault;
-use crate::leading::leading_word;
-use crate::tall::{TallExpr, tall};
+use crate::tall::tall;
 use cal_ast::{ExprForm, Ident};
+use cal_cursor::cursor::take_word;
+use cal_cursor::fault::Fault;
+use cal_cursor::leading::leading_word;
+use cal_cursor::tall::TallExpr;
 use cal_lexer::{Token, TokenKind, Word};
 use std::alloc::{AllocError, Global};
 

@@ -1,18 +1,13 @@
 //! From tokens to the trees of expressions and types.
 //!
-//! The code does what the programs of `cal_grammar` do, and is told by a clause each: see `specs/Tells.antt`. What
-//! takes single tokens is here too, for the reader of files above.
+//! The code does what the programs of `cal_grammar` do, and is told by a clause each: see `specs/Tells.antt` of
+//! `cal_cursor`, which takes what stands at the front. `expr` goes through expressions and types; `leaves`, `pairs`,
+//! `forms` and `types` make them of tokens and of their parts.
 #![tactic(auto)]
 
-pub mod cursor;
-mod ends;
 pub mod expr;
-pub mod fault;
 mod forms;
-mod leading;
 mod leaves;
-mod operators;
 mod pairs;
-pub mod parts;
 mod tall;
 mod types;

@@ -1,60 +1,18 @@
-//! Pairs of parentheses round expressions.
+//! Expressions in pairs of parentheses.
 
-ghost use Rattle.std.specs.Prelude.{◌≡◌, ◌≤◌, IfOk, nat_le, true};
-ghost use Rattle.cal_ast.specs.View.{expr_tree};
-ghost use Rattle.cal_expr.specs.Leading.{TookOpens};
+ghost use Rattle.std.specs.Prelude.{◌≡◌, ◌≤◌, IfOk, true};
+ghost use Rattle.cal_cursor.specs.Pairs.{drops, tall_tree};
 ghost use Rattle.cal_grammar.specs.Operators.{group, height};
-ghost use Rattle.cal_expr.specs.Steps.{Does, closing_step, drops, tall_tree};
+ghost use Rattle.cal_expr.specs.Steps.{Does, closing_step};
 
-use crate::cursor::{is_word, take_word};
-use crate::fault::Fault;
-use crate::tall::{TallExpr, tall};
-use cal_ast::{Expr, ExprForm};
+use crate::tall::tall;
+use cal_ast::ExprForm;
+use cal_cursor::cursor::{is_word, take_word};
+use cal_cursor::fault::Fault;
+use cal_cursor::pairs::{fits_in_pair, is_dropped};
+use cal_cursor::tall::TallExpr;
 use cal_lexer::{Token, Word};
 use std::alloc::{AllocError, Global};
-
-/// Takes the opening parentheses at the front, and says where they stand.
-pub fn take_opens(alloc: Global, tokens: &mut &[Token]) -> Result<Vec<u32>, Fault>
-    ensures { TookOpens result tokens.old.now tokens.new.now }
-{
-    let mut opens = Vec::new(alloc);
-    'opens: while is_word(tokens, Word::LeftParen) {
-        let at = take_word(tokens, Word::LeftParen);
-        opens.push(at)?;
-    }
-    Ok(opens)
-}
-
-/// Whether a pair round this expression is dropped.
-fn is_dropped(expr: &Expr) -> bool
-    ensures { result ≡ drops (expr_tree expr.now) }
-{
-    match &expr.form {
-        ExprForm::If { .. } => true,
-        ExprForm::Prefix { .. } => true,
-        ExprForm::Binary { .. } => true,
-        ExprForm::Number(_) => false,
-        ExprForm::Bool(_) => false,
-        ExprForm::Name(_) => false,
-        ExprForm::Call { .. } => false,
-        ExprForm::Paren(_) => false,
-        ExprForm::List(_) => false,
-        ExprForm::Comp { .. } => false,
-        ExprForm::Index { .. } => false,
-    }
-}
-
-/// Whether an expression in a pair of parentheses fits the room.
-fn fits_in_pair(room: u32, inner: &TallExpr) -> bool
-    requires { inner.now.high ≤ room }
-    ensures { result ≡ nat_le (height (group 0 (tall_tree inner.now))) room }
-{
-    if is_dropped(&inner.expr) {
-        true
-    } else {
-        inner.high < room
-    }
-}
 
 /// The same expression, which begins here.
 fn moved(inner: TallExpr, at: u32) -> TallExpr

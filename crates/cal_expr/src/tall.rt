@@ -8,15 +8,8 @@ ghost use Rattle.cal_ast.specs.View.{expr_tree, form_tree, gen_tree, type_arg_tr
 ghost use Rattle.cal_grammar.specs.Operators.{height};
 
 use cal_ast::{Expr, ExprForm, Gen, TypeArg, TypeExpr};
+use cal_cursor::tall::TallExpr;
 use std::alloc::{AllocError, Global};
-
-/// An expression and its height.
-#[derive(Drop)]
-pub struct TallExpr {
-    pub expr: Box<Expr>,
-    pub high: u32,
-    ghost is_high: { high ≡ height (expr_tree expr.value) },
-}
 
 /// Expressions and the greatest of their heights.
 #[derive(Drop)]

@@ -3,13 +3,15 @@
 ghost use Rattle.std.specs.Prelude.{◌≡◌, ◌+◌, ◌≤◌, ◌-◌, ◌++◌, ◌∷◌, [], IfOk, map, max, string_bytes};
 ghost use Rattle.cal_ast.specs.Tree.{gen, nil, type_of, shape_arg as shape_arg_tree, value_arg as value_arg_tree};
 ghost use Rattle.cal_ast.specs.View.{gen_tree, ident_tree, type_arg_tree, type_tree};
-ghost use Rattle.cal_expr.specs.Steps.{Does, each_type_arg, tall_gen, tall_tree, tall_type, tall_type_arg, type_step};
+ghost use Rattle.cal_cursor.specs.Pairs.{tall_tree};
+ghost use Rattle.cal_expr.specs.Steps.{Does, each_type_arg, tall_gen, tall_type, tall_type_arg, type_step};
 
-use crate::cursor::expect;
-use crate::fault::Fault;
-use crate::parts::with_part;
-use crate::tall::{TallExpr, TallGen, TallGens, TallType, TallTypeArg, TallTypeArgs};
+use crate::tall::{TallGen, TallGens, TallType, TallTypeArg, TallTypeArgs};
 use cal_ast::{Gen, Ident, TypeArg, TypeExpr};
+use cal_cursor::cursor::expect;
+use cal_cursor::fault::Fault;
+use cal_cursor::parts::with_part;
+use cal_cursor::tall::TallExpr;
 use cal_lexer::{Token, Word};
 use std::alloc::{AllocError, Global};
 

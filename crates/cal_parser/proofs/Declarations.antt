@@ -9,13 +9,13 @@ use Rattle.cal_ast.specs.declared.ident.Ident.{Ident}
 use Rattle.cal_ast.specs.declared.member.VarDecl.{VarDecl}
 use Rattle.cal_lexer.specs.Lexeme.{Lexeme, Placed, placed, plain_tokens}
 use Rattle.cal_lexer.specs.declared.token.Token.{Token}
-use Rattle.cal_expr.specs.Cursor.{Took, TookName, stands}
+use Rattle.cal_cursor.specs.Cursor.{Took, TookName, stands}
 use Rattle.cal_parser.specs.Pieces.{Does, value_then}
 use Rattle.cal_grammar.specs.Rules.{Rule, part, var_tail, read, Step, on, named, ident_of}
 use Rattle.cal_grammar.specs.Spells.{comma, separated, a_type, a_var, a_param, a_port, some_vars, an_expr}
-use Rattle.cal_expr.specs.Tells.{Tells, TellsFault, each}
+use Rattle.cal_cursor.specs.Tells.{Tells, TellsFault, each}
 use Rattle.cal_grammar.specs.Token.{same_word}
-use Rattle.cal_expr.specs.declared.fault.Fault.{Fault}
+use Rattle.cal_cursor.specs.declared.fault.Fault.{Fault}
 use Rattle.cal_grammar.proofs.Reading.{read_is}
 use Rattle.cal_parser.proofs.Steps.{fault_on, on_yes, on_no, named_yes, named_fails, invoke_yes, invoke_fails}
 

@@ -4,18 +4,18 @@ use Rattle.look_ahead.specs.Program.{Gave, Refused, TooHigh, ahead, exec, after}
 use Rattle.cal_ast.specs.Tree.{Tree, nil, cons, listed}
 use Rattle.cal_lexer.specs.Lexeme.{Lexeme, Placed, placed, plain_tokens}
 use Rattle.cal_lexer.specs.declared.token.Token.{Token}
-use Rattle.cal_expr.specs.Cursor.{Took, stands}
+use Rattle.cal_cursor.specs.Cursor.{Took, stands}
 use Rattle.cal_parser.specs.SoFar.{HasRead}
 use Rattle.cal_grammar.specs.Spells.{Mark, mark, Part, separated, any, repeated}
 use Rattle.cal_grammar.specs.Token.{here, same_word}
 use Rattle.cal_grammar.specs.Rules.{Rule, part, read, starts}
-use Rattle.cal_expr.specs.Tells.{before, TellsFault}
-use Rattle.cal_expr.specs.declared.fault.Fault.{Fault}
-use Rattle.cal_expr.specs.declared.fault.Fault.TheVariants as faults
+use Rattle.cal_cursor.specs.Tells.{before, TellsFault}
+use Rattle.cal_cursor.specs.declared.fault.Fault.{Fault}
+use Rattle.cal_cursor.specs.declared.fault.Fault.TheVariants as faults
 use Rattle.cal_grammar.proofs.Costs.{costs, takes}
 use Rattle.cal_expr.proofs.ListSteps
 use Rattle.cal_grammar.proofs.Meets.{Meets}
-use Rattle.cal_expr.proofs.Taking.{length-plain}
+use Rattle.cal_cursor.proofs.Taking.{length-plain}
 use Rattle.cal_grammar.proofs.Reading.{read_is, read_keeps}
 use Rattle.cal_grammar.proofs.Sound.{never_empty}
 

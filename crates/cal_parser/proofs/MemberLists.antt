@@ -7,18 +7,18 @@ use Rattle.cal_ast.specs.View.{member_tree}
 use Rattle.cal_ast.specs.declared.member.Member.{Member}
 use Rattle.cal_lexer.specs.Lexeme.{Lexeme, Placed, plain_tokens}
 use Rattle.cal_lexer.specs.declared.token.Token.{Token}
-use Rattle.cal_expr.specs.Cursor.{stands}
+use Rattle.cal_cursor.specs.Cursor.{stands}
 use Rattle.cal_parser.specs.MembersSoFar.{IsMembersSoFar}
 use Rattle.cal_grammar.specs.Spells.{Part, a_member, a_schedule, members}
 use Rattle.cal_grammar.specs.Token.{here, same_word}
 use Rattle.cal_grammar.specs.Rules.{part, read, starts_member}
-use Rattle.cal_expr.specs.Tells.{before, TellsFault}
-use Rattle.cal_expr.specs.declared.fault.Fault.{Fault}
-use Rattle.cal_expr.specs.declared.fault.Fault.TheVariants as faults
+use Rattle.cal_cursor.specs.Tells.{before, TellsFault}
+use Rattle.cal_cursor.specs.declared.fault.Fault.{Fault}
+use Rattle.cal_cursor.specs.declared.fault.Fault.TheVariants as faults
 use Rattle.cal_grammar.proofs.Costs.{costs, takes}
 use Rattle.cal_expr.proofs.ListSteps
 use Rattle.cal_grammar.proofs.Meets.{Meets}
-use Rattle.cal_expr.proofs.Taking.{length-plain}
+use Rattle.cal_cursor.proofs.Taking.{length-plain}
 use Rattle.cal_grammar.proofs.Reading.{read_is, read_keeps}
 
 -- what is read of a part that can't be empty is gone

@@ -6,14 +6,14 @@ use Rattle.cal_ast.specs.View.{ident_tree}
 use Rattle.cal_ast.specs.declared.ident.Ident.{Ident}
 use Rattle.cal_lexer.specs.Lexeme.{Lexeme, placed, plain_tokens}
 use Rattle.cal_lexer.specs.declared.token.Token.{Token}
-use Rattle.cal_expr.specs.Cursor.{Took, TookName, Stays, stands}
+use Rattle.cal_cursor.specs.Cursor.{Took, TookName, Stays, stands}
 use Rattle.cal_parser.specs.SoFar.{IsSoFar}
 use Rattle.cal_grammar.specs.Spells.{Mark, mark, separated, a_name}
 use Rattle.cal_grammar.specs.Token.{here, names, same_word}
 use Rattle.cal_grammar.specs.Rules.{part, read}
-use Rattle.cal_expr.specs.Tells.{before, TellsNames}
-use Rattle.cal_expr.specs.declared.fault.Fault.{Fault}
-use Rattle.cal_expr.specs.declared.fault.Fault.TheVariants as faults
+use Rattle.cal_cursor.specs.Tells.{before, TellsNames}
+use Rattle.cal_cursor.specs.declared.fault.Fault.{Fault}
+use Rattle.cal_cursor.specs.declared.fault.Fault.TheVariants as faults
 use Rattle.cal_expr.proofs.ListSteps
 use Rattle.cal_grammar.proofs.Reading.{read_is}
 

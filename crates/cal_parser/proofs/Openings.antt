@@ -7,14 +7,14 @@ use Rattle.cal_ast.specs.declared.action.Pattern.{Pattern}
 use Rattle.cal_lexer.specs.Lexeme.{Lexeme, Placed, placed, plain_tokens}
 use Rattle.cal_lexer.specs.declared.token.Token.{Token}
 use Rattle.cal_parser.specs.Bodies.{opened, after_opening, TellsOpening, TellsStep}
-use Rattle.cal_expr.specs.Cursor.{Took}
+use Rattle.cal_cursor.specs.Cursor.{Took}
 use Rattle.cal_grammar.specs.Rules.{Rule, Step, part, read, action_rest}
 use Rattle.cal_grammar.specs.Spells.{an_action}
-use Rattle.cal_expr.specs.Tells.{Tells, TellsFault}
+use Rattle.cal_cursor.specs.Tells.{Tells, TellsFault}
 use Rattle.cal_grammar.proofs.Reading.{read_is}
 use Rattle.cal_parser.specs.declared.actions.Opening.{Opening}
-use Rattle.cal_expr.specs.declared.fault.Fault.{Fault}
-use Rattle.cal_expr.specs.declared.fault.Fault.TheVariants as faults
+use Rattle.cal_cursor.specs.declared.fault.Fault.{Fault}
+use Rattle.cal_cursor.specs.declared.fault.Fault.TheVariants as faults
 
 -- the same fault if the outcome is the same
 same_fault : (fault : Fault) (new : List Token) (o n : Outcome Placed Tree) → o ≡ n → TellsFault fault new n → TellsFault fault new o

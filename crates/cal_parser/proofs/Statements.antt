@@ -11,15 +11,15 @@ use Rattle.cal_ast.specs.declared.member.VarDecl.{VarDecl}
 use Rattle.cal_ast.specs.declared.stmt.Stmt.{Stmt}
 use Rattle.cal_lexer.specs.Lexeme.{Lexeme, Placed, placed, plain_tokens}
 use Rattle.cal_lexer.specs.declared.token.Token.{Token}
-use Rattle.cal_expr.specs.Cursor.{Took, TookName, TookWord, TookEnd, Stays, stands}
+use Rattle.cal_cursor.specs.Cursor.{Took, TookName, TookWord, TookEnd, Stays, stands}
 use Rattle.cal_grammar.specs.Operators.{ends}
 use Rattle.cal_parser.specs.Pieces.{expr_then, body_then, vars_then, range_then, call_rest, assign_rest, else_rest, Does, DoesIf, Leads, LeadsRange}
 use Rattle.cal_grammar.specs.Rules.{part, read, Step, on, expect, named, finish, first, starts_stmt, stmt_body, named_stmt_body, if_stmt_body, while_body, foreach_body, block_body, ident_of}
 use Rattle.cal_grammar.specs.Spells.{Part, comma, separated, any, repeated, a_type, a_var, a_place, a_stmt, an_expr, otherwise}
-use Rattle.cal_expr.specs.Tells.{Tells, TellsFault, each}
+use Rattle.cal_cursor.specs.Tells.{Tells, TellsFault, each}
 use Rattle.cal_grammar.specs.Token.{here, names, same_word}
-use Rattle.cal_expr.specs.declared.fault.Fault.{Fault}
-use Rattle.cal_expr.specs.declared.fault.Fault.TheVariants as faults
+use Rattle.cal_cursor.specs.declared.fault.Fault.{Fault}
+use Rattle.cal_cursor.specs.declared.fault.Fault.TheVariants as faults
 use Rattle.cal_parser.specs.declared.stmts.Bounds.{Bounds}
 use Rattle.cal_grammar.proofs.Reading.{read_is}
 use Rattle.cal_parser.proofs.Steps.{fault_on, on_yes, on_no, expect_yes, expect_no, expect_fails, named_yes, named_fails, finish_yes, finish_no, invoke_yes, invoke_fails, enter_yes, enter_fails, end_yes, end_no, first_no, first_yes}

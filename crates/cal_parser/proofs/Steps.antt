@@ -6,13 +6,13 @@ use Rattle.cal_ast.specs.Tree.{Tree}
 use Rattle.cal_ast.specs.declared.ident.Ident.{Ident}
 use Rattle.cal_lexer.specs.Lexeme.{Lexeme, Placed, placed, plain_tokens}
 use Rattle.cal_lexer.specs.declared.token.Token.{Token}
-use Rattle.cal_expr.specs.Cursor.{Took, TookName, TookWord, TookEnd, Stays, stands}
+use Rattle.cal_cursor.specs.Cursor.{Took, TookName, TookWord, TookEnd, Stays, stands}
 use Rattle.cal_grammar.specs.Operators.{ends}
 use Rattle.cal_grammar.specs.Token.{here, names, same_word}
 use Rattle.cal_grammar.specs.Rules.{Rule, Step, read, on, expect, named, finish, first}
-use Rattle.cal_expr.specs.Tells.{TellsFault}
-use Rattle.cal_expr.specs.declared.fault.Fault.{Fault}
-use Rattle.cal_expr.specs.declared.fault.Fault.TheVariants as faults
+use Rattle.cal_cursor.specs.Tells.{TellsFault}
+use Rattle.cal_cursor.specs.declared.fault.Fault.{Fault}
+use Rattle.cal_cursor.specs.declared.fault.Fault.TheVariants as faults
 
 -- an outcome is another's
 pub fault_on : (fault : Fault) (new : List Token) (o n : Outcome Placed Tree) → o ≡ n → TellsFault fault new n → TellsFault fault new o

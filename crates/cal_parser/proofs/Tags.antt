@@ -9,9 +9,9 @@ use Rattle.cal_lexer.specs.Lexeme.{plain_tokens}
 use Rattle.cal_lexer.specs.declared.token.Token.{Token}
 use Rattle.cal_grammar.specs.Spells.{separated, a_name, a_tag, dot}
 use Rattle.cal_grammar.specs.Rules.{part, read}
-use Rattle.cal_expr.specs.Tells.{TellsNames, TellsTag}
-use Rattle.cal_expr.specs.declared.fault.Fault.{Fault}
-use Rattle.cal_expr.specs.declared.fault.Fault.TheVariants as faults
+use Rattle.cal_cursor.specs.Tells.{TellsNames, TellsTag}
+use Rattle.cal_cursor.specs.declared.fault.Fault.{Fault}
+use Rattle.cal_cursor.specs.declared.fault.Fault.TheVariants as faults
 use Rattle.cal_grammar.proofs.Reading.{read_is}
 
 pub tag_read : (old new : List Token) (t : Tag) → ((m : ℕ) → read m (part (separated dot a_name)) (plain_tokens old) ≡ Gave (listed (map ident_tree t.parts.items)) (plain_tokens new)) → t.at ≡ begins (listed (map ident_tree t.parts.items)) → TellsTag (Ok t) old new

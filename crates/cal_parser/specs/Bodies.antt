@@ -9,12 +9,12 @@ use Rattle.cal_lexer.specs.Lexeme.{Lexeme, plain_tokens}
 use Rattle.cal_lexer.specs.declared.token.Token.{Token}
 use Rattle.cal_parser.specs.declared.actions.Opening.{Opening}
 use Rattle.cal_parser.specs.declared.actions.Start.{Start}
-use Rattle.cal_expr.specs.declared.fault.Fault.{Fault}
+use Rattle.cal_cursor.specs.declared.fault.Fault.{Fault}
 use Rattle.cal_grammar.specs.Operators.{with_tag}
 use Rattle.cal_grammar.specs.Spells.{an_action, a_name, dot, rest}
 use Rattle.cal_grammar.specs.Token.{offset}
 use Rattle.cal_grammar.specs.Rules.{Step, part, read, begin, named, expect, ident_of, action_rest, type_tail, var_tail}
-use Rattle.cal_expr.specs.Tells.{TellsFault}
+use Rattle.cal_cursor.specs.Tells.{TellsFault}
 
 -- what is given is the tree that a step of a rule reads in a room of m, or why it reads none
 abbrev pub TellsStep : {A : Type 0} → (A → Tree) → ℕ → Step → Result A Fault → List Token

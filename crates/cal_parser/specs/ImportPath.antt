@@ -7,7 +7,7 @@ use Rattle.cal_ast.specs.View.{ident_tree, optional}
 use Rattle.cal_lexer.specs.Lexeme.{Lexeme, Placed, plain_tokens}
 use Rattle.cal_lexer.specs.declared.token.Token.{Token}
 use Rattle.cal_parser.specs.declared.files.Path.{Path}
-use Rattle.cal_expr.specs.Cursor.{stands}
+use Rattle.cal_cursor.specs.Cursor.{stands}
 use Rattle.cal_grammar.specs.Operators.{onto}
 use Rattle.cal_grammar.specs.Rules.{part, read}
 use Rattle.cal_grammar.specs.Spells.{Part, a_path, an_actor, a_unit}

@@ -6,7 +6,7 @@ use Rattle.cal_lexer.specs.Lexeme.{plain_tokens}
 use Rattle.cal_lexer.specs.declared.token.Token.{Token}
 use Rattle.cal_grammar.specs.Spells.{members}
 use Rattle.cal_grammar.specs.Rules.{part, read}
-use Rattle.cal_expr.specs.Tells.{before}
+use Rattle.cal_cursor.specs.Tells.{before}
 
 -- these members are read from `start` on, and the others from `now` on; `k` says whether a schedule may still come
 pub record IsMembersSoFar (m : ℕ) (start now : List Token) (k : Bool) (xs : List Tree) :

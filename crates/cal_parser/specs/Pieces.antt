@@ -7,11 +7,11 @@ use Rattle.cal_ast.specs.View.{ident_tree, type_tree, expr_tree, stmt_tree}
 use Rattle.cal_ast.specs.declared.stmt.Stmt.{Stmt}
 use Rattle.cal_lexer.specs.Lexeme.{Lexeme, placed, plain_tokens}
 use Rattle.cal_lexer.specs.declared.token.Token.{Token}
-use Rattle.cal_expr.specs.declared.fault.Fault.{Fault}
+use Rattle.cal_cursor.specs.declared.fault.Fault.{Fault}
 use Rattle.cal_parser.specs.declared.stmts.Bounds.{Bounds}
 use Rattle.cal_grammar.specs.Spells.{comma, separated, any, repeated, a_type, a_var, a_place, a_stmt, an_expr}
 use Rattle.cal_grammar.specs.Rules.{part, Step, read, on, expect, named, finish, ident_of, if_stmt_body}
-use Rattle.cal_expr.specs.Tells.{TellsFault}
+use Rattle.cal_cursor.specs.Tells.{TellsFault}
 
 -- an expression, and what is made of it
 abbrev pub value_then : (Tree → Tree) → Step

@@ -6,7 +6,7 @@ use Rattle.cal_lexer.specs.Lexeme.{Lexeme, plain_tokens}
 use Rattle.cal_lexer.specs.declared.token.Token.{Token}
 use Rattle.cal_grammar.specs.Spells.{Mark, mark, Part, separated}
 use Rattle.cal_grammar.specs.Rules.{Rule, part, read}
-use Rattle.cal_expr.specs.Tells.{before}
+use Rattle.cal_cursor.specs.Tells.{before}
 
 -- these trees are read from `start` on, with a mark behind each, and the rest is read from `now` on
 pub record IsSoFar (v : Mark) (p : Part) (w : Lexeme) (start now : List Token) (xs : List Tree) :

@@ -5,16 +5,16 @@ ghost use Rattle.cal_ast.specs.View.{action_tree, body_tree, expr_tree, optional
 ghost use Rattle.cal_parser.specs.Bodies.{TellsOpening, TellsStart, TellsStep, after_arrow, after_opening};
 ghost use Rattle.cal_grammar.specs.Rules.{in_body, out_body, part};
 ghost use Rattle.cal_grammar.specs.Spells.{a_body, an_action, an_in, an_out, some_guards, some_repeat};
-ghost use Rattle.cal_expr.specs.Tells.{Tells, each};
+ghost use Rattle.cal_cursor.specs.Tells.{Tells, each};
 
 use crate::decls::some_vars;
 use crate::lists::{Read, any};
 use crate::names::{Separator, names};
 use crate::stmts::stmts;
 use cal_ast::{Action, Expr, Ident, Output, Pattern, Stmt};
-use cal_expr::cursor::{expect, finish, is_name, is_word, name, take_word};
+use cal_cursor::cursor::{expect, finish, is_name, is_word, name, take_word};
+use cal_cursor::fault::Fault;
 use cal_expr::expr::{expr, exprs};
-use cal_expr::fault::Fault;
 use cal_lexer::{Token, Word};
 use std::alloc::Global;
 

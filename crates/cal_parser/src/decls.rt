@@ -8,14 +8,14 @@ ghost use Rattle.cal_ast.specs.View.{ident_tree, param_tree, port_tree, type_tre
 ghost use Rattle.cal_parser.specs.Pieces.{Does, value_then};
 ghost use Rattle.cal_grammar.specs.Rules.{part, var_tail};
 ghost use Rattle.cal_grammar.specs.Spells.{a_param, a_port, a_var, any, comma, some_vars as some_vars_part};
-ghost use Rattle.cal_expr.specs.Tells.{Tells, each};
+ghost use Rattle.cal_cursor.specs.Tells.{Tells, each};
 
 use crate::lists::{Read, any, separated};
 use crate::names::Separator;
 use cal_ast::{Ident, Param, PortDecl, TypeExpr, VarDecl};
-use cal_expr::cursor::{is_name, is_word, name, take_word};
+use cal_cursor::cursor::{is_name, is_word, name, take_word};
+use cal_cursor::fault::Fault;
 use cal_expr::expr::{expr, type_expr};
-use cal_expr::fault::Fault;
 use cal_lexer::{Token, Word};
 use std::alloc::Global;
 

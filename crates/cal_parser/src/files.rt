@@ -9,15 +9,15 @@ ghost use Rattle.cal_lexer.specs.Lexeme.{plain_tokens};
 ghost use Rattle.cal_parser.specs.ImportPath.{body_part, path_tree};
 ghost use Rattle.cal_grammar.specs.Rules.{at_end, part, whole as a_whole_file};
 ghost use Rattle.cal_grammar.specs.Spells.{a_file, a_path, a_unit, an_actor, an_import, some_imports};
-ghost use Rattle.cal_expr.specs.Tells.{Tells};
+ghost use Rattle.cal_cursor.specs.Tells.{Tells};
 
 use crate::decls::{params, ports};
 use crate::lists::{Read, repeated};
 use crate::members::members;
 use crate::names::tag;
 use cal_ast::{Actor, Body, File, Ident, Import, Member, UnitFile};
-use cal_expr::cursor::{expect, finish, is_word, name, take_word};
-use cal_expr::fault::Fault;
+use cal_cursor::cursor::{expect, finish, is_word, name, take_word};
+use cal_cursor::fault::Fault;
 use cal_lexer::{Token, Word};
 use std::alloc::Global;
 

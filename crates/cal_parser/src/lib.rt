@@ -1,7 +1,7 @@
 //! From tokens to the tree of a file.
 //!
 //! The code does what the programs of `cal_grammar` do, and is told by a clause each: see `specs/Tells.antt` of
-//! `cal_expr`, which reads the expressions and the types.
+//! `cal_cursor`. `cal_expr` reads the expressions and the types.
 #![tactic(auto)]
 
 mod actions;

@@ -4,21 +4,21 @@ ghost use Rattle.std.specs.Prelude.{◌≡◌};
 ghost use Rattle.cal_grammar.specs.Rules.{part};
 ghost use Rattle.cal_parser.specs.Separator.{mark_of};
 ghost use Rattle.cal_grammar.specs.Spells.{comma, separated, any, repeated};
-ghost use Rattle.cal_expr.specs.Tells.{Tells, each};
+ghost use Rattle.cal_cursor.specs.Tells.{Tells, each};
 
 use crate::names::Separator;
-use cal_expr::cursor::{is_word, take_word};
-use cal_expr::fault::Fault;
+use cal_cursor::cursor::{is_word, take_word};
+use cal_cursor::fault::Fault;
 use cal_lexer::Token;
 use std::alloc::Global;
 
 /// A part of the grammar that lists are made of.
 pub trait Read: Drop {
     ghost use Rattle.cal_ast.specs.Tree.{Tree};
-    ghost use Rattle.cal_expr.specs.Cursor.{stands};
+    ghost use Rattle.cal_cursor.specs.Cursor.{stands};
     ghost use Rattle.cal_grammar.specs.Rules as rules;
     ghost use Rattle.cal_grammar.specs.Spells.{Part};
-    ghost use Rattle.cal_expr.specs.Tells.{Tells};
+    ghost use Rattle.cal_cursor.specs.Tells.{Tells};
 
     /// Which part it is.
     ghost part: { Part };

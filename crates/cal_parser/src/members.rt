@@ -3,10 +3,10 @@
 ghost use Rattle.std.specs.Prelude.{◌≡◌, true};
 ghost use Rattle.cal_ast.specs.View.{action_tree, function_tree, ident_tree, member_tree, procedure_tree, var_tree};
 ghost use Rattle.cal_parser.specs.Bodies.{TellsStep, after_label, after_type};
-ghost use Rattle.cal_expr.specs.Cursor.{stands};
+ghost use Rattle.cal_cursor.specs.Cursor.{stands};
 ghost use Rattle.cal_grammar.specs.Rules.{named, named_member_body, part, starts_member as starts_a_member};
 ghost use Rattle.cal_grammar.specs.Spells.{a_function, a_member, a_name, a_procedure, a_unit_member, dot, members as members_of, rest};
-ghost use Rattle.cal_expr.specs.Tells.{Tells, each};
+ghost use Rattle.cal_cursor.specs.Tells.{Tells, each};
 
 use crate::actions::action;
 use crate::decls::{ports, some_vars, var, var_after};
@@ -15,9 +15,9 @@ use crate::names::{Separator, names};
 use crate::schedules::{priority, schedule};
 use crate::stmts::stmts;
 use cal_ast::{Action, Function, Ident, Member, Procedure, Tag, VarDecl};
-use cal_expr::cursor::{expect, finish, is_name, is_word, name, take_word};
+use cal_cursor::cursor::{expect, finish, is_name, is_word, name, take_word};
+use cal_cursor::fault::Fault;
 use cal_expr::expr::{expr, type_after, type_expr};
-use cal_expr::fault::Fault;
 use cal_lexer::{Token, TokenKind, Word};
 use std::alloc::Global;
 

@@ -5,11 +5,11 @@ ghost use Rattle.cal_ast.specs.Places.{begins};
 ghost use Rattle.cal_ast.specs.Tree.{listed};
 ghost use Rattle.cal_ast.specs.View.{ident_tree};
 ghost use Rattle.cal_parser.specs.Separator.{mark_of};
-ghost use Rattle.cal_expr.specs.Tells.{TellsNames, TellsTag};
+ghost use Rattle.cal_cursor.specs.Tells.{TellsNames, TellsTag};
 
 use cal_ast::{Ident, Tag};
-use cal_expr::cursor::{is_word, name, take_word};
-use cal_expr::fault::Fault;
+use cal_cursor::cursor::{is_word, name, take_word};
+use cal_cursor::fault::Fault;
 use cal_lexer::{Token, Word};
 use std::alloc::Global;
 

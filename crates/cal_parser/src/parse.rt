@@ -11,7 +11,7 @@ ghost use Rattle.cal_grammar.specs.Spells.{spells};
 
 use crate::files::whole;
 use cal_ast::File;
-use cal_expr::fault::Fault;
+use cal_cursor::fault::Fault;
 use cal_lexer::Token;
 use rvc_base::{Front, Place, Refusal, Rule};
 use std::alloc::Global;

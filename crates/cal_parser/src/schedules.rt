@@ -3,13 +3,13 @@
 ghost use Rattle.cal_ast.specs.View.{chain_tree, move_tree, priority_tree, schedule_tree};
 ghost use Rattle.cal_grammar.specs.Rules.{part};
 ghost use Rattle.cal_grammar.specs.Spells.{a_chain, a_move, a_priority, a_schedule};
-ghost use Rattle.cal_expr.specs.Tells.{Tells};
+ghost use Rattle.cal_cursor.specs.Tells.{Tells};
 
 use crate::lists::{Read, repeated, separated};
 use crate::names::{Separator, tag};
 use cal_ast::{Move, Priority, Schedule, Tag};
-use cal_expr::cursor::{expect, finish, is_name, name};
-use cal_expr::fault::Fault;
+use cal_cursor::cursor::{expect, finish, is_name, name};
+use cal_cursor::fault::Fault;
 use cal_lexer::{Token, Word};
 use std::alloc::Global;
 

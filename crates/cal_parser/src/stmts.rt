@@ -3,21 +3,21 @@
 ghost use Rattle.std.specs.Prelude.{◌≡◌, ◌≤◌};
 ghost use Rattle.cal_ast.specs.View.{body_tree, expr_tree, ident_tree, stmt_tree, var_tree};
 ghost use Rattle.cal_lexer.specs.Lexeme.{Lexeme, placed};
-ghost use Rattle.cal_expr.specs.Cursor.{stands};
+ghost use Rattle.cal_cursor.specs.Cursor.{stands};
 ghost use Rattle.cal_parser.specs.Pieces as pieces;
 ghost use Rattle.cal_parser.specs.Pieces.{Does, DoesIf, Leads, LeadsRange};
 ghost use Rattle.cal_grammar.specs.Rules.{block_body, foreach_body, named, named_stmt_body, part, starts_stmt, while_body};
 ghost use Rattle.cal_grammar.specs.Spells as spells;
 ghost use Rattle.cal_grammar.specs.Spells.{a_place, a_stmt, repeated};
-ghost use Rattle.cal_expr.specs.Tells.{Tells, each};
+ghost use Rattle.cal_cursor.specs.Tells.{Tells, each};
 ghost use Rattle.cal_lexer.specs.Words.{lexeme_of};
 
 use crate::lists::separated;
 use crate::names::Separator;
 use cal_ast::{Expr, Ident, Stmt, StmtForm, TypeExpr, VarDecl};
-use cal_expr::cursor::{expect, finish, is_name, is_word, name, take_word};
+use cal_cursor::cursor::{expect, finish, is_name, is_word, name, take_word};
+use cal_cursor::fault::Fault;
 use cal_expr::expr::{args, expr, type_expr};
-use cal_expr::fault::Fault;
 use cal_lexer::{Token, Word};
 use std::alloc::Global;
 

@@ -6,11 +6,12 @@ use Rattle.cal_ast.specs.View.{expr_tree, gen_tree, type_arg_tree}
 use Rattle.cal_lexer.specs.Lexeme.{Lexeme, plain_tokens}
 use Rattle.cal_grammar.specs.Rules.{if_body, list_body, name_body, part, places, read}
 use Rattle.cal_grammar.specs.Spells.{a_gen, a_primary, a_type, a_type_arg, an_expr, any, comma, level, separated}
-use Rattle.cal_expr.specs.Steps.{climbs, does, each_expr, each_gen, each_type_arg, number_step, tall_gen, tall_tree, tall_type, tall_type_arg, truth_step}
+use Rattle.cal_cursor.specs.Pairs.{tall_tree}
+use Rattle.cal_expr.specs.Steps.{climbs, does, each_expr, each_gen, each_type_arg, number_step, tall_gen, tall_type, tall_type_arg, truth_step}
 use Rattle.cal_expr.proofs.Chains.{IsNested, climbed_first, climbed_high, climbed_last, climbed_more, climbed_right, climbed_tighter, indexed_fault, indexed_first, indexed_high, indexed_last, indexed_more, indexed_open, nested_fault, nested_first, nested_inner, nested_last, nested_more, nested_open, nested_place, operand_goes, prefix_goes, prefix_high}
 use Rattle.cal_expr.proofs.Exits.{Arg, Bracketed, Choice, Generator, Named, all_popped, arg_neither, arg_shape, arg_shaped, arg_value, arg_valued, bracketed_alone, bracketed_comp, bracketed_first, bracketed_gens, bracketed_led, bracketed_list, bracketed_others, choice_else, choice_ends, choice_led, choice_no, choice_test, choice_then, choice_yes, fault_answers, generator_dots, generator_ends, generator_from, generator_in, generator_name, generator_shape, generator_to, named_called, named_fault, named_led, opens_fault, popped, type_alone, type_ends, type_fault, word_less}
 use Rattle.cal_expr.proofs.Going.{answers_same, fault_on, gave_on, read_less}
-use Rattle.cal_expr.proofs.Taking.{took_less}
+use Rattle.cal_cursor.proofs.Taking.{took_less}
 use Rattle.cal_expr.proofs.Primaries.{arg_fault, args_none, args_some, gen_fault, listed_fault, listed_first, listed_last, listed_more, named_alone, primary_false, primary_if, primary_list, primary_name, primary_none, primary_number, primary_true, type_goes, type_led, type_none}
 use Rattle.cal_expr.proofs.expr.+reading.Goals as goal
 

@@ -1,7 +1,7 @@
 use Rattle.std.proofs.Common.{◌+◌, ◌*◌, ◌-◌, ◌≤◌, length, map}
 use Rattle.cal_ast.specs.View.{expr_tree, gen_tree, type_arg_tree}
 use Rattle.cal_grammar.specs.Spells.{a_gen, a_type_arg, an_expr}
-use Rattle.cal_expr.specs.Steps.{tall_tree}
+use Rattle.cal_cursor.specs.Pairs.{tall_tree}
 use Rattle.cal_expr.proofs.Chains.{IsClimbed, IsIndexed, IsNested}
 use Rattle.cal_expr.proofs.Primaries.{IsListed}
 use Rattle.cal_expr.proofs.expr.+reading.Given as goal

@@ -5,7 +5,7 @@ use Rattle.cal_lexer.specs.Lexeme.{plain_tokens}
 use Rattle.cal_grammar.specs.Rules.{part, read, type_tail}
 use Rattle.cal_grammar.specs.Spells.{a_type_arg, comma, separated}
 use Rattle.cal_expr.specs.Steps.{each_type_arg, tall_type}
-use Rattle.cal_expr.specs.Tells.{TellsFault}
+use Rattle.cal_cursor.specs.Tells.{TellsFault}
 use Rattle.cal_expr.proofs.Exits.{fault_answers, type_alone, type_ends, type_fault}
 use Rattle.cal_expr.proofs.Going.{tells_from}
 use Rattle.cal_expr.proofs.expr.type_after.Goals as goal

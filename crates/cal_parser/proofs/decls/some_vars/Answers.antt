@@ -2,7 +2,7 @@ use Rattle.std.proofs.Common.{sym, ◌∙◌}
 use Rattle.cal_ast.specs.View.{var_tree}
 use Rattle.cal_grammar.specs.Rules.{part}
 use Rattle.cal_grammar.specs.Spells.{comma, separated, a_var, some_vars}
-use Rattle.cal_expr.specs.Tells.{each}
+use Rattle.cal_cursor.specs.Tells.{each}
 use Rattle.cal_parser.proofs.Declarations.{no_vars, some_vars_at, tells_jump}
 use Rattle.cal_parser.proofs.decls.some_vars.Goals as goal
 

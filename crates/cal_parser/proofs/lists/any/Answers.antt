@@ -4,7 +4,7 @@ use Rattle.cal_ast.specs.Tree.{listed}
 use Rattle.cal_lexer.specs.Lexeme.{plain_tokens}
 use Rattle.cal_grammar.specs.Rules.{part}
 use Rattle.cal_grammar.specs.Spells.{comma, any, separated}
-use Rattle.cal_expr.specs.Tells.{each}
+use Rattle.cal_cursor.specs.Tells.{each}
 use Rattle.cal_parser.proofs.Declarations.{tells_jump}
 use Rattle.cal_parser.proofs.Loops.{any_none, any_some}
 use Rattle.cal_parser.proofs.lists.any.Goals as goal

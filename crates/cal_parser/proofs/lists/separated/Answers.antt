@@ -2,7 +2,7 @@ use Rattle.std.proofs.Common.{◌≡◌, Err, rules, sym, ◌∙◌, arith}
 use Rattle.cal_parser.specs.Separator.{mark_of}
 use Rattle.cal_lexer.specs.Words.{lexeme_of}
 use Rattle.cal_parser.proofs.Loops.{parts_more, parts_last, parts_fail, read_no_longer}
-use Rattle.cal_expr.proofs.Taking.{took_less}
+use Rattle.cal_cursor.proofs.Taking.{took_less}
 use Rattle.cal_parser.proofs.lists.separated.Goals as goal
 
 pub returns-in_err-next : goal.returns-in_err-next

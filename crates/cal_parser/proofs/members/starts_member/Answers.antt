@@ -1,5 +1,5 @@
 use Rattle.std.proofs.Common.{◌∙◌}
-use Rattle.cal_expr.proofs.Tests.{front}
+use Rattle.cal_cursor.proofs.Tests.{front}
 use Rattle.cal_grammar.specs.Rules.{starts_member}
 use Rattle.cal_parser.proofs.Starts.{no_member}
 use Rattle.cal_parser.proofs.members.starts_member.Goals as goal

@@ -6,10 +6,10 @@ use Rattle.cal_parser.specs.Pieces.{else_rest}
 use Rattle.cal_grammar.specs.Rules.{named, named_stmt_body, if_stmt_body, while_body, foreach_body, block_body}
 use Rattle.cal_grammar.specs.Spells.{a_stmt, otherwise}
 use Rattle.cal_lexer.specs.Words.{lexeme_of}
-use Rattle.cal_expr.specs.declared.fault.Fault.TheVariants as faults
+use Rattle.cal_cursor.specs.declared.fault.Fault.TheVariants as faults
 use Rattle.cal_parser.proofs.Loops.{again_more, again_none, again_fail, read_shorter}
 use Rattle.cal_parser.proofs.Statements.{body_fails, body_unfinished, body_read, tells_on, does_if, stmt_high, stmt_named, stmt_if, stmt_while, stmt_foreach, stmt_block, stmt_none, if_no_test, if_no_first, if_no_other, if_read, other_none, behind_else, no_elsif, elsif_high, elsif_fails, elsif_read, else_fails, else_unfinished, else_read, while_no_test, while_no_body, while_read, foreach_no_range, foreach_no_body, foreach_read, block_no_vars, block_no_body, block_read}
-use Rattle.cal_expr.proofs.Taking.{end_stood, none_stood}
+use Rattle.cal_cursor.proofs.Taking.{end_stood, none_stood}
 use Rattle.cal_parser.proofs.StmtTrees.{tree_if, tree_while, tree_foreach, tree_block}
 use Rattle.cal_parser.proofs.stmts.+stmt.Goals as goal
 

@@ -1,0 +1,4 @@
+pub mod Cursor
+pub mod Leading
+pub mod Pairs
+pub mod Tells
