@@ -4,9 +4,9 @@
 #![tactic(auto)]
 
 #[cfg(test)]
-mod runs;
+mod running;
 #[cfg(test)]
-mod settings;
+mod runs;
 #[cfg(test)]
 mod sources;
 #[cfg(test)]
