@@ -14,8 +14,8 @@ use std::test::Fail;
 use std::thread::Threads;
 
 /// What is run: the words, the text of the files `Inc.cal` and `A.cal`, the inputs under the names `in` and `t`, the most
-/// bytes that a call moves, and the read of a file, the call to the feeds and the call to the channels that fails, counted
-/// from 1; 0 for none.
+/// bytes that a call moves, and the read of a file, the call to the feeds and the call to the channels that fails,
+/// counted from 1; 0 for none.
 #[derive(Clone, Copy)]
 pub(crate) struct Run<'a> {
     pub words: &'a str,

@@ -2,8 +2,8 @@
 //!
 //! A table has parts. Each begins with `# ` and the text of the files `Inc.cal` and `A.cal`; then comes a line `= ` with
 //! what is left, in which `/` ends each line, and the lines of words that leave it. A line that begins with numbers and a
-//! colon has its own most bytes of a call, and the read of a file, the call to the feeds and the call to the channels that
-//! fails. ` < ` stands before the trace that is under the name `t`.
+//! colon has its own most bytes of a call, and the read of a file, the call to the feeds and the call to the channels
+//! that fails. ` < ` stands before the trace that is under the name `t`.
 
 use crate::running::{Run, hold_left};
 use std::alloc::{AllocError, Global};
