@@ -1,12 +1,2 @@
-mod NameLists
-mod Loops
-mod Steps
-mod Declarations
-mod StmtTrees
-mod Statements
-mod Tags
 mod FileAnswers
 mod ImportPaths
-mod MemberLists
-mod Openings
-mod Starts

@@ -11,14 +11,14 @@ ghost use Rattle.cal_grammar.specs.Rules.{at_end, part, whole as a_whole_file};
 ghost use Rattle.cal_grammar.specs.Spells.{a_file, a_path, a_unit, an_actor, an_import, some_imports};
 ghost use Rattle.cal_cursor.specs.Tells.{Tells};
 
-use crate::decls::{params, ports};
-use crate::lists::{Read, repeated};
-use crate::members::members;
-use crate::names::tag;
-use cal_ast::{Actor, Body, File, Ident, Import, Member, UnitFile};
+use cal_ast::{Actor, Body, File, Ident, Import, UnitFile};
 use cal_cursor::cursor::{expect, finish, is_word, name, take_word};
 use cal_cursor::fault::Fault;
 use cal_lexer::{Token, Word};
+use cal_member::members::{UnitMemberPart, members};
+use cal_stmt::decls::{params, ports};
+use cal_stmt::lists::{Read, repeated};
+use cal_stmt::names::tag;
 use std::alloc::Global;
 
 /// What follows the first name of an import.
@@ -69,9 +69,14 @@ fn import(alloc: Global, tokens: &mut &[Token], room: u32) -> Result<Import, Fau
     })
 }
 
-impl Read for Import {
+/// An import, as a part of a list.
+struct ImportPart;
+
+impl Read for ImportPart {
     ghost use Rattle.cal_ast.specs.View.{import_tree};
     ghost use Rattle.cal_grammar.specs.Spells.{an_import};
+
+    type Value = Import;
 
     ghost part = { an_import };
 
@@ -122,7 +127,7 @@ fn unit(alloc: Global, tokens: &mut &[Token], room: u32) -> Result<UnitFile, Fau
     let at = expect(tokens, Word::Unit)?;
     let name = name(alloc, tokens)?;
     expect(tokens, Word::Colon)?;
-    let members = repeated::<Member>(alloc, tokens, room)?;
+    let members = repeated::<UnitMemberPart>(alloc, tokens, room)?;
     if !finish(tokens, Word::Unit) {
         return Err(Fault::Refused);
     }
@@ -160,7 +165,7 @@ fn first_offset(imports: &[Import], body: &Body) -> u32
 fn imports_and_body(alloc: Global, tokens: &mut &[Token], room: u32) -> Result<File, Fault>
     ensures { Tells file_tree room (part some_imports) result tokens.old.now tokens.new.now }
 {
-    let imports = repeated::<Import>(alloc, tokens, room)?;
+    let imports = repeated::<ImportPart>(alloc, tokens, room)?;
     let body = body(alloc, tokens, room)?;
     let at = first_offset(&imports, &body);
     Ok(File {

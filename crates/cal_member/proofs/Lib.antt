@@ -1,0 +1,3 @@
+mod MemberLists
+mod Openings
+mod Starts

@@ -1,0 +1,2 @@
+pub mod MembersSoFar
+pub mod Bodies

@@ -1,0 +1,3 @@
+pub mod Separator
+pub mod SoFar
+pub mod Pieces
