@@ -1,0 +1,70 @@
+//! A library, feeds and channels in memory.
+
+ghost use Rattle.std.specs.Prelude.{◌≡◌, ◌≢◌, ℕ, true, false, IfOk};
+ghost use Rattle.rvc_io.specs.MemDrains.{channels_of};
+ghost use Rattle.rvc_io.specs.MemFeeds.{inputs_of};
+
+use crate::files::{inputs, sources};
+use rvc_io::{MemDrains, MemFeeds, MemLibrary, names_are_distinct};
+use std::alloc::Global;
+use std::test::Fail;
+
+/// A library of a file and of those of lines `NAME TEXT`, whose read of this number fails, counted from 1; 0 for none.
+///
+/// # Errors
+///
+/// A test fails if two files have one name, and if memory runs out.
+pub fn library(
+    alloc: Global,
+    name: &str,
+    text: &[u8],
+    others: &str,
+    read: u64,
+) -> Result<MemLibrary, Fail> {
+    let files = sources(alloc, name, text, others)?;
+    if !names_are_distinct(&files) {
+        return Err(Fail::new("two files have one name"));
+    }
+    Ok(MemLibrary::new(files, vec![in alloc; read]?))
+}
+
+/// Closed feeds of an input under the name `in` and of a trace under the name `t`, in which `/` ends each line. A call moves
+/// at most `step` bytes, and the call of this number fails, counted from 1; 0 for none.
+///
+/// # Errors
+///
+/// A test fails if `step` is 0, and if memory runs out.
+pub fn feeds(
+    alloc: Global,
+    input: &[u8],
+    trace: &str,
+    call: u64,
+    step: u32,
+) -> Result<MemFeeds, Fail>
+    ensures closed { IfOk result (λ feeds. (feed : ℕ) → (inputs_of feeds).is_open feed ≡ false) }
+{
+    let files = inputs(alloc, input, trace)?;
+    if !names_are_distinct(&files) || step == 0 {
+        return Err(Fail::new("two files have one name, or no call moves a byte"));
+    }
+    let failing = vec![in alloc; call]?;
+    Ok(MemFeeds::new(alloc, files, failing, step, 4)?)
+}
+
+/// Channels of which the one of the report is open. A call moves at most `step` bytes, a channel holds at most `room`, and the
+/// call of this number fails, counted from 1; 0 for none.
+///
+/// # Errors
+///
+/// A test fails if `step` is 0, and if memory runs out.
+pub fn drains(alloc: Global, call: u64, step: u32, room: u32) -> Result<MemDrains, Fail>
+    ensures report_open { IfOk result (λ drains. (channels_of drains).is_open 0 ≡ true) }
+    ensures others_closed { IfOk result (λ drains. (channel : ℕ) → channel ≢ 0
+        → (channels_of drains).is_open channel ≡ false) }
+{
+    if step == 0 {
+        return Err(Fail::new("no call moves a byte"));
+    }
+    let failing = vec![in alloc; call]?;
+    Ok(MemDrains::new(alloc, failing, step, 4, room)?)
+}
