@@ -1,85 +1,43 @@
 //! Code that breaks a typing line, and the place that is named.
 
-use super::programs::{Found, Program};
+use crate::programs::Found::{Bad, Ran};
+use crate::programs::{Found, Frame, Table, hold};
+use action_machine::Outcome;
 use code_ir::{Instr, Routine};
-use std::alloc::Global;
-use std::process::Abort;
-
-/// The place at which code of two cells is bad, none if it is admitted and runs.
-type Bodies = (
-    &'static [Routine],
-    &'static [u32],
-    &'static [Instr],
-    Option<u32>,
-);
-
-/// Asserts at which places code is bad.
-fn hold_bad<R: Abort>(rt: &R, alloc: Global, rows: &[Bodies]) {
-    for &(routines, entries, instrs, want) in rows {
-        let program = Program {
-            cells: 2,
-            routines,
-            entries,
-            instrs,
-        };
-        let bad = match program.run(alloc, entries.first().copied().unwrap_or(0)) {
-            Found::Ran(_, _) => None,
-            Found::Bad(at) => Some(at),
-            _ => Some(u32::MAX),
-        };
-        assert!(rt; bad == want, "{instrs:?}");
-    }
-}
 
 const NO_RESULT: Routine = Routine {
     start: 0,
     results: 0,
 };
 
-const PLACED: &[Bodies] = &[
-    (&[], &[0, 1], &[Instr::Done, Instr::Done], None),
-    (&[], &[0, 2], &[Instr::Done, Instr::Done], Some(2)),
-    (&[], &[0, 1, 1], &[Instr::Done, Instr::Done], Some(1)),
-    (&[NO_RESULT], &[0], &[Instr::Done, Instr::Done], Some(0)),
-    (&[], &[1], &[Instr::Done, Instr::Done], Some(0)),
-];
-
-#[test]
-fn bodies_begin_at_distinct_places_of_the_code(rt: HostRuntime) {
-    hold_bad(&rt, rt.alloc(), PLACED);
-}
-
-const ENTRY_BODIES: &[Bodies] = &[
-    (&[], &[0], &[Instr::Const(1), Instr::Answer], None),
-    (&[], &[0], &[Instr::Const(1), Instr::Return], Some(1)),
+const ENTRY_BODIES: &[(&[Instr], Found)] = &[
     (
-        &[],
-        &[0],
-        &[Instr::Const(1), Instr::Add, Instr::Answer],
-        Some(1),
+        &[Instr::Const(1), Instr::Answer],
+        Ran(Outcome::True, [0, 0, 0, 0, 0, 0]),
     ),
-    (&[], &[0], &[Instr::Drop, Instr::Done], Some(0)),
-    (&[], &[0], &[Instr::Load(1), Instr::Answer], None),
-    (&[], &[0], &[Instr::Load(2), Instr::Answer], Some(0)),
-    (&[], &[0], &[Instr::Zero(1, 2), Instr::Done], Some(0)),
-    (&[], &[0], &[Instr::Const(1), Instr::Turn], Some(1)),
-    (&[], &[0], &[Instr::Call(0), Instr::Done], Some(0)),
-    (&[], &[0], &[Instr::Jump(2), Instr::Done], Some(0)),
+    (&[Instr::Const(1), Instr::Return], Bad(1)),
+    (&[Instr::Const(1), Instr::Add, Instr::Answer], Bad(1)),
+    (&[Instr::Drop, Instr::Done], Bad(0)),
     (
-        &[],
-        &[0],
+        &[Instr::Load(1), Instr::Answer],
+        Ran(Outcome::False, [0, 0, 0, 0, 0, 0]),
+    ),
+    (&[Instr::Load(2), Instr::Answer], Bad(0)),
+    (&[Instr::Zero(1, 2), Instr::Done], Bad(0)),
+    (&[Instr::Const(1), Instr::Turn], Bad(1)),
+    (&[Instr::Call(0), Instr::Done], Bad(0)),
+    (&[Instr::Jump(2), Instr::Done], Bad(0)),
+    (
         &[
             Instr::Turn,
             Instr::Const(0),
             Instr::JumpIfNot(1),
             Instr::Done,
         ],
-        Some(2),
+        Bad(2),
     ),
     // place 4 has no operand on one way, and one on the other
     (
-        &[],
-        &[0],
         &[
             Instr::Const(0),
             Instr::JumpIfNot(4),
@@ -87,14 +45,9 @@ const ENTRY_BODIES: &[Bodies] = &[
             Instr::Turn,
             Instr::Done,
         ],
-        Some(4),
+        Bad(4),
     ),
 ];
-
-#[test]
-fn a_body_of_an_entry_names_the_instruction_that_breaks_a_line(rt: HostRuntime) {
-    hold_bad(&rt, rt.alloc(), ENTRY_BODIES);
-}
 
 /// Two routines of two instructions, which leave a result each, and the body of an entry behind them.
 const TWO: &[Routine] = &[
@@ -112,16 +65,12 @@ const ONE: Instr = Instr::Const(1);
 
 const CALL: Instr = Instr::Call(1);
 
-const ROUTINES: &[Bodies] = &[
+const ROUTINES: &[(&[Instr], Found)] = &[
     (
-        TWO,
-        &[4],
         &[ONE, Instr::Return, ONE, Instr::Return, CALL, Instr::Answer],
-        None,
+        Ran(Outcome::True, [0, 0, 0, 0, 0, 0]),
     ),
     (
-        TWO,
-        &[4],
         &[
             ONE,
             Instr::Return,
@@ -130,11 +79,9 @@ const ROUTINES: &[Bodies] = &[
             CALL,
             Instr::Answer,
         ],
-        None,
+        Ran(Outcome::True, [0, 0, 0, 0, 0, 0]),
     ),
     (
-        TWO,
-        &[4],
         &[
             Instr::Turn,
             Instr::Return,
@@ -143,23 +90,17 @@ const ROUTINES: &[Bodies] = &[
             CALL,
             Instr::Answer,
         ],
-        Some(1),
+        Bad(1),
     ),
     (
-        TWO,
-        &[4],
         &[ONE, Instr::Answer, ONE, Instr::Return, CALL, Instr::Answer],
-        Some(1),
+        Bad(1),
     ),
     (
-        TWO,
-        &[4],
         &[ONE, Instr::Return, ONE, Instr::Done, CALL, Instr::Answer],
-        Some(3),
+        Bad(3),
     ),
     (
-        TWO,
-        &[4],
         &[
             Instr::Call(0),
             Instr::Return,
@@ -168,11 +109,9 @@ const ROUTINES: &[Bodies] = &[
             CALL,
             Instr::Answer,
         ],
-        Some(0),
+        Bad(0),
     ),
     (
-        TWO,
-        &[4],
         &[
             Instr::Call(1),
             Instr::Return,
@@ -181,11 +120,9 @@ const ROUTINES: &[Bodies] = &[
             CALL,
             Instr::Answer,
         ],
-        Some(0),
+        Bad(0),
     ),
     (
-        TWO,
-        &[4],
         &[
             ONE,
             Instr::Return,
@@ -194,11 +131,9 @@ const ROUTINES: &[Bodies] = &[
             CALL,
             Instr::Answer,
         ],
-        Some(2),
+        Bad(2),
     ),
     (
-        TWO,
-        &[4],
         &[
             ONE,
             Instr::Return,
@@ -207,11 +142,9 @@ const ROUTINES: &[Bodies] = &[
             CALL,
             Instr::Answer,
         ],
-        Some(2),
+        Bad(2),
     ),
     (
-        TWO,
-        &[4],
         &[
             ONE,
             Instr::Return,
@@ -220,11 +153,95 @@ const ROUTINES: &[Bodies] = &[
             CALL,
             Instr::Answer,
         ],
-        Some(2),
+        Bad(2),
     ),
 ];
 
+/// Two cells.
+const PAIR: Frame<'static> = Frame {
+    cells: 2,
+    routines: &[],
+    entries: &[0],
+    entry: 0,
+    before: &[],
+    after: &[],
+};
+
+/// Two routines before an entry at 4.
+const BEHIND_TWO: Frame<'static> = Frame {
+    cells: 2,
+    routines: TWO,
+    entries: &[4],
+    entry: 4,
+    before: &[],
+    after: &[],
+};
+
+const BODIES: &[Table] = &[
+    // two bodies that end at once, which begin at distinct places of the code or don't
+    (
+        Frame {
+            cells: 2,
+            routines: &[],
+            entries: &[0, 1],
+            entry: 0,
+            before: &[],
+            after: &[],
+        },
+        &[(
+            &[Instr::Done, Instr::Done],
+            Ran(Outcome::Done, [0, 0, 0, 0, 0, 0]),
+        )],
+    ),
+    (
+        Frame {
+            cells: 2,
+            routines: &[],
+            entries: &[0, 2],
+            entry: 0,
+            before: &[],
+            after: &[],
+        },
+        &[(&[Instr::Done, Instr::Done], Bad(2))],
+    ),
+    (
+        Frame {
+            cells: 2,
+            routines: &[],
+            entries: &[0, 1, 1],
+            entry: 0,
+            before: &[],
+            after: &[],
+        },
+        &[(&[Instr::Done, Instr::Done], Bad(1))],
+    ),
+    (
+        Frame {
+            cells: 2,
+            routines: &[NO_RESULT],
+            entries: &[0],
+            entry: 0,
+            before: &[],
+            after: &[],
+        },
+        &[(&[Instr::Done, Instr::Done], Bad(0))],
+    ),
+    (
+        Frame {
+            cells: 2,
+            routines: &[],
+            entries: &[1],
+            entry: 1,
+            before: &[],
+            after: &[],
+        },
+        &[(&[Instr::Done, Instr::Done], Bad(0))],
+    ),
+    (PAIR, ENTRY_BODIES),
+    (BEHIND_TWO, ROUTINES),
+];
+
 #[test]
-fn a_routine_leaves_its_results_and_calls_smaller_ones(rt: HostRuntime) {
-    hold_bad(&rt, rt.alloc(), ROUTINES);
+fn a_body_begins_at_its_place_and_names_the_instruction_that_breaks_a_line(rt: HostRuntime) {
+    hold(&rt, rt.alloc(), BODIES);
 }

@@ -1,12 +1,10 @@
 //! Jumps, turns, calls, and how runs end.
 
-use super::programs::Found::Ran;
-use super::programs::{Found, Program, hold};
+use crate::programs::Found::Ran;
+use crate::programs::{ALONE, Found, Frame, Table, hold, run};
 use action_machine::Outcome;
 use code_ir::{Instr, Routine};
 use rvc_base::{MAX_TURNS, Num, Trap};
-use std::alloc::Global;
-use std::process::Abort;
 
 const LEAST: Num = Num::MIN;
 
@@ -157,15 +155,14 @@ const ENDED: &[(&[Instr], Found)] = &[
     (&[Instr::Jump(0)], Found::Bad(0)),
 ];
 
-#[test]
-fn runs_end_by_a_trap_an_answer_or_a_firing(rt: HostRuntime) {
-    hold(&rt, rt.alloc(), ENDED);
-}
-
-/// A loop that counts cell 0 down from `n` to 0, with a turn each time, and then stores 7 in cell 1.
-fn count_down(n: Num) -> [Instr; 13] {
-    [
-        Instr::Const(n),
+/// A loop that counts cell 0 down to 0, with a turn each time, and then stores 7 in cell 1.
+const COUNT_DOWN: Frame<'static> = Frame {
+    cells: 6,
+    routines: &[],
+    entries: &[0],
+    entry: 0,
+    before: &[],
+    after: &[
         Instr::Store(0, None),
         Instr::Turn,
         Instr::Load(0),
@@ -178,76 +175,68 @@ fn count_down(n: Num) -> [Instr; 13] {
         Instr::Const(7),
         Instr::Store(1, None),
         Instr::Done,
-    ]
-}
-
-#[test]
-fn as_many_turns_are_made_as_the_limit_says(rt: HostRuntime) {
-    assert!(rt; MAX_TURNS == 1048576);
-    let most = Num::from(MAX_TURNS);
-    let within = count_down(most);
-    let beyond = count_down(most + 1);
-    hold(
-        &rt,
-        rt.alloc(),
-        &[
-            (within.as_slice(), Ran(Outcome::Done, [0, 7, 0, 0, 0, 0])),
-            (
-                beyond.as_slice(),
-                Ran(Outcome::Trap(Trap::TurnLimit), [1, 0, 0, 0, 0, 0]),
-            ),
-        ],
-    );
-}
-
-/// Routine 0 leaves 3 and 4, routine 1 nothing and stores 9, routine 2 what routine 0 leaves, less the other.
-/// The entries call each of them.
-const CALLING: Program<'static> = Program {
-    cells: 2,
-    routines: &[
-        Routine {
-            start: 0,
-            results: 2,
-        },
-        Routine {
-            start: 3,
-            results: 0,
-        },
-        Routine {
-            start: 6,
-            results: 1,
-        },
-    ],
-    entries: &[10, 14, 17, 21],
-    instrs: &[
-        Instr::Const(3),
-        Instr::Const(4),
-        Instr::Return,
-        Instr::Const(9),
-        Instr::Store(1, None),
-        Instr::Return,
-        Instr::Call(0),
-        Instr::Sub,
-        Instr::Call(1),
-        Instr::Return,
-        Instr::Call(0),
-        Instr::Sub,
-        Instr::Store(0, None),
-        Instr::Done,
-        Instr::Call(1),
-        Instr::Const(0),
-        Instr::Answer,
-        Instr::Const(100),
-        Instr::Call(2),
-        Instr::Add,
-        Instr::Answer,
-        Instr::Const(100),
-        Instr::Call(2),
-        Instr::Add,
-        Instr::Store(0, None),
-        Instr::Done,
     ],
 };
+
+/// As many turns as the limit says, and one more.
+const TURNS: &[(&[Instr], Found)] = &[
+    (
+        &[Instr::Const(1048576)],
+        Ran(Outcome::Done, [0, 7, 0, 0, 0, 0]),
+    ),
+    (
+        &[Instr::Const(1048577)],
+        Ran(Outcome::Trap(Trap::TurnLimit), [1, 0, 0, 0, 0, 0]),
+    ),
+];
+
+/// Routine 0 leaves 3 and 4, routine 1 nothing and stores 9, routine 2 what routine 0 leaves, less the other.
+const LEAVING: &[Routine] = &[
+    Routine {
+        start: 0,
+        results: 2,
+    },
+    Routine {
+        start: 3,
+        results: 0,
+    },
+    Routine {
+        start: 6,
+        results: 1,
+    },
+];
+
+/// Their code, and that of the entries that call each of them.
+const CALLING: &[Instr] = &[
+    Instr::Const(3),
+    Instr::Const(4),
+    Instr::Return,
+    Instr::Const(9),
+    Instr::Store(1, None),
+    Instr::Return,
+    Instr::Call(0),
+    Instr::Sub,
+    Instr::Call(1),
+    Instr::Return,
+    Instr::Call(0),
+    Instr::Sub,
+    Instr::Store(0, None),
+    Instr::Done,
+    Instr::Call(1),
+    Instr::Const(0),
+    Instr::Answer,
+    Instr::Const(100),
+    Instr::Call(2),
+    Instr::Add,
+    Instr::Answer,
+    Instr::Const(100),
+    Instr::Call(2),
+    Instr::Add,
+    Instr::Store(0, None),
+    Instr::Done,
+];
+
+const ENTRIES: &[u32] = &[10, 14, 17, 21];
 
 /// An entry, and what the run from there comes to.
 const CALLED: &[(u32, Found)] = &[
@@ -261,14 +250,28 @@ const CALLED: &[(u32, Found)] = &[
     (26, Found::Unfit),
 ];
 
-/// Asserts what runs from entries come to.
-fn hold_called<R: Abort>(rt: &R, alloc: Global, program: &Program<'_>, rows: &[(u32, Found)]) {
-    for &(entry, want) in rows {
-        assert!(rt; program.run(alloc, entry) == want, "from {entry}");
-    }
+#[test]
+fn runs_end_by_a_trap_an_answer_or_a_firing(rt: HostRuntime) {
+    hold(&rt, rt.alloc(), &[(ALONE, ENDED)]);
+}
+
+#[test]
+fn as_many_turns_are_made_as_the_limit_says(rt: HostRuntime) {
+    assert!(rt; MAX_TURNS == 1048576);
+    hold(&rt, rt.alloc(), &[(COUNT_DOWN, TURNS)]);
 }
 
 #[test]
 fn a_call_leaves_the_results_of_its_routine(rt: HostRuntime) {
-    hold_called(&rt, rt.alloc(), &CALLING, CALLED);
+    for (entry, want) in CALLED {
+        let frame = Frame {
+            cells: 2,
+            routines: LEAVING,
+            entries: ENTRIES,
+            entry: *entry,
+            before: CALLING,
+            after: &[],
+        };
+        assert!(rt; run(&rt, rt.alloc(), &frame, &[]) == *want, "from {entry}");
+    }
 }

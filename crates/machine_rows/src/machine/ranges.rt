@@ -1,7 +1,7 @@
 //! Ranges of cells that are copied or made 0.
 
-use super::programs::Found::Ran;
-use super::programs::{Found, hold_on_six};
+use crate::programs::Found::Ran;
+use crate::programs::{Found, ON_SIX, Table, hold};
 use action_machine::Outcome;
 use code_ir::Instr;
 use rvc_base::{Num, Trap};
@@ -210,22 +210,14 @@ const ZEROED: &[(&[Instr], Found)] = &[
     (&[Instr::Zero(0, 6)], Ran(Outcome::Done, [0, 0, 0, 0, 0, 0])),
 ];
 
-#[test]
-fn cells_are_copied_from_the_first_on(rt: HostRuntime) {
-    hold_on_six(&rt, rt.alloc(), COPIED);
-}
+const RANGES: &[Table] = &[
+    (ON_SIX, COPIED),
+    (ON_SIX, COPIED_TO),
+    (ON_SIX, COPIED_FROM),
+    (ON_SIX, ZEROED),
+];
 
 #[test]
-fn cells_are_copied_to_an_offset(rt: HostRuntime) {
-    hold_on_six(&rt, rt.alloc(), COPIED_TO);
-}
-
-#[test]
-fn cells_are_copied_from_an_offset(rt: HostRuntime) {
-    hold_on_six(&rt, rt.alloc(), COPIED_FROM);
-}
-
-#[test]
-fn cells_become_zero(rt: HostRuntime) {
-    hold_on_six(&rt, rt.alloc(), ZEROED);
+fn cells_are_copied_or_become_zero(rt: HostRuntime) {
+    hold(&rt, rt.alloc(), RANGES);
 }

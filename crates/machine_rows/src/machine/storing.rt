@@ -1,13 +1,11 @@
 //! Numbers that go between the stack and single cells.
 
-use super::programs::Answer::{Gives, Traps};
-use super::programs::Found::Ran;
-use super::programs::{Answer, Found, hold, hold_of_two, hold_on_six, run};
+use crate::programs::Answer::{Gives, Traps};
+use crate::programs::Found::Ran;
+use crate::programs::{ALONE, Answer, Found, ON_SIX, Table, hold, run};
 use action_machine::Outcome;
 use code_ir::Instr;
 use rvc_base::{Num, Scalar, Trap};
-use std::alloc::Global;
-use std::process::Abort;
 
 const LEAST: Num = Num::MIN;
 
@@ -140,32 +138,6 @@ const STORED: &[(Option<Scalar>, Num, Num)] = &[
     (Some(Scalar::Uint(64)), LEAST, 0),
 ];
 
-/// Asserts what the types hold of numbers that are stored, stored at an offset, copied, and copied to an offset.
-fn hold_stored<R: Abort>(rt: &R, alloc: Global, rows: &[(Option<Scalar>, Num, Num)]) {
-    for &(t, v, want) in rows {
-        let program = [
-            Instr::Const(v),
-            Instr::Store(0, t),
-            Instr::Const(1),
-            Instr::Const(v),
-            Instr::StoreAt(0, 2, t),
-            Instr::Const(v),
-            Instr::Store(2, None),
-            Instr::Copy(3, 2, 1, t),
-            Instr::Const(1),
-            Instr::CopyTo(3, 2, 2, 1, t),
-            Instr::Done,
-        ];
-        let held = Ran(Outcome::Done, [want, want, v, want, want, 0]);
-        assert!(rt; run(alloc, &program) == held, "{v} in {t:?}");
-    }
-}
-
-#[test]
-fn a_stored_number_wraps_to_its_type(rt: HostRuntime) {
-    hold_stored(&rt, rt.alloc(), STORED);
-}
-
 /// Constants and cells that are pushed, and a top that is dropped.
 const PUSHED: &[(&[Instr], Found)] = &[
     (
@@ -243,13 +215,8 @@ const PUSHED: &[(&[Instr], Found)] = &[
     ),
 ];
 
-#[test]
-fn a_constant_and_a_cell_are_pushed_and_the_top_is_dropped(rt: HostRuntime) {
-    hold(&rt, rt.alloc(), PUSHED);
-}
-
 /// An index, the top, counts elements of several numbers each from an offset.
-const INDEXED: &[(Instr, Num, Num, Answer)] = &[
+pub(super) const INDEXED: &[(Instr, Num, Num, Answer)] = &[
     (Instr::Index(3, 4), 10, 0, Gives(10)),
     (Instr::Index(3, 4), 10, 2, Gives(18)),
     (Instr::Index(3, 4), 10, 3, Traps(Trap::IndexRange)),
@@ -304,11 +271,6 @@ const INDEXED: &[(Instr, Num, Num, Answer)] = &[
         Traps(Trap::IndexRange),
     ),
 ];
-
-#[test]
-fn an_index_counts_elements_from_an_offset(rt: HostRuntime) {
-    hold_of_two(&rt, rt.alloc(), INDEXED);
-}
 
 /// Cells that are loaded and stored at an offset into four of them.
 const AT_OFFSETS: &[(&[Instr], Found)] = &[
@@ -422,7 +384,34 @@ const AT_OFFSETS: &[(&[Instr], Found)] = &[
     ),
 ];
 
+const STORING: &[Table] = &[(ALONE, PUSHED), (ON_SIX, AT_OFFSETS)];
+
 #[test]
-fn a_cell_is_loaded_and_stored_at_an_offset(rt: HostRuntime) {
-    hold_on_six(&rt, rt.alloc(), AT_OFFSETS);
+fn a_cell_is_loaded_and_stored(rt: HostRuntime) {
+    hold(&rt, rt.alloc(), STORING);
+}
+
+/// They are stored, stored at an offset, copied, and copied to an offset.
+#[test]
+fn a_stored_number_wraps_to_its_type(rt: HostRuntime) {
+    for &(t, v, want) in STORED {
+        let program = [
+            Instr::Const(v),
+            Instr::Store(0, t),
+            Instr::Const(1),
+            Instr::Const(v),
+            Instr::StoreAt(0, 2, t),
+            Instr::Const(v),
+            Instr::Store(2, None),
+            Instr::Copy(3, 2, 1, t),
+            Instr::Const(1),
+            Instr::CopyTo(3, 2, 2, 1, t),
+            Instr::Done,
+        ];
+        let held = Ran(Outcome::Done, [want, want, v, want, want, 0]);
+        assert!(rt;
+            run(&rt, rt.alloc(), &ALONE, &program) == held,
+            "{v} in {t:?}"
+        );
+    }
 }

@@ -1,8 +1,7 @@
 //! Tokens that are read.
 
-use super::programs::Answer::{Gives, Traps};
-use super::programs::Found::Ran;
-use super::programs::{Answer, Found, hold_of_one, hold_on_six};
+use crate::programs::Found::Ran;
+use crate::programs::{Found, ON_SIX, OPERATION, Table, hold};
 use action_machine::Outcome;
 use code_ir::Instr;
 use rvc_base::{Num, Trap};
@@ -92,42 +91,75 @@ const READ: &[(&[Instr], Found)] = &[
     (&[Instr::TokenList(0, 0, 8, 0, 1)], Found::Unfit),
 ];
 
-#[test]
-fn tokens_are_pushed_and_go_to_cells(rt: HostRuntime) {
-    hold_on_six(&rt, rt.alloc(), READ);
-}
-
-const READ_AT: &[(Instr, Num, Answer)] = &[
-    (Instr::TokenAt(0, 0, 1, 8), 0, Gives(10)),
-    (Instr::TokenAt(0, 0, 1, 8), 7, Gives(80)),
-    (Instr::TokenAt(0, 0, 1, 8), 8, Traps(Trap::IndexRange)),
-    (Instr::TokenAt(0, 0, 1, 8), -1, Traps(Trap::IndexRange)),
-    (Instr::TokenAt(0, 1, 3, 3), 0, Gives(20)),
-    (Instr::TokenAt(0, 1, 3, 3), 1, Gives(50)),
-    (Instr::TokenAt(0, 1, 3, 3), 2, Gives(80)),
-    (Instr::TokenAt(0, 1, 3, 3), 3, Traps(Trap::IndexRange)),
-    (Instr::TokenAt(0, 5, 0, 4), 3, Gives(60)),
-    (Instr::TokenAt(1, 1, 1, 1), 0, Gives(GREATEST)),
-    (Instr::TokenAt(0, 0, 1, 0), 0, Traps(Trap::IndexRange)),
-    (Instr::TokenAt(0, 0, 1, 8), LEAST, Traps(Trap::IndexRange)),
+const READ_AT: &[(&[Instr], Found)] = &[
     (
-        Instr::TokenAt(0, 0, 1, 8),
-        GREATEST,
-        Traps(Trap::IndexRange),
+        &[Instr::Const(0), Instr::TokenAt(0, 0, 1, 8)],
+        Ran(Outcome::Done, [10, 0, 0, 0, 0, 0]),
     ),
     (
-        Instr::TokenAt(0, 0, 1, 8),
-        4294967296,
-        Traps(Trap::IndexRange),
+        &[Instr::Const(7), Instr::TokenAt(0, 0, 1, 8)],
+        Ran(Outcome::Done, [80, 0, 0, 0, 0, 0]),
     ),
     (
-        Instr::TokenAt(0, 0, 1, 8),
-        18446744073709551616,
-        Traps(Trap::IndexRange),
+        &[Instr::Const(8), Instr::TokenAt(0, 0, 1, 8)],
+        Ran(Outcome::Trap(Trap::IndexRange), [0, 0, 0, 0, 0, 0]),
+    ),
+    (
+        &[Instr::Const(-1), Instr::TokenAt(0, 0, 1, 8)],
+        Ran(Outcome::Trap(Trap::IndexRange), [0, 0, 0, 0, 0, 0]),
+    ),
+    (
+        &[Instr::Const(0), Instr::TokenAt(0, 1, 3, 3)],
+        Ran(Outcome::Done, [20, 0, 0, 0, 0, 0]),
+    ),
+    (
+        &[Instr::Const(1), Instr::TokenAt(0, 1, 3, 3)],
+        Ran(Outcome::Done, [50, 0, 0, 0, 0, 0]),
+    ),
+    (
+        &[Instr::Const(2), Instr::TokenAt(0, 1, 3, 3)],
+        Ran(Outcome::Done, [80, 0, 0, 0, 0, 0]),
+    ),
+    (
+        &[Instr::Const(3), Instr::TokenAt(0, 1, 3, 3)],
+        Ran(Outcome::Trap(Trap::IndexRange), [0, 0, 0, 0, 0, 0]),
+    ),
+    (
+        &[Instr::Const(3), Instr::TokenAt(0, 5, 0, 4)],
+        Ran(Outcome::Done, [60, 0, 0, 0, 0, 0]),
+    ),
+    (
+        &[Instr::Const(0), Instr::TokenAt(1, 1, 1, 1)],
+        Ran(Outcome::Done, [GREATEST, 0, 0, 0, 0, 0]),
+    ),
+    (
+        &[Instr::Const(0), Instr::TokenAt(0, 0, 1, 0)],
+        Ran(Outcome::Trap(Trap::IndexRange), [0, 0, 0, 0, 0, 0]),
+    ),
+    (
+        &[Instr::Const(LEAST), Instr::TokenAt(0, 0, 1, 8)],
+        Ran(Outcome::Trap(Trap::IndexRange), [0, 0, 0, 0, 0, 0]),
+    ),
+    (
+        &[Instr::Const(GREATEST), Instr::TokenAt(0, 0, 1, 8)],
+        Ran(Outcome::Trap(Trap::IndexRange), [0, 0, 0, 0, 0, 0]),
+    ),
+    (
+        &[Instr::Const(4294967296), Instr::TokenAt(0, 0, 1, 8)],
+        Ran(Outcome::Trap(Trap::IndexRange), [0, 0, 0, 0, 0, 0]),
+    ),
+    (
+        &[
+            Instr::Const(18446744073709551616),
+            Instr::TokenAt(0, 0, 1, 8),
+        ],
+        Ran(Outcome::Trap(Trap::IndexRange), [0, 0, 0, 0, 0, 0]),
     ),
 ];
 
+const TOKENS: &[Table] = &[(ON_SIX, READ), (OPERATION, READ_AT)];
+
 #[test]
-fn a_token_is_read_at_an_index(rt: HostRuntime) {
-    hold_of_one(&rt, rt.alloc(), READ_AT);
+fn tokens_are_pushed_and_go_to_cells(rt: HostRuntime) {
+    hold(&rt, rt.alloc(), TOKENS);
 }
