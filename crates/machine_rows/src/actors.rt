@@ -9,36 +9,34 @@ use schedule_fsm::Fsm;
 use std::alloc::Global;
 use std::process::Abort;
 
-/// An action: how many tokens it takes and sends, the entries of its guards and of its firing, and the cells of its
-/// tokens to send.
+/// An action: how many tokens it takes, and the entries of its guards.
 pub(crate) struct Action<'a> {
     pub needs: u32,
-    pub gives: &'a [u32],
     pub guards: &'a [u32],
-    pub fire: u32,
-    pub sends: &'a [u32],
 }
 
-/// An actor with one input port.
+/// An actor with one input port. Each of its actions fires at one entry, and sends as many tokens, from the same cells.
 #[derive(Clone, Copy)]
 pub(crate) struct Actor<'a> {
     pub frame: Frame<'a>,
     pub actions: &'a [Action<'a>],
+    pub gives: &'a [u32],
+    pub sends: &'a [u32],
     pub first: &'a [Num],
     pub kept: u32,
     pub saved: &'a [StateCell],
     pub outs: u32,
 }
 
-fn actions<R: Abort>(rt: &R, alloc: Global, rows: &[Action<'_>]) -> Vec<ActionCode> {
+fn actions<R: Abort>(rt: &R, alloc: Global, actor: &Actor<'_>) -> Vec<ActionCode> {
     let mut actions = Vec::new(alloc);
-    for row in rows {
+    for action in actor.actions {
         let action = ActionCode {
-            needs: Vec::from_slice(alloc, &[row.needs]).expect(rt, "memory"),
-            gives: Vec::from_slice(alloc, row.gives).expect(rt, "memory"),
-            guards: Vec::from_slice(alloc, row.guards).expect(rt, "memory"),
-            fire: row.fire,
-            sends: Vec::from_slice(alloc, row.sends).expect(rt, "memory"),
+            needs: Vec::from_slice(alloc, &[action.needs]).expect(rt, "memory"),
+            gives: Vec::from_slice(alloc, actor.gives).expect(rt, "memory"),
+            guards: Vec::from_slice(alloc, action.guards).expect(rt, "memory"),
+            fire: actor.frame.entry,
+            sends: Vec::from_slice(alloc, actor.sends).expect(rt, "memory"),
         };
         actions.push(action).expect(rt, "memory");
     }
@@ -53,7 +51,7 @@ pub(crate) fn lowered<R: Abort>(
     instrs: &[Instr],
     fsm: Fsm,
     order: Order,
-) -> Result<Lowered, Unfit> {
+) -> Result<Box<Lowered>, Unfit> {
     let Ok(code) = admitted(rt, alloc, &actor.frame, instrs) else {
         panic!(rt; "{instrs:?}")
     };
@@ -61,7 +59,7 @@ pub(crate) fn lowered<R: Abort>(
         code,
         fsm,
         order,
-        actions: actions(rt, alloc, actor.actions),
+        actions: actions(rt, alloc, actor),
         first: Vec::from_slice(alloc, actor.first).expect(rt, "memory"),
         kept: actor.kept,
         start: 0,
@@ -69,5 +67,8 @@ pub(crate) fn lowered<R: Abort>(
         ins: 1,
         outs: actor.outs,
     };
-    Lowered::of_straight_lines(alloc, parts)
+    match Lowered::of_straight_lines(alloc, parts) {
+        Ok(lowered) => Ok(Box::new(alloc, lowered).expect(rt, "memory")),
+        Err(unfit) => Err(unfit),
+    }
 }

@@ -12,13 +12,10 @@ use std::process::Abort;
 
 const BYTE: Option<Scalar> = Some(Scalar::Uint(8));
 
-/// An action that takes and sends one token, with a guard at 0 and its firing at 4. Its token to send is in cell 2.
+/// An action that takes one token, with a guard at 0.
 const ACTION: Action<'static> = Action {
     needs: 1,
-    gives: &[1],
     guards: &[0],
-    fire: 4,
-    sends: &[2],
 };
 
 /// The token is less than 9.
@@ -98,7 +95,7 @@ fn candidates<R: Abort>(rt: &R, lowered: &Lowered) -> (usize, usize, u32) {
 }
 
 /// What an actor of two such actions is, the first free and the second eligible in state 0 alone. The second is above
-/// the first. Of its state cells 0 and 1 cell 1 is saved.
+/// the first. Each fires at 4 and sends a token, which is then in cell 2. Of its state cells 0 and 1 cell 1 is saved.
 fn made<R: Abort>(rt: &R, alloc: Global, row: &Row) -> Found {
     let (guard, load, end, kept, _want) = row;
     let actor = Actor {
@@ -106,11 +103,13 @@ fn made<R: Abort>(rt: &R, alloc: Global, row: &Row) -> Found {
             cells: 3,
             routines: &[],
             entries: &[0, 4],
-            entry: 0,
+            entry: 4,
             before: guard,
             after: end,
         },
         actions: &[ACTION, ACTION],
+        gives: &[1],
+        sends: &[2],
         first: &[0, 0, 0],
         kept: *kept,
         saved: &[StateCell {

@@ -1,6 +1,7 @@
 //! Programs that are admitted and run, and what they come to.
 
 ghost use Rattle.std.specs.Prelude.{ℕ, ℤ, List, [], if◌then◌else◌, ◌==◌, ◌<◌, ◌^◌, length};
+ghost use Rattle.action_machine.specs.Kept.{IsMadeFor};
 
 use action_machine::{Cells, Outcome, Run, cells};
 use code_ir::{
@@ -146,8 +147,10 @@ pub(crate) fn first_six(cells: &Cells) -> [Num; 6] {
     numbers
 }
 
-/// Runs admitted code from an entry. There are eight tokens on port 0, and two on port 1.
-fn run_admitted<R: Abort>(rt: &R, alloc: Global, code: &Admitted, entry: u32) -> Found {
+/// Runs admitted code from an entry, on these cells. There are eight tokens on port 0, and two on port 1.
+pub(crate) fn run_on(code: &Admitted, entry: u32, cells: &mut Cells) -> Found
+    requires { IsMadeFor code.now cells.old }
+{
     let ports = Ports {
         first: &[10, 20, 30, 40, 50, 60, 70, 80],
         second: &[-5, Num::MAX],
@@ -155,28 +158,44 @@ fn run_admitted<R: Abort>(rt: &R, alloc: Global, code: &Admitted, entry: u32) ->
     if !code.is_entry(entry) || !has_tokens(code, &ports) {
         return Found::Unfit;
     }
-    let mut cells = cells(alloc, code).expect(rt, "memory");
-    let outcome = code.run(entry, &mut cells, &ports);
-    Found::Ran(outcome, first_six(&cells))
+    let outcome = code.run(entry, cells, &ports);
+    Found::Ran(outcome, first_six(cells))
 }
 
 /// What the program of a row comes to.
 pub(crate) fn run<R: Abort>(rt: &R, alloc: Global, frame: &Frame<'_>, instrs: &[Instr]) -> Found {
     match admitted(rt, alloc, frame, instrs) {
-        Ok(code) => run_admitted(rt, alloc, &code, frame.entry),
+        Ok(code) => {
+            let mut cells = cells(alloc, &code).expect(rt, "memory");
+            run_on(&code, frame.entry, &mut cells)
+        }
         Err(found) => found,
     }
 }
 
-/// Rows with one frame: instructions, and what they come to.
-pub(crate) type Table = (Frame<'static>, &'static [(&'static [Instr], Found)]);
+/// A part of a table: an instruction, or what the instructions since the last answer come to.
+pub(crate) enum Item {
+    Do(Instr),
+    To(Found),
+}
+
+/// Programs with one frame. They are one list, since each list inside of a list is proved apart.
+pub(crate) type Table = (Frame<'static>, &'static [Item]);
 
 /// Asserts what programs come to.
 pub(crate) fn hold<R: Abort>(rt: &R, alloc: Global, tables: &[Table]) {
-    for (frame, rows) in tables {
-        for (instrs, want) in *rows {
-            assert!(rt; run(rt, alloc, frame, instrs) == *want, "{instrs:?}");
+    let mut instrs = Vec::new(alloc);
+    for (frame, items) in tables {
+        for item in *items {
+            match item {
+                Item::Do(instr) => instrs.push(*instr).expect(rt, "memory"),
+                Item::To(want) => {
+                    assert!(rt; run(rt, alloc, frame, &instrs) == *want, "{instrs:?}");
+                    instrs.clear();
+                }
+            }
         }
+        assert!(rt; instrs.is_empty(), "{instrs:?}");
     }
 }
 

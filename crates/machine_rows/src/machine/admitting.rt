@@ -1,7 +1,8 @@
 //! Code that breaks a typing line, and the place that is named.
 
 use crate::programs::Found::{Bad, Ran};
-use crate::programs::{Found, Frame, Table, hold};
+use crate::programs::Item::{Do, To};
+use crate::programs::{Frame, Item, Table, hold};
 use action_machine::Outcome;
 use code_ir::{Instr, Routine};
 
@@ -10,43 +11,50 @@ const NO_RESULT: Routine = Routine {
     results: 0,
 };
 
-const ENTRY_BODIES: &[(&[Instr], Found)] = &[
-    (
-        &[Instr::Const(1), Instr::Answer],
-        Ran(Outcome::True, [0, 0, 0, 0, 0, 0]),
-    ),
-    (&[Instr::Const(1), Instr::Return], Bad(1)),
-    (&[Instr::Const(1), Instr::Add, Instr::Answer], Bad(1)),
-    (&[Instr::Drop, Instr::Done], Bad(0)),
-    (
-        &[Instr::Load(1), Instr::Answer],
-        Ran(Outcome::False, [0, 0, 0, 0, 0, 0]),
-    ),
-    (&[Instr::Load(2), Instr::Answer], Bad(0)),
-    (&[Instr::Zero(1, 2), Instr::Done], Bad(0)),
-    (&[Instr::Const(1), Instr::Turn], Bad(1)),
-    (&[Instr::Call(0), Instr::Done], Bad(0)),
-    (&[Instr::Jump(2), Instr::Done], Bad(0)),
-    (
-        &[
-            Instr::Turn,
-            Instr::Const(0),
-            Instr::JumpIfNot(1),
-            Instr::Done,
-        ],
-        Bad(2),
-    ),
+const ENTRY_BODIES: &[Item] = &[
+    Do(Instr::Const(1)),
+    Do(Instr::Answer),
+    To(Ran(Outcome::True, [0, 0, 0, 0, 0, 0])),
+    Do(Instr::Const(1)),
+    Do(Instr::Return),
+    To(Bad(1)),
+    Do(Instr::Const(1)),
+    Do(Instr::Add),
+    Do(Instr::Answer),
+    To(Bad(1)),
+    Do(Instr::Drop),
+    Do(Instr::Done),
+    To(Bad(0)),
+    Do(Instr::Load(1)),
+    Do(Instr::Answer),
+    To(Ran(Outcome::False, [0, 0, 0, 0, 0, 0])),
+    Do(Instr::Load(2)),
+    Do(Instr::Answer),
+    To(Bad(0)),
+    Do(Instr::Zero(1, 2)),
+    Do(Instr::Done),
+    To(Bad(0)),
+    Do(Instr::Const(1)),
+    Do(Instr::Turn),
+    To(Bad(1)),
+    Do(Instr::Call(0)),
+    Do(Instr::Done),
+    To(Bad(0)),
+    Do(Instr::Jump(2)),
+    Do(Instr::Done),
+    To(Bad(0)),
+    Do(Instr::Turn),
+    Do(Instr::Const(0)),
+    Do(Instr::JumpIfNot(1)),
+    Do(Instr::Done),
+    To(Bad(2)),
     // place 4 has no operand on one way, and one on the other
-    (
-        &[
-            Instr::Const(0),
-            Instr::JumpIfNot(4),
-            Instr::Const(1),
-            Instr::Turn,
-            Instr::Done,
-        ],
-        Bad(4),
-    ),
+    Do(Instr::Const(0)),
+    Do(Instr::JumpIfNot(4)),
+    Do(Instr::Const(1)),
+    Do(Instr::Turn),
+    Do(Instr::Done),
+    To(Bad(4)),
 ];
 
 /// Two routines of two instructions, which leave a result each, and the body of an entry behind them.
@@ -65,96 +73,77 @@ const ONE: Instr = Instr::Const(1);
 
 const CALL: Instr = Instr::Call(1);
 
-const ROUTINES: &[(&[Instr], Found)] = &[
-    (
-        &[ONE, Instr::Return, ONE, Instr::Return, CALL, Instr::Answer],
-        Ran(Outcome::True, [0, 0, 0, 0, 0, 0]),
-    ),
-    (
-        &[
-            ONE,
-            Instr::Return,
-            Instr::Call(0),
-            Instr::Return,
-            CALL,
-            Instr::Answer,
-        ],
-        Ran(Outcome::True, [0, 0, 0, 0, 0, 0]),
-    ),
-    (
-        &[
-            Instr::Turn,
-            Instr::Return,
-            ONE,
-            Instr::Return,
-            CALL,
-            Instr::Answer,
-        ],
-        Bad(1),
-    ),
-    (
-        &[ONE, Instr::Answer, ONE, Instr::Return, CALL, Instr::Answer],
-        Bad(1),
-    ),
-    (
-        &[ONE, Instr::Return, ONE, Instr::Done, CALL, Instr::Answer],
-        Bad(3),
-    ),
-    (
-        &[
-            Instr::Call(0),
-            Instr::Return,
-            ONE,
-            Instr::Return,
-            CALL,
-            Instr::Answer,
-        ],
-        Bad(0),
-    ),
-    (
-        &[
-            Instr::Call(1),
-            Instr::Return,
-            ONE,
-            Instr::Return,
-            CALL,
-            Instr::Answer,
-        ],
-        Bad(0),
-    ),
-    (
-        &[
-            ONE,
-            Instr::Return,
-            Instr::Call(1),
-            Instr::Return,
-            CALL,
-            Instr::Answer,
-        ],
-        Bad(2),
-    ),
-    (
-        &[
-            ONE,
-            Instr::Return,
-            Instr::Call(2),
-            Instr::Return,
-            CALL,
-            Instr::Answer,
-        ],
-        Bad(2),
-    ),
-    (
-        &[
-            ONE,
-            Instr::Return,
-            Instr::Jump(1),
-            Instr::Return,
-            CALL,
-            Instr::Answer,
-        ],
-        Bad(2),
-    ),
+const ROUTINES: &[Item] = &[
+    Do(ONE),
+    Do(Instr::Return),
+    Do(ONE),
+    Do(Instr::Return),
+    Do(CALL),
+    Do(Instr::Answer),
+    To(Ran(Outcome::True, [0, 0, 0, 0, 0, 0])),
+    Do(ONE),
+    Do(Instr::Return),
+    Do(Instr::Call(0)),
+    Do(Instr::Return),
+    Do(CALL),
+    Do(Instr::Answer),
+    To(Ran(Outcome::True, [0, 0, 0, 0, 0, 0])),
+    Do(Instr::Turn),
+    Do(Instr::Return),
+    Do(ONE),
+    Do(Instr::Return),
+    Do(CALL),
+    Do(Instr::Answer),
+    To(Bad(1)),
+    Do(ONE),
+    Do(Instr::Answer),
+    Do(ONE),
+    Do(Instr::Return),
+    Do(CALL),
+    Do(Instr::Answer),
+    To(Bad(1)),
+    Do(ONE),
+    Do(Instr::Return),
+    Do(ONE),
+    Do(Instr::Done),
+    Do(CALL),
+    Do(Instr::Answer),
+    To(Bad(3)),
+    Do(Instr::Call(0)),
+    Do(Instr::Return),
+    Do(ONE),
+    Do(Instr::Return),
+    Do(CALL),
+    Do(Instr::Answer),
+    To(Bad(0)),
+    Do(Instr::Call(1)),
+    Do(Instr::Return),
+    Do(ONE),
+    Do(Instr::Return),
+    Do(CALL),
+    Do(Instr::Answer),
+    To(Bad(0)),
+    Do(ONE),
+    Do(Instr::Return),
+    Do(Instr::Call(1)),
+    Do(Instr::Return),
+    Do(CALL),
+    Do(Instr::Answer),
+    To(Bad(2)),
+    Do(ONE),
+    Do(Instr::Return),
+    Do(Instr::Call(2)),
+    Do(Instr::Return),
+    Do(CALL),
+    Do(Instr::Answer),
+    To(Bad(2)),
+    Do(ONE),
+    Do(Instr::Return),
+    Do(Instr::Jump(1)),
+    Do(Instr::Return),
+    Do(CALL),
+    Do(Instr::Answer),
+    To(Bad(2)),
 ];
 
 /// Two cells.
@@ -188,10 +177,11 @@ const BODIES: &[Table] = &[
             before: &[],
             after: &[],
         },
-        &[(
-            &[Instr::Done, Instr::Done],
-            Ran(Outcome::Done, [0, 0, 0, 0, 0, 0]),
-        )],
+        &[
+            Do(Instr::Done),
+            Do(Instr::Done),
+            To(Ran(Outcome::Done, [0, 0, 0, 0, 0, 0])),
+        ],
     ),
     (
         Frame {
@@ -202,7 +192,7 @@ const BODIES: &[Table] = &[
             before: &[],
             after: &[],
         },
-        &[(&[Instr::Done, Instr::Done], Bad(2))],
+        &[Do(Instr::Done), Do(Instr::Done), To(Bad(2))],
     ),
     (
         Frame {
@@ -213,7 +203,7 @@ const BODIES: &[Table] = &[
             before: &[],
             after: &[],
         },
-        &[(&[Instr::Done, Instr::Done], Bad(1))],
+        &[Do(Instr::Done), Do(Instr::Done), To(Bad(1))],
     ),
     (
         Frame {
@@ -224,7 +214,7 @@ const BODIES: &[Table] = &[
             before: &[],
             after: &[],
         },
-        &[(&[Instr::Done, Instr::Done], Bad(0))],
+        &[Do(Instr::Done), Do(Instr::Done), To(Bad(0))],
     ),
     (
         Frame {
@@ -235,7 +225,7 @@ const BODIES: &[Table] = &[
             before: &[],
             after: &[],
         },
-        &[(&[Instr::Done, Instr::Done], Bad(0))],
+        &[Do(Instr::Done), Do(Instr::Done), To(Bad(0))],
     ),
     (PAIR, ENTRY_BODIES),
     (BEHIND_TWO, ROUTINES),

@@ -4,7 +4,8 @@ use super::comparing::COMPARED;
 use super::storing::INDEXED;
 use crate::programs::Answer::{Gives, Traps};
 use crate::programs::Found::Ran;
-use crate::programs::{Answer, Found, OPERATION, Table, hold, hold_of_two};
+use crate::programs::Item::{Do, To};
+use crate::programs::{Answer, Item, OPERATION, Table, hold, hold_of_two};
 use action_machine::Outcome;
 use code_ir::Instr;
 use rvc_base::{Num, Trap};
@@ -339,54 +340,43 @@ const BITS: &[(Instr, Num, Num, Answer)] = &[
 ];
 
 /// What replaces the top.
-const REPLACED: &[(&[Instr], Found)] = &[
-    (
-        &[Instr::Const(5), Instr::Neg],
-        Ran(Outcome::Done, [-5, 0, 0, 0, 0, 0]),
-    ),
-    (
-        &[Instr::Const(0), Instr::Neg],
-        Ran(Outcome::Done, [0, 0, 0, 0, 0, 0]),
-    ),
-    (
-        &[Instr::Const(GREATEST), Instr::Neg],
-        Ran(
-            Outcome::Done,
-            [-170141183460469231731687303715884105727, 0, 0, 0, 0, 0],
-        ),
-    ),
-    (
-        &[Instr::Const(LEAST), Instr::Neg],
-        Ran(Outcome::Trap(Trap::Overflow), [0, 0, 0, 0, 0, 0]),
-    ),
-    (
-        &[Instr::Const(0), Instr::BitNot],
-        Ran(Outcome::Done, [-1, 0, 0, 0, 0, 0]),
-    ),
-    (
-        &[Instr::Const(5), Instr::BitNot],
-        Ran(Outcome::Done, [-6, 0, 0, 0, 0, 0]),
-    ),
-    (
-        &[Instr::Const(GREATEST), Instr::BitNot],
-        Ran(Outcome::Done, [LEAST, 0, 0, 0, 0, 0]),
-    ),
-    (
-        &[Instr::Const(LEAST), Instr::BitNot],
-        Ran(Outcome::Done, [GREATEST, 0, 0, 0, 0, 0]),
-    ),
-    (
-        &[Instr::Const(0), Instr::Not],
-        Ran(Outcome::Done, [1, 0, 0, 0, 0, 0]),
-    ),
-    (
-        &[Instr::Const(1), Instr::Not],
-        Ran(Outcome::Done, [0, 0, 0, 0, 0, 0]),
-    ),
-    (
-        &[Instr::Const(18446744073709551616), Instr::Not],
-        Ran(Outcome::Done, [0, 0, 0, 0, 0, 0]),
-    ),
+const REPLACED: &[Item] = &[
+    Do(Instr::Const(5)),
+    Do(Instr::Neg),
+    To(Ran(Outcome::Done, [-5, 0, 0, 0, 0, 0])),
+    Do(Instr::Const(0)),
+    Do(Instr::Neg),
+    To(Ran(Outcome::Done, [0, 0, 0, 0, 0, 0])),
+    Do(Instr::Const(GREATEST)),
+    Do(Instr::Neg),
+    To(Ran(
+        Outcome::Done,
+        [-170141183460469231731687303715884105727, 0, 0, 0, 0, 0],
+    )),
+    Do(Instr::Const(LEAST)),
+    Do(Instr::Neg),
+    To(Ran(Outcome::Trap(Trap::Overflow), [0, 0, 0, 0, 0, 0])),
+    Do(Instr::Const(0)),
+    Do(Instr::BitNot),
+    To(Ran(Outcome::Done, [-1, 0, 0, 0, 0, 0])),
+    Do(Instr::Const(5)),
+    Do(Instr::BitNot),
+    To(Ran(Outcome::Done, [-6, 0, 0, 0, 0, 0])),
+    Do(Instr::Const(GREATEST)),
+    Do(Instr::BitNot),
+    To(Ran(Outcome::Done, [LEAST, 0, 0, 0, 0, 0])),
+    Do(Instr::Const(LEAST)),
+    Do(Instr::BitNot),
+    To(Ran(Outcome::Done, [GREATEST, 0, 0, 0, 0, 0])),
+    Do(Instr::Const(0)),
+    Do(Instr::Not),
+    To(Ran(Outcome::Done, [1, 0, 0, 0, 0, 0])),
+    Do(Instr::Const(1)),
+    Do(Instr::Not),
+    To(Ran(Outcome::Done, [0, 0, 0, 0, 0, 0])),
+    Do(Instr::Const(18446744073709551616)),
+    Do(Instr::Not),
+    To(Ran(Outcome::Done, [0, 0, 0, 0, 0, 0])),
 ];
 
 const OF_ONE: &[Table] = &[(OPERATION, REPLACED)];

@@ -1,8 +1,8 @@
 //! Cells as a caller reads and writes them.
 
-use crate::programs::{Frame, Ports, admitted, first_six};
-use action_machine::{Cells, Run, cells};
-use code_ir::{Instr, are_sized, has_tokens};
+use crate::programs::{Found, Frame, admitted, first_six, run_on};
+use action_machine::{Outcome, cells};
+use code_ir::{Instr, are_sized};
 use rvc_base::{Num, Scalar};
 
 /// Code that copies cell 1 to cell 2.
@@ -21,20 +21,16 @@ fn cells_hold_zero_and_then_what_is_put_in(rt: HostRuntime) {
     let Ok(code) = admitted(&rt, rt.alloc(), &COPYING, &[]) else {
         panic!(rt; "it is admitted")
     };
-    let ports = Ports {
-        first: &[],
-        second: &[],
-    };
-    assert!(rt; code.is_entry(0));
-    assert!(rt; has_tokens(&code, &ports));
     let mut cells = cells(rt.alloc(), &code).expect(&rt, "memory");
+    let made = first_six(&cells);
     assert!(rt; cells.count() == 3);
-    assert!(rt; first_six(&cells) == [0, 0, 0, 0, 0, 0]);
     cells.set(1, -7);
-    assert!(rt; first_six(&cells) == [0, -7, 0, 0, 0, 0]);
-    let _outcome = code.run(0, &mut cells, &ports);
+    let put = first_six(&cells);
+    let found = run_on(&code, 0, &mut cells);
+    assert!(rt; made == [0, 0, 0, 0, 0, 0]);
+    assert!(rt; put == [0, -7, 0, 0, 0, 0]);
+    assert!(rt; found == Found::Ran(Outcome::Done, [0, -7, -7, 0, 0, 0]));
     assert!(rt; cells.count() == 3);
-    assert!(rt; first_six(&cells) == [0, -7, -7, 0, 0, 0]);
 }
 
 /// A type, and whether its size is one that a type may have.

@@ -1,7 +1,8 @@
 //! Jumps, turns, calls, and how runs end.
 
-use crate::programs::Found::Ran;
-use crate::programs::{ALONE, Found, Frame, Table, hold, run};
+use crate::programs::Found::{Bad, Ran};
+use crate::programs::Item::{Do, To};
+use crate::programs::{ALONE, Found, Frame, Item, hold, run};
 use action_machine::Outcome;
 use code_ir::{Instr, Routine};
 use rvc_base::{MAX_TURNS, Num, Trap};
@@ -10,149 +11,110 @@ const LEAST: Num = Num::MIN;
 
 const GREATEST: Num = Num::MAX;
 
-const ENDED: &[(&[Instr], Found)] = &[
-    (
-        &[Instr::Const(7), Instr::Const(0), Instr::Div, Instr::Answer],
-        Ran(Outcome::Trap(Trap::DivideByZero), [0, 0, 0, 0, 0, 0]),
-    ),
-    (
-        &[
-            Instr::Const(GREATEST),
-            Instr::Const(1),
-            Instr::Add,
-            Instr::Answer,
-        ],
-        Ran(Outcome::Trap(Trap::Overflow), [0, 0, 0, 0, 0, 0]),
-    ),
-    (
-        &[Instr::Turn, Instr::Jump(0)],
-        Ran(Outcome::Trap(Trap::TurnLimit), [0, 0, 0, 0, 0, 0]),
-    ),
+const ENDED: &[Item] = &[
+    Do(Instr::Const(7)),
+    Do(Instr::Const(0)),
+    Do(Instr::Div),
+    Do(Instr::Answer),
+    To(Ran(Outcome::Trap(Trap::DivideByZero), [0, 0, 0, 0, 0, 0])),
+    Do(Instr::Const(GREATEST)),
+    Do(Instr::Const(1)),
+    Do(Instr::Add),
+    Do(Instr::Answer),
+    To(Ran(Outcome::Trap(Trap::Overflow), [0, 0, 0, 0, 0, 0])),
+    Do(Instr::Turn),
+    Do(Instr::Jump(0)),
+    To(Ran(Outcome::Trap(Trap::TurnLimit), [0, 0, 0, 0, 0, 0])),
     // what was stored before a trap is left
-    (
-        &[
-            Instr::Const(5),
-            Instr::Store(0, None),
-            Instr::Const(1),
-            Instr::Const(0),
-            Instr::Mod,
-            Instr::Store(1, None),
-            Instr::Done,
-        ],
-        Ran(Outcome::Trap(Trap::DivideByZero), [5, 0, 0, 0, 0, 0]),
-    ),
+    Do(Instr::Const(5)),
+    Do(Instr::Store(0, None)),
+    Do(Instr::Const(1)),
+    Do(Instr::Const(0)),
+    Do(Instr::Mod),
+    Do(Instr::Store(1, None)),
+    Do(Instr::Done),
+    To(Ran(Outcome::Trap(Trap::DivideByZero), [5, 0, 0, 0, 0, 0])),
     // a guard is true if its answer is not zero
-    (
-        &[Instr::Const(0), Instr::Answer],
-        Ran(Outcome::False, [0, 0, 0, 0, 0, 0]),
-    ),
-    (
-        &[Instr::Const(1), Instr::Answer],
-        Ran(Outcome::True, [0, 0, 0, 0, 0, 0]),
-    ),
-    (
-        &[Instr::Const(-1), Instr::Answer],
-        Ran(Outcome::True, [0, 0, 0, 0, 0, 0]),
-    ),
-    (
-        &[Instr::Const(LEAST), Instr::Answer],
-        Ran(Outcome::True, [0, 0, 0, 0, 0, 0]),
-    ),
-    (
-        &[Instr::Const(GREATEST), Instr::Answer],
-        Ran(Outcome::True, [0, 0, 0, 0, 0, 0]),
-    ),
-    (
-        &[Instr::Const(18446744073709551616), Instr::Answer],
-        Ran(Outcome::True, [0, 0, 0, 0, 0, 0]),
-    ),
-    (&[Instr::Done], Ran(Outcome::Done, [0, 0, 0, 0, 0, 0])),
-    (
-        &[
-            Instr::Jump(3),
-            Instr::Const(1),
-            Instr::Jump(4),
-            Instr::Const(2),
-            Instr::Store(0, None),
-            Instr::Done,
-        ],
-        Ran(Outcome::Done, [2, 0, 0, 0, 0, 0]),
-    ),
+    Do(Instr::Const(0)),
+    Do(Instr::Answer),
+    To(Ran(Outcome::False, [0, 0, 0, 0, 0, 0])),
+    Do(Instr::Const(1)),
+    Do(Instr::Answer),
+    To(Ran(Outcome::True, [0, 0, 0, 0, 0, 0])),
+    Do(Instr::Const(-1)),
+    Do(Instr::Answer),
+    To(Ran(Outcome::True, [0, 0, 0, 0, 0, 0])),
+    Do(Instr::Const(LEAST)),
+    Do(Instr::Answer),
+    To(Ran(Outcome::True, [0, 0, 0, 0, 0, 0])),
+    Do(Instr::Const(GREATEST)),
+    Do(Instr::Answer),
+    To(Ran(Outcome::True, [0, 0, 0, 0, 0, 0])),
+    Do(Instr::Const(18446744073709551616)),
+    Do(Instr::Answer),
+    To(Ran(Outcome::True, [0, 0, 0, 0, 0, 0])),
+    Do(Instr::Done),
+    To(Ran(Outcome::Done, [0, 0, 0, 0, 0, 0])),
+    Do(Instr::Jump(3)),
+    Do(Instr::Const(1)),
+    Do(Instr::Jump(4)),
+    Do(Instr::Const(2)),
+    Do(Instr::Store(0, None)),
+    Do(Instr::Done),
+    To(Ran(Outcome::Done, [2, 0, 0, 0, 0, 0])),
     // a jump is made if the top is zero
-    (
-        &[
-            Instr::Const(0),
-            Instr::JumpIfNot(4),
-            Instr::Const(1),
-            Instr::Jump(5),
-            Instr::Const(2),
-            Instr::Store(0, None),
-            Instr::Done,
-        ],
-        Ran(Outcome::Done, [2, 0, 0, 0, 0, 0]),
-    ),
-    (
-        &[
-            Instr::Const(1),
-            Instr::JumpIfNot(4),
-            Instr::Const(1),
-            Instr::Jump(5),
-            Instr::Const(2),
-            Instr::Store(0, None),
-            Instr::Done,
-        ],
-        Ran(Outcome::Done, [1, 0, 0, 0, 0, 0]),
-    ),
-    (
-        &[
-            Instr::Const(-1),
-            Instr::JumpIfNot(4),
-            Instr::Const(1),
-            Instr::Jump(5),
-            Instr::Const(2),
-            Instr::Store(0, None),
-            Instr::Done,
-        ],
-        Ran(Outcome::Done, [1, 0, 0, 0, 0, 0]),
-    ),
-    (
-        &[
-            Instr::Const(LEAST),
-            Instr::JumpIfNot(4),
-            Instr::Const(1),
-            Instr::Jump(5),
-            Instr::Const(2),
-            Instr::Store(0, None),
-            Instr::Done,
-        ],
-        Ran(Outcome::Done, [1, 0, 0, 0, 0, 0]),
-    ),
-    (
-        &[
-            Instr::Const(4294967296),
-            Instr::JumpIfNot(4),
-            Instr::Const(1),
-            Instr::Jump(5),
-            Instr::Const(2),
-            Instr::Store(0, None),
-            Instr::Done,
-        ],
-        Ran(Outcome::Done, [1, 0, 0, 0, 0, 0]),
-    ),
-    (
-        &[
-            Instr::Const(18446744073709551616),
-            Instr::JumpIfNot(4),
-            Instr::Const(1),
-            Instr::Jump(5),
-            Instr::Const(2),
-            Instr::Store(0, None),
-            Instr::Done,
-        ],
-        Ran(Outcome::Done, [1, 0, 0, 0, 0, 0]),
-    ),
-    (&[Instr::Jump(9)], Found::Bad(0)),
-    (&[Instr::Jump(0)], Found::Bad(0)),
+    Do(Instr::Const(0)),
+    Do(Instr::JumpIfNot(4)),
+    Do(Instr::Const(1)),
+    Do(Instr::Jump(5)),
+    Do(Instr::Const(2)),
+    Do(Instr::Store(0, None)),
+    Do(Instr::Done),
+    To(Ran(Outcome::Done, [2, 0, 0, 0, 0, 0])),
+    Do(Instr::Const(1)),
+    Do(Instr::JumpIfNot(4)),
+    Do(Instr::Const(1)),
+    Do(Instr::Jump(5)),
+    Do(Instr::Const(2)),
+    Do(Instr::Store(0, None)),
+    Do(Instr::Done),
+    To(Ran(Outcome::Done, [1, 0, 0, 0, 0, 0])),
+    Do(Instr::Const(-1)),
+    Do(Instr::JumpIfNot(4)),
+    Do(Instr::Const(1)),
+    Do(Instr::Jump(5)),
+    Do(Instr::Const(2)),
+    Do(Instr::Store(0, None)),
+    Do(Instr::Done),
+    To(Ran(Outcome::Done, [1, 0, 0, 0, 0, 0])),
+    Do(Instr::Const(LEAST)),
+    Do(Instr::JumpIfNot(4)),
+    Do(Instr::Const(1)),
+    Do(Instr::Jump(5)),
+    Do(Instr::Const(2)),
+    Do(Instr::Store(0, None)),
+    Do(Instr::Done),
+    To(Ran(Outcome::Done, [1, 0, 0, 0, 0, 0])),
+    Do(Instr::Const(4294967296)),
+    Do(Instr::JumpIfNot(4)),
+    Do(Instr::Const(1)),
+    Do(Instr::Jump(5)),
+    Do(Instr::Const(2)),
+    Do(Instr::Store(0, None)),
+    Do(Instr::Done),
+    To(Ran(Outcome::Done, [1, 0, 0, 0, 0, 0])),
+    Do(Instr::Const(18446744073709551616)),
+    Do(Instr::JumpIfNot(4)),
+    Do(Instr::Const(1)),
+    Do(Instr::Jump(5)),
+    Do(Instr::Const(2)),
+    Do(Instr::Store(0, None)),
+    Do(Instr::Done),
+    To(Ran(Outcome::Done, [1, 0, 0, 0, 0, 0])),
+    Do(Instr::Jump(9)),
+    To(Bad(0)),
+    Do(Instr::Jump(0)),
+    To(Bad(0)),
 ];
 
 /// A loop that counts cell 0 down to 0, with a turn each time, and then stores 7 in cell 1.
@@ -179,15 +141,11 @@ const COUNT_DOWN: Frame<'static> = Frame {
 };
 
 /// As many turns as the limit says, and one more.
-const TURNS: &[(&[Instr], Found)] = &[
-    (
-        &[Instr::Const(1048576)],
-        Ran(Outcome::Done, [0, 7, 0, 0, 0, 0]),
-    ),
-    (
-        &[Instr::Const(1048577)],
-        Ran(Outcome::Trap(Trap::TurnLimit), [1, 0, 0, 0, 0, 0]),
-    ),
+const TURNS: &[Item] = &[
+    Do(Instr::Const(1048576)),
+    To(Ran(Outcome::Done, [0, 7, 0, 0, 0, 0])),
+    Do(Instr::Const(1048577)),
+    To(Ran(Outcome::Trap(Trap::TurnLimit), [1, 0, 0, 0, 0, 0])),
 ];
 
 /// Routine 0 leaves 3 and 4, routine 1 nothing and stores 9, routine 2 what routine 0 leaves, less the other.

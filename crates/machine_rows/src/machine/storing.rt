@@ -2,7 +2,8 @@
 
 use crate::programs::Answer::{Gives, Traps};
 use crate::programs::Found::Ran;
-use crate::programs::{ALONE, Answer, Found, ON_SIX, Table, hold, run};
+use crate::programs::Item::{Do, To};
+use crate::programs::{ALONE, Answer, Item, ON_SIX, Table, hold, run};
 use action_machine::Outcome;
 use code_ir::Instr;
 use rvc_base::{Num, Scalar, Trap};
@@ -139,80 +140,52 @@ const STORED: &[(Option<Scalar>, Num, Num)] = &[
 ];
 
 /// Constants and cells that are pushed, and a top that is dropped.
-const PUSHED: &[(&[Instr], Found)] = &[
-    (
-        &[
-            Instr::Const(0),
-            Instr::Store(0, None),
-            Instr::Load(0),
-            Instr::Store(1, None),
-            Instr::Done,
-        ],
-        Ran(Outcome::Done, [0, 0, 0, 0, 0, 0]),
-    ),
-    (
-        &[
-            Instr::Const(1),
-            Instr::Store(0, None),
-            Instr::Load(0),
-            Instr::Store(1, None),
-            Instr::Done,
-        ],
-        Ran(Outcome::Done, [1, 1, 0, 0, 0, 0]),
-    ),
-    (
-        &[
-            Instr::Const(-1),
-            Instr::Store(0, None),
-            Instr::Load(0),
-            Instr::Store(1, None),
-            Instr::Done,
-        ],
-        Ran(Outcome::Done, [-1, -1, 0, 0, 0, 0]),
-    ),
-    (
-        &[
-            Instr::Const(LEAST),
-            Instr::Store(0, None),
-            Instr::Load(0),
-            Instr::Store(1, None),
-            Instr::Done,
-        ],
-        Ran(Outcome::Done, [LEAST, LEAST, 0, 0, 0, 0]),
-    ),
-    (
-        &[
-            Instr::Const(GREATEST),
-            Instr::Store(0, None),
-            Instr::Load(0),
-            Instr::Store(1, None),
-            Instr::Done,
-        ],
-        Ran(Outcome::Done, [GREATEST, GREATEST, 0, 0, 0, 0]),
-    ),
-    (
-        &[
-            Instr::Const(18446744073709551616),
-            Instr::Store(0, None),
-            Instr::Load(0),
-            Instr::Store(1, None),
-            Instr::Done,
-        ],
-        Ran(
-            Outcome::Done,
-            [18446744073709551616, 18446744073709551616, 0, 0, 0, 0],
-        ),
-    ),
-    (
-        &[
-            Instr::Const(1),
-            Instr::Const(2),
-            Instr::Drop,
-            Instr::Store(0, None),
-            Instr::Done,
-        ],
-        Ran(Outcome::Done, [1, 0, 0, 0, 0, 0]),
-    ),
+const PUSHED: &[Item] = &[
+    Do(Instr::Const(0)),
+    Do(Instr::Store(0, None)),
+    Do(Instr::Load(0)),
+    Do(Instr::Store(1, None)),
+    Do(Instr::Done),
+    To(Ran(Outcome::Done, [0, 0, 0, 0, 0, 0])),
+    Do(Instr::Const(1)),
+    Do(Instr::Store(0, None)),
+    Do(Instr::Load(0)),
+    Do(Instr::Store(1, None)),
+    Do(Instr::Done),
+    To(Ran(Outcome::Done, [1, 1, 0, 0, 0, 0])),
+    Do(Instr::Const(-1)),
+    Do(Instr::Store(0, None)),
+    Do(Instr::Load(0)),
+    Do(Instr::Store(1, None)),
+    Do(Instr::Done),
+    To(Ran(Outcome::Done, [-1, -1, 0, 0, 0, 0])),
+    Do(Instr::Const(LEAST)),
+    Do(Instr::Store(0, None)),
+    Do(Instr::Load(0)),
+    Do(Instr::Store(1, None)),
+    Do(Instr::Done),
+    To(Ran(Outcome::Done, [LEAST, LEAST, 0, 0, 0, 0])),
+    Do(Instr::Const(GREATEST)),
+    Do(Instr::Store(0, None)),
+    Do(Instr::Load(0)),
+    Do(Instr::Store(1, None)),
+    Do(Instr::Done),
+    To(Ran(Outcome::Done, [GREATEST, GREATEST, 0, 0, 0, 0])),
+    Do(Instr::Const(18446744073709551616)),
+    Do(Instr::Store(0, None)),
+    Do(Instr::Load(0)),
+    Do(Instr::Store(1, None)),
+    Do(Instr::Done),
+    To(Ran(
+        Outcome::Done,
+        [18446744073709551616, 18446744073709551616, 0, 0, 0, 0],
+    )),
+    Do(Instr::Const(1)),
+    Do(Instr::Const(2)),
+    Do(Instr::Drop),
+    Do(Instr::Store(0, None)),
+    Do(Instr::Done),
+    To(Ran(Outcome::Done, [1, 0, 0, 0, 0, 0])),
 ];
 
 /// An index, the top, counts elements of several numbers each from an offset.
@@ -273,115 +246,79 @@ pub(super) const INDEXED: &[(Instr, Num, Num, Answer)] = &[
 ];
 
 /// Cells that are loaded and stored at an offset into four of them.
-const AT_OFFSETS: &[(&[Instr], Found)] = &[
-    (
-        &[Instr::Const(0), Instr::LoadAt(1, 4), Instr::Store(5, None)],
-        Ran(Outcome::Done, [1, 2, 3, 4, 5, 2]),
-    ),
-    (
-        &[Instr::Const(1), Instr::LoadAt(1, 4), Instr::Store(5, None)],
-        Ran(Outcome::Done, [1, 2, 3, 4, 5, 3]),
-    ),
-    (
-        &[Instr::Const(3), Instr::LoadAt(1, 4), Instr::Store(5, None)],
-        Ran(Outcome::Done, [1, 2, 3, 4, 5, 5]),
-    ),
-    (
-        &[Instr::Const(4), Instr::LoadAt(1, 4), Instr::Store(5, None)],
-        Ran(Outcome::Trap(Trap::IndexRange), [1, 2, 3, 4, 5, 6]),
-    ),
-    (
-        &[Instr::Const(-1), Instr::LoadAt(1, 4), Instr::Store(5, None)],
-        Ran(Outcome::Trap(Trap::IndexRange), [1, 2, 3, 4, 5, 6]),
-    ),
-    (
-        &[
-            Instr::Const(LEAST),
-            Instr::LoadAt(1, 4),
-            Instr::Store(5, None),
-        ],
-        Ran(Outcome::Trap(Trap::IndexRange), [1, 2, 3, 4, 5, 6]),
-    ),
-    (
-        &[
-            Instr::Const(GREATEST),
-            Instr::LoadAt(1, 4),
-            Instr::Store(5, None),
-        ],
-        Ran(Outcome::Trap(Trap::IndexRange), [1, 2, 3, 4, 5, 6]),
-    ),
-    (
-        &[
-            Instr::Const(4294967296),
-            Instr::LoadAt(1, 4),
-            Instr::Store(5, None),
-        ],
-        Ran(Outcome::Trap(Trap::IndexRange), [1, 2, 3, 4, 5, 6]),
-    ),
-    (
-        &[
-            Instr::Const(18446744073709551616),
-            Instr::LoadAt(1, 4),
-            Instr::Store(5, None),
-        ],
-        Ran(Outcome::Trap(Trap::IndexRange), [1, 2, 3, 4, 5, 6]),
-    ),
-    (
-        &[Instr::Const(0), Instr::Const(9), Instr::StoreAt(1, 4, None)],
-        Ran(Outcome::Done, [1, 9, 3, 4, 5, 6]),
-    ),
-    (
-        &[Instr::Const(1), Instr::Const(9), Instr::StoreAt(1, 4, None)],
-        Ran(Outcome::Done, [1, 2, 9, 4, 5, 6]),
-    ),
-    (
-        &[Instr::Const(3), Instr::Const(9), Instr::StoreAt(1, 4, None)],
-        Ran(Outcome::Done, [1, 2, 3, 4, 9, 6]),
-    ),
-    (
-        &[Instr::Const(4), Instr::Const(9), Instr::StoreAt(1, 4, None)],
-        Ran(Outcome::Trap(Trap::IndexRange), [1, 2, 3, 4, 5, 6]),
-    ),
-    (
-        &[
-            Instr::Const(-1),
-            Instr::Const(9),
-            Instr::StoreAt(1, 4, None),
-        ],
-        Ran(Outcome::Trap(Trap::IndexRange), [1, 2, 3, 4, 5, 6]),
-    ),
-    (
-        &[
-            Instr::Const(LEAST),
-            Instr::Const(9),
-            Instr::StoreAt(1, 4, None),
-        ],
-        Ran(Outcome::Trap(Trap::IndexRange), [1, 2, 3, 4, 5, 6]),
-    ),
-    (
-        &[
-            Instr::Const(GREATEST),
-            Instr::Const(9),
-            Instr::StoreAt(1, 4, None),
-        ],
-        Ran(Outcome::Trap(Trap::IndexRange), [1, 2, 3, 4, 5, 6]),
-    ),
-    (
-        &[
-            Instr::Const(4294967296),
-            Instr::Const(9),
-            Instr::StoreAt(1, 4, None),
-        ],
-        Ran(Outcome::Trap(Trap::IndexRange), [1, 2, 3, 4, 5, 6]),
-    ),
-    (
-        &[
-            Instr::Const(18446744073709551616),
-            Instr::Const(9),
-            Instr::StoreAt(1, 4, None),
-        ],
-        Ran(Outcome::Trap(Trap::IndexRange), [1, 2, 3, 4, 5, 6]),
-    ),
+const AT_OFFSETS: &[Item] = &[
+    Do(Instr::Const(0)),
+    Do(Instr::LoadAt(1, 4)),
+    Do(Instr::Store(5, None)),
+    To(Ran(Outcome::Done, [1, 2, 3, 4, 5, 2])),
+    Do(Instr::Const(1)),
+    Do(Instr::LoadAt(1, 4)),
+    Do(Instr::Store(5, None)),
+    To(Ran(Outcome::Done, [1, 2, 3, 4, 5, 3])),
+    Do(Instr::Const(3)),
+    Do(Instr::LoadAt(1, 4)),
+    Do(Instr::Store(5, None)),
+    To(Ran(Outcome::Done, [1, 2, 3, 4, 5, 5])),
+    Do(Instr::Const(4)),
+    Do(Instr::LoadAt(1, 4)),
+    Do(Instr::Store(5, None)),
+    To(Ran(Outcome::Trap(Trap::IndexRange), [1, 2, 3, 4, 5, 6])),
+    Do(Instr::Const(-1)),
+    Do(Instr::LoadAt(1, 4)),
+    Do(Instr::Store(5, None)),
+    To(Ran(Outcome::Trap(Trap::IndexRange), [1, 2, 3, 4, 5, 6])),
+    Do(Instr::Const(LEAST)),
+    Do(Instr::LoadAt(1, 4)),
+    Do(Instr::Store(5, None)),
+    To(Ran(Outcome::Trap(Trap::IndexRange), [1, 2, 3, 4, 5, 6])),
+    Do(Instr::Const(GREATEST)),
+    Do(Instr::LoadAt(1, 4)),
+    Do(Instr::Store(5, None)),
+    To(Ran(Outcome::Trap(Trap::IndexRange), [1, 2, 3, 4, 5, 6])),
+    Do(Instr::Const(4294967296)),
+    Do(Instr::LoadAt(1, 4)),
+    Do(Instr::Store(5, None)),
+    To(Ran(Outcome::Trap(Trap::IndexRange), [1, 2, 3, 4, 5, 6])),
+    Do(Instr::Const(18446744073709551616)),
+    Do(Instr::LoadAt(1, 4)),
+    Do(Instr::Store(5, None)),
+    To(Ran(Outcome::Trap(Trap::IndexRange), [1, 2, 3, 4, 5, 6])),
+    Do(Instr::Const(0)),
+    Do(Instr::Const(9)),
+    Do(Instr::StoreAt(1, 4, None)),
+    To(Ran(Outcome::Done, [1, 9, 3, 4, 5, 6])),
+    Do(Instr::Const(1)),
+    Do(Instr::Const(9)),
+    Do(Instr::StoreAt(1, 4, None)),
+    To(Ran(Outcome::Done, [1, 2, 9, 4, 5, 6])),
+    Do(Instr::Const(3)),
+    Do(Instr::Const(9)),
+    Do(Instr::StoreAt(1, 4, None)),
+    To(Ran(Outcome::Done, [1, 2, 3, 4, 9, 6])),
+    Do(Instr::Const(4)),
+    Do(Instr::Const(9)),
+    Do(Instr::StoreAt(1, 4, None)),
+    To(Ran(Outcome::Trap(Trap::IndexRange), [1, 2, 3, 4, 5, 6])),
+    Do(Instr::Const(-1)),
+    Do(Instr::Const(9)),
+    Do(Instr::StoreAt(1, 4, None)),
+    To(Ran(Outcome::Trap(Trap::IndexRange), [1, 2, 3, 4, 5, 6])),
+    Do(Instr::Const(LEAST)),
+    Do(Instr::Const(9)),
+    Do(Instr::StoreAt(1, 4, None)),
+    To(Ran(Outcome::Trap(Trap::IndexRange), [1, 2, 3, 4, 5, 6])),
+    Do(Instr::Const(GREATEST)),
+    Do(Instr::Const(9)),
+    Do(Instr::StoreAt(1, 4, None)),
+    To(Ran(Outcome::Trap(Trap::IndexRange), [1, 2, 3, 4, 5, 6])),
+    Do(Instr::Const(4294967296)),
+    Do(Instr::Const(9)),
+    Do(Instr::StoreAt(1, 4, None)),
+    To(Ran(Outcome::Trap(Trap::IndexRange), [1, 2, 3, 4, 5, 6])),
+    Do(Instr::Const(18446744073709551616)),
+    Do(Instr::Const(9)),
+    Do(Instr::StoreAt(1, 4, None)),
+    To(Ran(Outcome::Trap(Trap::IndexRange), [1, 2, 3, 4, 5, 6])),
 ];
 
 const STORING: &[Table] = &[(ALONE, PUSHED), (ON_SIX, AT_OFFSETS)];
