@@ -56,7 +56,7 @@ pub(crate) fn lowered<R: Abort>(
         panic!(rt; "{instrs:?}")
     };
     let parts = Parts {
-        code,
+        code: Box::into_inner(code),
         fsm,
         order,
         actions: actions(rt, alloc, actor),

@@ -124,13 +124,13 @@ pub(crate) fn admitted<R: Abort>(
     alloc: Global,
     frame: &Frame<'_>,
     instrs: &[Instr],
-) -> Result<Admitted, Found> {
+) -> Result<Box<Admitted>, Found> {
     let code = code(rt, alloc, frame, instrs);
     if !are_sized(&code.instrs) || !are_few(&code) {
         return Err(Found::Unfit);
     }
     match admit(alloc, code) {
-        Ok(code) => Ok(code),
+        Ok(code) => Ok(Box::new(alloc, code).expect(rt, "memory")),
         Err(CodeFault::Bad { at }) => Err(Found::Bad(at)),
         Err(CodeFault::Memory) => panic!(rt; "memory"),
     }
@@ -162,20 +162,29 @@ pub(crate) fn run_on(code: &Admitted, entry: u32, cells: &mut Cells) -> Found
     Found::Ran(outcome, first_six(cells))
 }
 
-/// What the program of a row comes to.
-pub(crate) fn run<R: Abort>(rt: &R, alloc: Global, frame: &Frame<'_>, instrs: &[Instr]) -> Found {
+/// What the program of a row comes to from an entry.
+pub(crate) fn run<R: Abort>(
+    rt: &R,
+    alloc: Global,
+    frame: &Frame<'_>,
+    entry: u32,
+    instrs: &[Instr],
+) -> Found {
     match admitted(rt, alloc, frame, instrs) {
         Ok(code) => {
             let mut cells = cells(alloc, &code).expect(rt, "memory");
-            run_on(&code, frame.entry, &mut cells)
+            run_on(&code, entry, &mut cells)
         }
         Err(found) => found,
     }
 }
 
-/// A part of a table: an instruction, or what the instructions since the last answer come to.
+/// A part of a table.
 pub(crate) enum Item {
+    /// What follows is run from this entry.
+    From(u32),
     Do(Instr),
+    /// What the instructions since the last answer come to.
     To(Found),
 }
 
@@ -186,11 +195,14 @@ pub(crate) type Table = (Frame<'static>, &'static [Item]);
 pub(crate) fn hold<R: Abort>(rt: &R, alloc: Global, tables: &[Table]) {
     let mut instrs = Vec::new(alloc);
     for (frame, items) in tables {
+        let mut entry = frame.entry;
         for item in *items {
             match item {
+                Item::From(at) => entry = *at,
                 Item::Do(instr) => instrs.push(*instr).expect(rt, "memory"),
                 Item::To(want) => {
-                    assert!(rt; run(rt, alloc, frame, &instrs) == *want, "{instrs:?}");
+                    let found = run(rt, alloc, frame, entry, &instrs);
+                    assert!(rt; found == *want, "{instrs:?} from {entry}");
                     instrs.clear();
                 }
             }
@@ -218,7 +230,10 @@ pub(crate) fn hold_of_two<R: Abort>(
                 Answer::Traps(trap) => Found::Ran(Outcome::Trap(*trap), [0; 6]),
             };
             let instrs = [Instr::Const(*a), Instr::Const(*b), *instr];
-            assert!(rt; run(rt, alloc, &OPERATION, &instrs) == want, "{instrs:?}");
+            assert!(rt;
+                run(rt, alloc, &OPERATION, 0, &instrs) == want,
+                "{instrs:?}"
+            );
         }
     }
 }

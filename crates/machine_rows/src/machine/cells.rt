@@ -2,8 +2,10 @@
 
 use crate::programs::{Found, Frame, admitted, first_six, run_on};
 use action_machine::{Outcome, cells};
-use code_ir::{Instr, are_sized};
+use code_ir::{Admitted, Instr, are_sized};
 use rvc_base::{Num, Scalar};
+use std::alloc::Global;
+use std::process::Abort;
 
 /// Code that copies cell 1 to cell 2.
 const COPYING: Frame<'static> = Frame {
@@ -15,22 +17,27 @@ const COPYING: Frame<'static> = Frame {
     after: &[],
 };
 
-/// Three cells as they are made, after -7 is put in cell 1, and after a run of the code.
+/// Three cells as they are made, after -7 is put in cell 1, and what a run of the code comes to then.
+fn around_a_run<R: Abort>(rt: &R, alloc: Global, code: &Admitted) -> ([Num; 6], [Num; 6], Found) {
+    let mut cells = cells(alloc, code).expect(rt, "memory");
+    assert!(rt; cells.count() == 3);
+    let made = first_six(&cells);
+    cells.set(1, -7);
+    let put = first_six(&cells);
+    let found = run_on(code, 0, &mut cells);
+    assert!(rt; cells.count() == 3);
+    (made, put, found)
+}
+
 #[test]
 fn cells_hold_zero_and_then_what_is_put_in(rt: HostRuntime) {
     let Ok(code) = admitted(&rt, rt.alloc(), &COPYING, &[]) else {
         panic!(rt; "it is admitted")
     };
-    let mut cells = cells(rt.alloc(), &code).expect(&rt, "memory");
-    let made = first_six(&cells);
-    assert!(rt; cells.count() == 3);
-    cells.set(1, -7);
-    let put = first_six(&cells);
-    let found = run_on(&code, 0, &mut cells);
+    let (made, put, found) = around_a_run(&rt, rt.alloc(), &code);
     assert!(rt; made == [0, 0, 0, 0, 0, 0]);
     assert!(rt; put == [0, -7, 0, 0, 0, 0]);
     assert!(rt; found == Found::Ran(Outcome::Done, [0, -7, -7, 0, 0, 0]));
-    assert!(rt; cells.count() == 3);
 }
 
 /// A type, and whether its size is one that a type may have.

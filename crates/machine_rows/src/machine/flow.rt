@@ -1,8 +1,8 @@
 //! Jumps, turns, calls, and how runs end.
 
-use crate::programs::Found::{Bad, Ran};
-use crate::programs::Item::{Do, To};
-use crate::programs::{ALONE, Found, Frame, Item, hold, run};
+use crate::programs::Found::{Bad, Ran, Unfit};
+use crate::programs::Item::{Do, From, To};
+use crate::programs::{ALONE, Frame, Item, hold};
 use action_machine::Outcome;
 use code_ir::{Instr, Routine};
 use rvc_base::{MAX_TURNS, Num, Trap};
@@ -194,42 +194,42 @@ const CALLING: &[Instr] = &[
     Instr::Done,
 ];
 
-const ENTRIES: &[u32] = &[10, 14, 17, 21];
+const CALLS: Frame<'static> = Frame {
+    cells: 2,
+    routines: LEAVING,
+    entries: &[10, 14, 17, 21],
+    entry: 10,
+    before: CALLING,
+    after: &[],
+};
 
 /// An entry, and what the run from there comes to.
-const CALLED: &[(u32, Found)] = &[
-    (10, Ran(Outcome::Done, [-1, 0, 0, 0, 0, 0])),
-    (14, Ran(Outcome::False, [0, 9, 0, 0, 0, 0])),
-    (17, Ran(Outcome::True, [0, 9, 0, 0, 0, 0])),
-    (21, Ran(Outcome::Done, [99, 9, 0, 0, 0, 0])),
-    (0, Found::Unfit),
-    (3, Found::Unfit),
-    (11, Found::Unfit),
-    (26, Found::Unfit),
+const CALLED: &[Item] = &[
+    From(10),
+    To(Ran(Outcome::Done, [-1, 0, 0, 0, 0, 0])),
+    From(14),
+    To(Ran(Outcome::False, [0, 9, 0, 0, 0, 0])),
+    From(17),
+    To(Ran(Outcome::True, [0, 9, 0, 0, 0, 0])),
+    From(21),
+    To(Ran(Outcome::Done, [99, 9, 0, 0, 0, 0])),
+    From(0),
+    To(Unfit),
+    From(3),
+    To(Unfit),
+    From(11),
+    To(Unfit),
+    From(26),
+    To(Unfit),
 ];
 
 #[test]
 fn runs_end_by_a_trap_an_answer_or_a_firing(rt: HostRuntime) {
-    hold(&rt, rt.alloc(), &[(ALONE, ENDED)]);
+    hold(&rt, rt.alloc(), &[(ALONE, ENDED), (CALLS, CALLED)]);
 }
 
 #[test]
 fn as_many_turns_are_made_as_the_limit_says(rt: HostRuntime) {
     assert!(rt; MAX_TURNS == 1048576);
     hold(&rt, rt.alloc(), &[(COUNT_DOWN, TURNS)]);
-}
-
-#[test]
-fn a_call_leaves_the_results_of_its_routine(rt: HostRuntime) {
-    for (entry, want) in CALLED {
-        let frame = Frame {
-            cells: 2,
-            routines: LEAVING,
-            entries: ENTRIES,
-            entry: *entry,
-            before: CALLING,
-            after: &[],
-        };
-        assert!(rt; run(&rt, rt.alloc(), &frame, &[]) == *want, "from {entry}");
-    }
 }

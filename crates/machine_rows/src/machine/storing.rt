@@ -347,7 +347,7 @@ fn a_stored_number_wraps_to_its_type(rt: HostRuntime) {
         ];
         let held = Ran(Outcome::Done, [want, want, v, want, want, 0]);
         assert!(rt;
-            run(&rt, rt.alloc(), &ALONE, &program) == held,
+            run(&rt, rt.alloc(), &ALONE, 0, &program) == held,
             "{v} in {t:?}"
         );
     }
