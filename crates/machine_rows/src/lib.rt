@@ -6,8 +6,12 @@
 #![tactic(auto)]
 
 #[cfg(test)]
+mod actors;
+#[cfg(test)]
 mod lowered;
 #[cfg(test)]
 mod machine;
+#[cfg(test)]
+mod programs;
 #[cfg(test)]
 mod selection;

@@ -5,7 +5,6 @@ mod arithmetic;
 mod cells;
 mod comparing;
 mod flow;
-mod programs;
 mod ranges;
 mod storing;
 mod tokens;

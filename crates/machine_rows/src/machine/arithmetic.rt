@@ -1,7 +1,12 @@
 //! Arithmetic, shifts and bits.
 
-use super::programs::Answer::{Gives, Traps};
-use super::programs::{Answer, hold_of_one, hold_of_two};
+use super::comparing::COMPARED;
+use super::storing::INDEXED;
+use crate::programs::Answer::{Gives, Traps};
+use crate::programs::Found::Ran;
+use crate::programs::Item::{Do, To};
+use crate::programs::{Answer, Item, OPERATION, Table, hold, hold_of_two};
+use action_machine::Outcome;
 use code_ir::Instr;
 use rvc_base::{Num, Trap};
 
@@ -335,40 +340,49 @@ const BITS: &[(Instr, Num, Num, Answer)] = &[
 ];
 
 /// What replaces the top.
-const REPLACED: &[(Instr, Num, Answer)] = &[
-    (Instr::Neg, 5, Gives(-5)),
-    (Instr::Neg, 0, Gives(0)),
-    (
-        Instr::Neg,
-        GREATEST,
-        Gives(-170141183460469231731687303715884105727),
-    ),
-    (Instr::Neg, LEAST, Traps(Trap::Overflow)),
-    (Instr::BitNot, 0, Gives(-1)),
-    (Instr::BitNot, 5, Gives(-6)),
-    (Instr::BitNot, GREATEST, Gives(LEAST)),
-    (Instr::BitNot, LEAST, Gives(GREATEST)),
-    (Instr::Not, 0, Gives(1)),
-    (Instr::Not, 1, Gives(0)),
-    (Instr::Not, 18446744073709551616, Gives(0)),
+const REPLACED: &[Item] = &[
+    Do(Instr::Const(5)),
+    Do(Instr::Neg),
+    To(Ran(Outcome::Done, [-5, 0, 0, 0, 0, 0])),
+    Do(Instr::Const(0)),
+    Do(Instr::Neg),
+    To(Ran(Outcome::Done, [0, 0, 0, 0, 0, 0])),
+    Do(Instr::Const(GREATEST)),
+    Do(Instr::Neg),
+    To(Ran(
+        Outcome::Done,
+        [-170141183460469231731687303715884105727, 0, 0, 0, 0, 0],
+    )),
+    Do(Instr::Const(LEAST)),
+    Do(Instr::Neg),
+    To(Ran(Outcome::Trap(Trap::Overflow), [0, 0, 0, 0, 0, 0])),
+    Do(Instr::Const(0)),
+    Do(Instr::BitNot),
+    To(Ran(Outcome::Done, [-1, 0, 0, 0, 0, 0])),
+    Do(Instr::Const(5)),
+    Do(Instr::BitNot),
+    To(Ran(Outcome::Done, [-6, 0, 0, 0, 0, 0])),
+    Do(Instr::Const(GREATEST)),
+    Do(Instr::BitNot),
+    To(Ran(Outcome::Done, [LEAST, 0, 0, 0, 0, 0])),
+    Do(Instr::Const(LEAST)),
+    Do(Instr::BitNot),
+    To(Ran(Outcome::Done, [GREATEST, 0, 0, 0, 0, 0])),
+    Do(Instr::Const(0)),
+    Do(Instr::Not),
+    To(Ran(Outcome::Done, [1, 0, 0, 0, 0, 0])),
+    Do(Instr::Const(1)),
+    Do(Instr::Not),
+    To(Ran(Outcome::Done, [0, 0, 0, 0, 0, 0])),
+    Do(Instr::Const(18446744073709551616)),
+    Do(Instr::Not),
+    To(Ran(Outcome::Done, [0, 0, 0, 0, 0, 0])),
 ];
 
-#[test]
-fn arithmetic_is_whole_or_traps(rt: HostRuntime) {
-    hold_of_two(&rt, rt.alloc(), WHOLE);
-}
+const OF_ONE: &[Table] = &[(OPERATION, REPLACED)];
 
 #[test]
-fn shifts_multiply_and_divide_by_powers_of_two(rt: HostRuntime) {
-    hold_of_two(&rt, rt.alloc(), SHIFTED);
-}
-
-#[test]
-fn bits_are_those_of_twos_complement(rt: HostRuntime) {
-    hold_of_two(&rt, rt.alloc(), BITS);
-}
-
-#[test]
-fn the_top_is_replaced(rt: HostRuntime) {
-    hold_of_one(&rt, rt.alloc(), REPLACED);
+fn operations_give_a_number_or_trap(rt: HostRuntime) {
+    hold_of_two(&rt, rt.alloc(), &[WHOLE, SHIFTED, BITS, COMPARED, INDEXED]);
+    hold(&rt, rt.alloc(), OF_ONE);
 }

@@ -1,7 +1,7 @@
 //! Comparisons.
 
-use super::programs::Answer::Gives;
-use super::programs::{Answer, hold_of_two};
+use crate::programs::Answer;
+use crate::programs::Answer::Gives;
 use code_ir::Instr;
 use rvc_base::Num;
 
@@ -9,7 +9,7 @@ const LEAST: Num = Num::MIN;
 
 const GREATEST: Num = Num::MAX;
 
-const COMPARED: &[(Instr, Num, Num, Answer)] = &[
+pub(super) const COMPARED: &[(Instr, Num, Num, Answer)] = &[
     (Instr::Eq, 1, 2, Gives(0)),
     (Instr::Ne, 1, 2, Gives(1)),
     (Instr::Lt, 1, 2, Gives(1)),
@@ -95,8 +95,3 @@ const COMPARED: &[(Instr, Num, Num, Answer)] = &[
         Gives(1),
     ),
 ];
-
-#[test]
-fn two_numbers_are_compared(rt: HostRuntime) {
-    hold_of_two(&rt, rt.alloc(), COMPARED);
-}

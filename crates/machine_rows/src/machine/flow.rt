@@ -1,171 +1,130 @@
 //! Jumps, turns, calls, and how runs end.
 
-use super::programs::Found::Ran;
-use super::programs::{Found, Program, hold};
+use crate::programs::Found::{Bad, Ran, Unfit};
+use crate::programs::Item::{Do, From, To};
+use crate::programs::{ALONE, Frame, Item, hold};
 use action_machine::Outcome;
 use code_ir::{Instr, Routine};
 use rvc_base::{MAX_TURNS, Num, Trap};
-use std::alloc::Global;
-use std::process::Abort;
 
 const LEAST: Num = Num::MIN;
 
 const GREATEST: Num = Num::MAX;
 
-const ENDED: &[(&[Instr], Found)] = &[
-    (
-        &[Instr::Const(7), Instr::Const(0), Instr::Div, Instr::Answer],
-        Ran(Outcome::Trap(Trap::DivideByZero), [0, 0, 0, 0, 0, 0]),
-    ),
-    (
-        &[
-            Instr::Const(GREATEST),
-            Instr::Const(1),
-            Instr::Add,
-            Instr::Answer,
-        ],
-        Ran(Outcome::Trap(Trap::Overflow), [0, 0, 0, 0, 0, 0]),
-    ),
-    (
-        &[Instr::Turn, Instr::Jump(0)],
-        Ran(Outcome::Trap(Trap::TurnLimit), [0, 0, 0, 0, 0, 0]),
-    ),
+const ENDED: &[Item] = &[
+    Do(Instr::Const(7)),
+    Do(Instr::Const(0)),
+    Do(Instr::Div),
+    Do(Instr::Answer),
+    To(Ran(Outcome::Trap(Trap::DivideByZero), [0, 0, 0, 0, 0, 0])),
+    Do(Instr::Const(GREATEST)),
+    Do(Instr::Const(1)),
+    Do(Instr::Add),
+    Do(Instr::Answer),
+    To(Ran(Outcome::Trap(Trap::Overflow), [0, 0, 0, 0, 0, 0])),
+    Do(Instr::Turn),
+    Do(Instr::Jump(0)),
+    To(Ran(Outcome::Trap(Trap::TurnLimit), [0, 0, 0, 0, 0, 0])),
     // what was stored before a trap is left
-    (
-        &[
-            Instr::Const(5),
-            Instr::Store(0, None),
-            Instr::Const(1),
-            Instr::Const(0),
-            Instr::Mod,
-            Instr::Store(1, None),
-            Instr::Done,
-        ],
-        Ran(Outcome::Trap(Trap::DivideByZero), [5, 0, 0, 0, 0, 0]),
-    ),
+    Do(Instr::Const(5)),
+    Do(Instr::Store(0, None)),
+    Do(Instr::Const(1)),
+    Do(Instr::Const(0)),
+    Do(Instr::Mod),
+    Do(Instr::Store(1, None)),
+    Do(Instr::Done),
+    To(Ran(Outcome::Trap(Trap::DivideByZero), [5, 0, 0, 0, 0, 0])),
     // a guard is true if its answer is not zero
-    (
-        &[Instr::Const(0), Instr::Answer],
-        Ran(Outcome::False, [0, 0, 0, 0, 0, 0]),
-    ),
-    (
-        &[Instr::Const(1), Instr::Answer],
-        Ran(Outcome::True, [0, 0, 0, 0, 0, 0]),
-    ),
-    (
-        &[Instr::Const(-1), Instr::Answer],
-        Ran(Outcome::True, [0, 0, 0, 0, 0, 0]),
-    ),
-    (
-        &[Instr::Const(LEAST), Instr::Answer],
-        Ran(Outcome::True, [0, 0, 0, 0, 0, 0]),
-    ),
-    (
-        &[Instr::Const(GREATEST), Instr::Answer],
-        Ran(Outcome::True, [0, 0, 0, 0, 0, 0]),
-    ),
-    (
-        &[Instr::Const(18446744073709551616), Instr::Answer],
-        Ran(Outcome::True, [0, 0, 0, 0, 0, 0]),
-    ),
-    (&[Instr::Done], Ran(Outcome::Done, [0, 0, 0, 0, 0, 0])),
-    (
-        &[
-            Instr::Jump(3),
-            Instr::Const(1),
-            Instr::Jump(4),
-            Instr::Const(2),
-            Instr::Store(0, None),
-            Instr::Done,
-        ],
-        Ran(Outcome::Done, [2, 0, 0, 0, 0, 0]),
-    ),
+    Do(Instr::Const(0)),
+    Do(Instr::Answer),
+    To(Ran(Outcome::False, [0, 0, 0, 0, 0, 0])),
+    Do(Instr::Const(1)),
+    Do(Instr::Answer),
+    To(Ran(Outcome::True, [0, 0, 0, 0, 0, 0])),
+    Do(Instr::Const(-1)),
+    Do(Instr::Answer),
+    To(Ran(Outcome::True, [0, 0, 0, 0, 0, 0])),
+    Do(Instr::Const(LEAST)),
+    Do(Instr::Answer),
+    To(Ran(Outcome::True, [0, 0, 0, 0, 0, 0])),
+    Do(Instr::Const(GREATEST)),
+    Do(Instr::Answer),
+    To(Ran(Outcome::True, [0, 0, 0, 0, 0, 0])),
+    Do(Instr::Const(18446744073709551616)),
+    Do(Instr::Answer),
+    To(Ran(Outcome::True, [0, 0, 0, 0, 0, 0])),
+    Do(Instr::Done),
+    To(Ran(Outcome::Done, [0, 0, 0, 0, 0, 0])),
+    Do(Instr::Jump(3)),
+    Do(Instr::Const(1)),
+    Do(Instr::Jump(4)),
+    Do(Instr::Const(2)),
+    Do(Instr::Store(0, None)),
+    Do(Instr::Done),
+    To(Ran(Outcome::Done, [2, 0, 0, 0, 0, 0])),
     // a jump is made if the top is zero
-    (
-        &[
-            Instr::Const(0),
-            Instr::JumpIfNot(4),
-            Instr::Const(1),
-            Instr::Jump(5),
-            Instr::Const(2),
-            Instr::Store(0, None),
-            Instr::Done,
-        ],
-        Ran(Outcome::Done, [2, 0, 0, 0, 0, 0]),
-    ),
-    (
-        &[
-            Instr::Const(1),
-            Instr::JumpIfNot(4),
-            Instr::Const(1),
-            Instr::Jump(5),
-            Instr::Const(2),
-            Instr::Store(0, None),
-            Instr::Done,
-        ],
-        Ran(Outcome::Done, [1, 0, 0, 0, 0, 0]),
-    ),
-    (
-        &[
-            Instr::Const(-1),
-            Instr::JumpIfNot(4),
-            Instr::Const(1),
-            Instr::Jump(5),
-            Instr::Const(2),
-            Instr::Store(0, None),
-            Instr::Done,
-        ],
-        Ran(Outcome::Done, [1, 0, 0, 0, 0, 0]),
-    ),
-    (
-        &[
-            Instr::Const(LEAST),
-            Instr::JumpIfNot(4),
-            Instr::Const(1),
-            Instr::Jump(5),
-            Instr::Const(2),
-            Instr::Store(0, None),
-            Instr::Done,
-        ],
-        Ran(Outcome::Done, [1, 0, 0, 0, 0, 0]),
-    ),
-    (
-        &[
-            Instr::Const(4294967296),
-            Instr::JumpIfNot(4),
-            Instr::Const(1),
-            Instr::Jump(5),
-            Instr::Const(2),
-            Instr::Store(0, None),
-            Instr::Done,
-        ],
-        Ran(Outcome::Done, [1, 0, 0, 0, 0, 0]),
-    ),
-    (
-        &[
-            Instr::Const(18446744073709551616),
-            Instr::JumpIfNot(4),
-            Instr::Const(1),
-            Instr::Jump(5),
-            Instr::Const(2),
-            Instr::Store(0, None),
-            Instr::Done,
-        ],
-        Ran(Outcome::Done, [1, 0, 0, 0, 0, 0]),
-    ),
-    (&[Instr::Jump(9)], Found::Bad(0)),
-    (&[Instr::Jump(0)], Found::Bad(0)),
+    Do(Instr::Const(0)),
+    Do(Instr::JumpIfNot(4)),
+    Do(Instr::Const(1)),
+    Do(Instr::Jump(5)),
+    Do(Instr::Const(2)),
+    Do(Instr::Store(0, None)),
+    Do(Instr::Done),
+    To(Ran(Outcome::Done, [2, 0, 0, 0, 0, 0])),
+    Do(Instr::Const(1)),
+    Do(Instr::JumpIfNot(4)),
+    Do(Instr::Const(1)),
+    Do(Instr::Jump(5)),
+    Do(Instr::Const(2)),
+    Do(Instr::Store(0, None)),
+    Do(Instr::Done),
+    To(Ran(Outcome::Done, [1, 0, 0, 0, 0, 0])),
+    Do(Instr::Const(-1)),
+    Do(Instr::JumpIfNot(4)),
+    Do(Instr::Const(1)),
+    Do(Instr::Jump(5)),
+    Do(Instr::Const(2)),
+    Do(Instr::Store(0, None)),
+    Do(Instr::Done),
+    To(Ran(Outcome::Done, [1, 0, 0, 0, 0, 0])),
+    Do(Instr::Const(LEAST)),
+    Do(Instr::JumpIfNot(4)),
+    Do(Instr::Const(1)),
+    Do(Instr::Jump(5)),
+    Do(Instr::Const(2)),
+    Do(Instr::Store(0, None)),
+    Do(Instr::Done),
+    To(Ran(Outcome::Done, [1, 0, 0, 0, 0, 0])),
+    Do(Instr::Const(4294967296)),
+    Do(Instr::JumpIfNot(4)),
+    Do(Instr::Const(1)),
+    Do(Instr::Jump(5)),
+    Do(Instr::Const(2)),
+    Do(Instr::Store(0, None)),
+    Do(Instr::Done),
+    To(Ran(Outcome::Done, [1, 0, 0, 0, 0, 0])),
+    Do(Instr::Const(18446744073709551616)),
+    Do(Instr::JumpIfNot(4)),
+    Do(Instr::Const(1)),
+    Do(Instr::Jump(5)),
+    Do(Instr::Const(2)),
+    Do(Instr::Store(0, None)),
+    Do(Instr::Done),
+    To(Ran(Outcome::Done, [1, 0, 0, 0, 0, 0])),
+    Do(Instr::Jump(9)),
+    To(Bad(0)),
+    Do(Instr::Jump(0)),
+    To(Bad(0)),
 ];
 
-#[test]
-fn runs_end_by_a_trap_an_answer_or_a_firing(rt: HostRuntime) {
-    hold(&rt, rt.alloc(), ENDED);
-}
-
-/// A loop that counts cell 0 down from `n` to 0, with a turn each time, and then stores 7 in cell 1.
-fn count_down(n: Num) -> [Instr; 13] {
-    [
-        Instr::Const(n),
+/// A loop that counts cell 0 down to 0, with a turn each time, and then stores 7 in cell 1.
+const COUNT_DOWN: Frame<'static> = Frame {
+    cells: 6,
+    routines: &[],
+    entries: &[0],
+    entry: 0,
+    before: &[],
+    after: &[
         Instr::Store(0, None),
         Instr::Turn,
         Instr::Load(0),
@@ -178,97 +137,99 @@ fn count_down(n: Num) -> [Instr; 13] {
         Instr::Const(7),
         Instr::Store(1, None),
         Instr::Done,
-    ]
+    ],
+};
+
+/// As many turns as the limit says, and one more.
+const TURNS: &[Item] = &[
+    Do(Instr::Const(1048576)),
+    To(Ran(Outcome::Done, [0, 7, 0, 0, 0, 0])),
+    Do(Instr::Const(1048577)),
+    To(Ran(Outcome::Trap(Trap::TurnLimit), [1, 0, 0, 0, 0, 0])),
+];
+
+/// Routine 0 leaves 3 and 4, routine 1 nothing and stores 9, routine 2 what routine 0 leaves, less the other.
+const LEAVING: &[Routine] = &[
+    Routine {
+        start: 0,
+        results: 2,
+    },
+    Routine {
+        start: 3,
+        results: 0,
+    },
+    Routine {
+        start: 6,
+        results: 1,
+    },
+];
+
+/// Their code, and that of the entries that call each of them.
+const CALLING: &[Instr] = &[
+    Instr::Const(3),
+    Instr::Const(4),
+    Instr::Return,
+    Instr::Const(9),
+    Instr::Store(1, None),
+    Instr::Return,
+    Instr::Call(0),
+    Instr::Sub,
+    Instr::Call(1),
+    Instr::Return,
+    Instr::Call(0),
+    Instr::Sub,
+    Instr::Store(0, None),
+    Instr::Done,
+    Instr::Call(1),
+    Instr::Const(0),
+    Instr::Answer,
+    Instr::Const(100),
+    Instr::Call(2),
+    Instr::Add,
+    Instr::Answer,
+    Instr::Const(100),
+    Instr::Call(2),
+    Instr::Add,
+    Instr::Store(0, None),
+    Instr::Done,
+];
+
+const CALLS: Frame<'static> = Frame {
+    cells: 2,
+    routines: LEAVING,
+    entries: &[10, 14, 17, 21],
+    entry: 10,
+    before: CALLING,
+    after: &[],
+};
+
+/// An entry, and what the run from there comes to.
+const CALLED: &[Item] = &[
+    From(10),
+    To(Ran(Outcome::Done, [-1, 0, 0, 0, 0, 0])),
+    From(14),
+    To(Ran(Outcome::False, [0, 9, 0, 0, 0, 0])),
+    From(17),
+    To(Ran(Outcome::True, [0, 9, 0, 0, 0, 0])),
+    From(21),
+    To(Ran(Outcome::Done, [99, 9, 0, 0, 0, 0])),
+    From(0),
+    To(Unfit),
+    From(3),
+    To(Unfit),
+    From(11),
+    To(Unfit),
+    From(26),
+    To(Unfit),
+];
+
+#[test]
+fn runs_end_by_a_trap_an_answer_or_a_firing(rt: HostRuntime) {
+    hold(&rt, rt.alloc(), &[(ALONE, ENDED), (CALLS, CALLED)]);
 }
 
 #[test]
 fn as_many_turns_are_made_as_the_limit_says(rt: HostRuntime) {
     assert!(rt; MAX_TURNS == 1048576);
-    let most = Num::from(MAX_TURNS);
-    let within = count_down(most);
-    let beyond = count_down(most + 1);
-    hold(
-        &rt,
-        rt.alloc(),
-        &[
-            (within.as_slice(), Ran(Outcome::Done, [0, 7, 0, 0, 0, 0])),
-            (
-                beyond.as_slice(),
-                Ran(Outcome::Trap(Trap::TurnLimit), [1, 0, 0, 0, 0, 0]),
-            ),
-        ],
-    );
-}
-
-/// Routine 0 leaves 3 and 4, routine 1 nothing and stores 9, routine 2 what routine 0 leaves, less the other.
-/// The entries call each of them.
-const CALLING: Program<'static> = Program {
-    cells: 2,
-    routines: &[
-        Routine {
-            start: 0,
-            results: 2,
-        },
-        Routine {
-            start: 3,
-            results: 0,
-        },
-        Routine {
-            start: 6,
-            results: 1,
-        },
-    ],
-    entries: &[10, 14, 17, 21],
-    instrs: &[
-        Instr::Const(3),
-        Instr::Const(4),
-        Instr::Return,
-        Instr::Const(9),
-        Instr::Store(1, None),
-        Instr::Return,
-        Instr::Call(0),
-        Instr::Sub,
-        Instr::Call(1),
-        Instr::Return,
-        Instr::Call(0),
-        Instr::Sub,
-        Instr::Store(0, None),
-        Instr::Done,
-        Instr::Call(1),
-        Instr::Const(0),
-        Instr::Answer,
-        Instr::Const(100),
-        Instr::Call(2),
-        Instr::Add,
-        Instr::Answer,
-        Instr::Const(100),
-        Instr::Call(2),
-        Instr::Add,
-        Instr::Store(0, None),
-        Instr::Done,
-    ],
-};
-
-/// An entry, and what the run from there comes to.
-const CALLED: &[(u32, Found)] = &[
-    (10, Ran(Outcome::Done, [-1, 0, 0, 0, 0, 0])),
-    (14, Ran(Outcome::False, [0, 9, 0, 0, 0, 0])),
-    (17, Ran(Outcome::True, [0, 9, 0, 0, 0, 0])),
-    (21, Ran(Outcome::Done, [99, 9, 0, 0, 0, 0])),
-    (0, Found::Unfit),
-    (3, Found::Unfit),
-    (11, Found::Unfit),
-    (26, Found::Unfit),
-];
-
-/// Asserts what runs from entries come to.
-fn hold_called<R: Abort>(rt: &R, alloc: Global, program: &Program<'_>, rows: &[(u32, Found)]) {
-    for &(entry, want) in rows {
-        assert!(rt; program.run(alloc, entry) == want, "from {entry}");
-    }
-}
-
-#[test]
-fn a_call_leaves_the_results_of_its_routine(rt: HostRuntime) {
-    hold_called(&rt, rt.alloc(), &CALLING, CALLED);
+    hold(&rt, rt.alloc(), &[(COUNT_DOWN, TURNS)]);
 }

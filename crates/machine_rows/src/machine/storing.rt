@@ -1,13 +1,12 @@
 //! Numbers that go between the stack and single cells.
 
-use super::programs::Answer::{Gives, Traps};
-use super::programs::Found::Ran;
-use super::programs::{Answer, Found, hold, hold_of_two, hold_on_six, run};
+use crate::programs::Answer::{Gives, Traps};
+use crate::programs::Found::Ran;
+use crate::programs::Item::{Do, To};
+use crate::programs::{ALONE, Answer, Item, ON_SIX, Table, hold, run};
 use action_machine::Outcome;
 use code_ir::Instr;
 use rvc_base::{Num, Scalar, Trap};
-use std::alloc::Global;
-use std::process::Abort;
 
 const LEAST: Num = Num::MIN;
 
@@ -140,116 +139,57 @@ const STORED: &[(Option<Scalar>, Num, Num)] = &[
     (Some(Scalar::Uint(64)), LEAST, 0),
 ];
 
-/// Asserts what the types hold of numbers that are stored, stored at an offset, copied, and copied to an offset.
-fn hold_stored<R: Abort>(rt: &R, alloc: Global, rows: &[(Option<Scalar>, Num, Num)]) {
-    for &(t, v, want) in rows {
-        let program = [
-            Instr::Const(v),
-            Instr::Store(0, t),
-            Instr::Const(1),
-            Instr::Const(v),
-            Instr::StoreAt(0, 2, t),
-            Instr::Const(v),
-            Instr::Store(2, None),
-            Instr::Copy(3, 2, 1, t),
-            Instr::Const(1),
-            Instr::CopyTo(3, 2, 2, 1, t),
-            Instr::Done,
-        ];
-        let held = Ran(Outcome::Done, [want, want, v, want, want, 0]);
-        assert!(rt; run(alloc, &program) == held, "{v} in {t:?}");
-    }
-}
-
-#[test]
-fn a_stored_number_wraps_to_its_type(rt: HostRuntime) {
-    hold_stored(&rt, rt.alloc(), STORED);
-}
-
 /// Constants and cells that are pushed, and a top that is dropped.
-const PUSHED: &[(&[Instr], Found)] = &[
-    (
-        &[
-            Instr::Const(0),
-            Instr::Store(0, None),
-            Instr::Load(0),
-            Instr::Store(1, None),
-            Instr::Done,
-        ],
-        Ran(Outcome::Done, [0, 0, 0, 0, 0, 0]),
-    ),
-    (
-        &[
-            Instr::Const(1),
-            Instr::Store(0, None),
-            Instr::Load(0),
-            Instr::Store(1, None),
-            Instr::Done,
-        ],
-        Ran(Outcome::Done, [1, 1, 0, 0, 0, 0]),
-    ),
-    (
-        &[
-            Instr::Const(-1),
-            Instr::Store(0, None),
-            Instr::Load(0),
-            Instr::Store(1, None),
-            Instr::Done,
-        ],
-        Ran(Outcome::Done, [-1, -1, 0, 0, 0, 0]),
-    ),
-    (
-        &[
-            Instr::Const(LEAST),
-            Instr::Store(0, None),
-            Instr::Load(0),
-            Instr::Store(1, None),
-            Instr::Done,
-        ],
-        Ran(Outcome::Done, [LEAST, LEAST, 0, 0, 0, 0]),
-    ),
-    (
-        &[
-            Instr::Const(GREATEST),
-            Instr::Store(0, None),
-            Instr::Load(0),
-            Instr::Store(1, None),
-            Instr::Done,
-        ],
-        Ran(Outcome::Done, [GREATEST, GREATEST, 0, 0, 0, 0]),
-    ),
-    (
-        &[
-            Instr::Const(18446744073709551616),
-            Instr::Store(0, None),
-            Instr::Load(0),
-            Instr::Store(1, None),
-            Instr::Done,
-        ],
-        Ran(
-            Outcome::Done,
-            [18446744073709551616, 18446744073709551616, 0, 0, 0, 0],
-        ),
-    ),
-    (
-        &[
-            Instr::Const(1),
-            Instr::Const(2),
-            Instr::Drop,
-            Instr::Store(0, None),
-            Instr::Done,
-        ],
-        Ran(Outcome::Done, [1, 0, 0, 0, 0, 0]),
-    ),
+const PUSHED: &[Item] = &[
+    Do(Instr::Const(0)),
+    Do(Instr::Store(0, None)),
+    Do(Instr::Load(0)),
+    Do(Instr::Store(1, None)),
+    Do(Instr::Done),
+    To(Ran(Outcome::Done, [0, 0, 0, 0, 0, 0])),
+    Do(Instr::Const(1)),
+    Do(Instr::Store(0, None)),
+    Do(Instr::Load(0)),
+    Do(Instr::Store(1, None)),
+    Do(Instr::Done),
+    To(Ran(Outcome::Done, [1, 1, 0, 0, 0, 0])),
+    Do(Instr::Const(-1)),
+    Do(Instr::Store(0, None)),
+    Do(Instr::Load(0)),
+    Do(Instr::Store(1, None)),
+    Do(Instr::Done),
+    To(Ran(Outcome::Done, [-1, -1, 0, 0, 0, 0])),
+    Do(Instr::Const(LEAST)),
+    Do(Instr::Store(0, None)),
+    Do(Instr::Load(0)),
+    Do(Instr::Store(1, None)),
+    Do(Instr::Done),
+    To(Ran(Outcome::Done, [LEAST, LEAST, 0, 0, 0, 0])),
+    Do(Instr::Const(GREATEST)),
+    Do(Instr::Store(0, None)),
+    Do(Instr::Load(0)),
+    Do(Instr::Store(1, None)),
+    Do(Instr::Done),
+    To(Ran(Outcome::Done, [GREATEST, GREATEST, 0, 0, 0, 0])),
+    Do(Instr::Const(18446744073709551616)),
+    Do(Instr::Store(0, None)),
+    Do(Instr::Load(0)),
+    Do(Instr::Store(1, None)),
+    Do(Instr::Done),
+    To(Ran(
+        Outcome::Done,
+        [18446744073709551616, 18446744073709551616, 0, 0, 0, 0],
+    )),
+    Do(Instr::Const(1)),
+    Do(Instr::Const(2)),
+    Do(Instr::Drop),
+    Do(Instr::Store(0, None)),
+    Do(Instr::Done),
+    To(Ran(Outcome::Done, [1, 0, 0, 0, 0, 0])),
 ];
 
-#[test]
-fn a_constant_and_a_cell_are_pushed_and_the_top_is_dropped(rt: HostRuntime) {
-    hold(&rt, rt.alloc(), PUSHED);
-}
-
 /// An index, the top, counts elements of several numbers each from an offset.
-const INDEXED: &[(Instr, Num, Num, Answer)] = &[
+pub(super) const INDEXED: &[(Instr, Num, Num, Answer)] = &[
     (Instr::Index(3, 4), 10, 0, Gives(10)),
     (Instr::Index(3, 4), 10, 2, Gives(18)),
     (Instr::Index(3, 4), 10, 3, Traps(Trap::IndexRange)),
@@ -305,124 +245,110 @@ const INDEXED: &[(Instr, Num, Num, Answer)] = &[
     ),
 ];
 
-#[test]
-fn an_index_counts_elements_from_an_offset(rt: HostRuntime) {
-    hold_of_two(&rt, rt.alloc(), INDEXED);
-}
-
 /// Cells that are loaded and stored at an offset into four of them.
-const AT_OFFSETS: &[(&[Instr], Found)] = &[
-    (
-        &[Instr::Const(0), Instr::LoadAt(1, 4), Instr::Store(5, None)],
-        Ran(Outcome::Done, [1, 2, 3, 4, 5, 2]),
-    ),
-    (
-        &[Instr::Const(1), Instr::LoadAt(1, 4), Instr::Store(5, None)],
-        Ran(Outcome::Done, [1, 2, 3, 4, 5, 3]),
-    ),
-    (
-        &[Instr::Const(3), Instr::LoadAt(1, 4), Instr::Store(5, None)],
-        Ran(Outcome::Done, [1, 2, 3, 4, 5, 5]),
-    ),
-    (
-        &[Instr::Const(4), Instr::LoadAt(1, 4), Instr::Store(5, None)],
-        Ran(Outcome::Trap(Trap::IndexRange), [1, 2, 3, 4, 5, 6]),
-    ),
-    (
-        &[Instr::Const(-1), Instr::LoadAt(1, 4), Instr::Store(5, None)],
-        Ran(Outcome::Trap(Trap::IndexRange), [1, 2, 3, 4, 5, 6]),
-    ),
-    (
-        &[
-            Instr::Const(LEAST),
-            Instr::LoadAt(1, 4),
-            Instr::Store(5, None),
-        ],
-        Ran(Outcome::Trap(Trap::IndexRange), [1, 2, 3, 4, 5, 6]),
-    ),
-    (
-        &[
-            Instr::Const(GREATEST),
-            Instr::LoadAt(1, 4),
-            Instr::Store(5, None),
-        ],
-        Ran(Outcome::Trap(Trap::IndexRange), [1, 2, 3, 4, 5, 6]),
-    ),
-    (
-        &[
-            Instr::Const(4294967296),
-            Instr::LoadAt(1, 4),
-            Instr::Store(5, None),
-        ],
-        Ran(Outcome::Trap(Trap::IndexRange), [1, 2, 3, 4, 5, 6]),
-    ),
-    (
-        &[
-            Instr::Const(18446744073709551616),
-            Instr::LoadAt(1, 4),
-            Instr::Store(5, None),
-        ],
-        Ran(Outcome::Trap(Trap::IndexRange), [1, 2, 3, 4, 5, 6]),
-    ),
-    (
-        &[Instr::Const(0), Instr::Const(9), Instr::StoreAt(1, 4, None)],
-        Ran(Outcome::Done, [1, 9, 3, 4, 5, 6]),
-    ),
-    (
-        &[Instr::Const(1), Instr::Const(9), Instr::StoreAt(1, 4, None)],
-        Ran(Outcome::Done, [1, 2, 9, 4, 5, 6]),
-    ),
-    (
-        &[Instr::Const(3), Instr::Const(9), Instr::StoreAt(1, 4, None)],
-        Ran(Outcome::Done, [1, 2, 3, 4, 9, 6]),
-    ),
-    (
-        &[Instr::Const(4), Instr::Const(9), Instr::StoreAt(1, 4, None)],
-        Ran(Outcome::Trap(Trap::IndexRange), [1, 2, 3, 4, 5, 6]),
-    ),
-    (
-        &[
-            Instr::Const(-1),
-            Instr::Const(9),
-            Instr::StoreAt(1, 4, None),
-        ],
-        Ran(Outcome::Trap(Trap::IndexRange), [1, 2, 3, 4, 5, 6]),
-    ),
-    (
-        &[
-            Instr::Const(LEAST),
-            Instr::Const(9),
-            Instr::StoreAt(1, 4, None),
-        ],
-        Ran(Outcome::Trap(Trap::IndexRange), [1, 2, 3, 4, 5, 6]),
-    ),
-    (
-        &[
-            Instr::Const(GREATEST),
-            Instr::Const(9),
-            Instr::StoreAt(1, 4, None),
-        ],
-        Ran(Outcome::Trap(Trap::IndexRange), [1, 2, 3, 4, 5, 6]),
-    ),
-    (
-        &[
-            Instr::Const(4294967296),
-            Instr::Const(9),
-            Instr::StoreAt(1, 4, None),
-        ],
-        Ran(Outcome::Trap(Trap::IndexRange), [1, 2, 3, 4, 5, 6]),
-    ),
-    (
-        &[
-            Instr::Const(18446744073709551616),
-            Instr::Const(9),
-            Instr::StoreAt(1, 4, None),
-        ],
-        Ran(Outcome::Trap(Trap::IndexRange), [1, 2, 3, 4, 5, 6]),
-    ),
+const AT_OFFSETS: &[Item] = &[
+    Do(Instr::Const(0)),
+    Do(Instr::LoadAt(1, 4)),
+    Do(Instr::Store(5, None)),
+    To(Ran(Outcome::Done, [1, 2, 3, 4, 5, 2])),
+    Do(Instr::Const(1)),
+    Do(Instr::LoadAt(1, 4)),
+    Do(Instr::Store(5, None)),
+    To(Ran(Outcome::Done, [1, 2, 3, 4, 5, 3])),
+    Do(Instr::Const(3)),
+    Do(Instr::LoadAt(1, 4)),
+    Do(Instr::Store(5, None)),
+    To(Ran(Outcome::Done, [1, 2, 3, 4, 5, 5])),
+    Do(Instr::Const(4)),
+    Do(Instr::LoadAt(1, 4)),
+    Do(Instr::Store(5, None)),
+    To(Ran(Outcome::Trap(Trap::IndexRange), [1, 2, 3, 4, 5, 6])),
+    Do(Instr::Const(-1)),
+    Do(Instr::LoadAt(1, 4)),
+    Do(Instr::Store(5, None)),
+    To(Ran(Outcome::Trap(Trap::IndexRange), [1, 2, 3, 4, 5, 6])),
+    Do(Instr::Const(LEAST)),
+    Do(Instr::LoadAt(1, 4)),
+    Do(Instr::Store(5, None)),
+    To(Ran(Outcome::Trap(Trap::IndexRange), [1, 2, 3, 4, 5, 6])),
+    Do(Instr::Const(GREATEST)),
+    Do(Instr::LoadAt(1, 4)),
+    Do(Instr::Store(5, None)),
+    To(Ran(Outcome::Trap(Trap::IndexRange), [1, 2, 3, 4, 5, 6])),
+    Do(Instr::Const(4294967296)),
+    Do(Instr::LoadAt(1, 4)),
+    Do(Instr::Store(5, None)),
+    To(Ran(Outcome::Trap(Trap::IndexRange), [1, 2, 3, 4, 5, 6])),
+    Do(Instr::Const(18446744073709551616)),
+    Do(Instr::LoadAt(1, 4)),
+    Do(Instr::Store(5, None)),
+    To(Ran(Outcome::Trap(Trap::IndexRange), [1, 2, 3, 4, 5, 6])),
+    Do(Instr::Const(0)),
+    Do(Instr::Const(9)),
+    Do(Instr::StoreAt(1, 4, None)),
+    To(Ran(Outcome::Done, [1, 9, 3, 4, 5, 6])),
+    Do(Instr::Const(1)),
+    Do(Instr::Const(9)),
+    Do(Instr::StoreAt(1, 4, None)),
+    To(Ran(Outcome::Done, [1, 2, 9, 4, 5, 6])),
+    Do(Instr::Const(3)),
+    Do(Instr::Const(9)),
+    Do(Instr::StoreAt(1, 4, None)),
+    To(Ran(Outcome::Done, [1, 2, 3, 4, 9, 6])),
+    Do(Instr::Const(4)),
+    Do(Instr::Const(9)),
+    Do(Instr::StoreAt(1, 4, None)),
+    To(Ran(Outcome::Trap(Trap::IndexRange), [1, 2, 3, 4, 5, 6])),
+    Do(Instr::Const(-1)),
+    Do(Instr::Const(9)),
+    Do(Instr::StoreAt(1, 4, None)),
+    To(Ran(Outcome::Trap(Trap::IndexRange), [1, 2, 3, 4, 5, 6])),
+    Do(Instr::Const(LEAST)),
+    Do(Instr::Const(9)),
+    Do(Instr::StoreAt(1, 4, None)),
+    To(Ran(Outcome::Trap(Trap::IndexRange), [1, 2, 3, 4, 5, 6])),
+    Do(Instr::Const(GREATEST)),
+    Do(Instr::Const(9)),
+    Do(Instr::StoreAt(1, 4, None)),
+    To(Ran(Outcome::Trap(Trap::IndexRange), [1, 2, 3, 4, 5, 6])),
+    Do(Instr::Const(4294967296)),
+    Do(Instr::Const(9)),
+    Do(Instr::StoreAt(1, 4, None)),
+    To(Ran(Outcome::Trap(Trap::IndexRange), [1, 2, 3, 4, 5, 6])),
+    Do(Instr::Const(18446744073709551616)),
+    Do(Instr::Const(9)),
+    Do(Instr::StoreAt(1, 4, None)),
+    To(Ran(Outcome::Trap(Trap::IndexRange), [1, 2, 3, 4, 5, 6])),
 ];
 
+const STORING: &[Table] = &[(ALONE, PUSHED), (ON_SIX, AT_OFFSETS)];
+
 #[test]
-fn a_cell_is_loaded_and_stored_at_an_offset(rt: HostRuntime) {
-    hold_on_six(&rt, rt.alloc(), AT_OFFSETS);
+fn a_cell_is_loaded_and_stored(rt: HostRuntime) {
+    hold(&rt, rt.alloc(), STORING);
+}
+
+/// They are stored, stored at an offset, copied, and copied to an offset.
+#[test]
+fn a_stored_number_wraps_to_its_type(rt: HostRuntime) {
+    for &(t, v, want) in STORED {
+        let program = [
+            Instr::Const(v),
+            Instr::Store(0, t),
+            Instr::Const(1),
+            Instr::Const(v),
+            Instr::StoreAt(0, 2, t),
+            Instr::Const(v),
+            Instr::Store(2, None),
+            Instr::Copy(3, 2, 1, t),
+            Instr::Const(1),
+            Instr::CopyTo(3, 2, 2, 1, t),
+            Instr::Done,
+        ];
+        let held = Ran(Outcome::Done, [want, want, v, want, want, 0]);
+        assert!(rt;
+            run(&rt, rt.alloc(), &ALONE, 0, &program) == held,
+            "{v} in {t:?}"
+        );
+    }
 }
