@@ -8,5 +8,5 @@ mod files;
 mod objects;
 mod texts;
 
-pub use objects::{drains, feeds, library};
+pub use objects::{Unmade, drains, feeds, library};
 pub use texts::{begins, cut, left, words};

@@ -5,25 +5,53 @@ ghost use Rattle.rvc_io.specs.MemDrains.{channels_of};
 ghost use Rattle.rvc_io.specs.MemFeeds.{inputs_of};
 
 use crate::files::{inputs, sources};
+use rvc_base::Memory;
 use rvc_io::{MemDrains, MemFeeds, MemLibrary, names_are_distinct};
-use std::alloc::Global;
-use std::test::Fail;
+use std::alloc::{AllocError, AllocFailed, Global};
+
+/// Why an object isn't made.
+#[derive(Clone, Copy, Debug, PartialEq, Eq)]
+pub enum Unmade {
+    Memory,
+    /// Two files have one name.
+    SameName,
+    /// No call would move a byte.
+    NoStep,
+}
+
+impl From<AllocError> for Unmade {
+    fn from(_refused: AllocError) -> Unmade {
+        Unmade::Memory
+    }
+}
+
+impl<T: Drop> From<AllocFailed<T>> for Unmade {
+    fn from(_refused: AllocFailed<T>) -> Unmade {
+        Unmade::Memory
+    }
+}
+
+impl From<Memory> for Unmade {
+    fn from(_refused: Memory) -> Unmade {
+        Unmade::Memory
+    }
+}
 
 /// A library of a file and of those of lines `NAME TEXT`, whose read of this number fails, counted from 1; 0 for none.
 ///
 /// # Errors
 ///
-/// A test fails if two files have one name, and if memory runs out.
+/// `SameName` if two files have one name, and `Memory` if memory runs out.
 pub fn library(
     alloc: Global,
     name: &str,
     text: &[u8],
     others: &str,
     read: u64,
-) -> Result<MemLibrary, Fail> {
+) -> Result<MemLibrary, Unmade> {
     let files = sources(alloc, name, text, others)?;
     if !names_are_distinct(&files) {
-        return Err(Fail::new("two files have one name"));
+        return Err(Unmade::SameName);
     }
     Ok(MemLibrary::new(files, vec![in alloc; read]?))
 }
@@ -33,19 +61,22 @@ pub fn library(
 ///
 /// # Errors
 ///
-/// A test fails if `step` is 0, and if memory runs out.
+/// `NoStep` if `step` is 0, and `Memory` if memory runs out.
 pub fn feeds(
     alloc: Global,
     input: &[u8],
     trace: &str,
     call: u64,
     step: u32,
-) -> Result<MemFeeds, Fail>
+) -> Result<MemFeeds, Unmade>
     ensures closed { IfOk result (λ feeds. (feed : ℕ) → (inputs_of feeds).is_open feed ≡ false) }
 {
     let files = inputs(alloc, input, trace)?;
-    if !names_are_distinct(&files) || step == 0 {
-        return Err(Fail::new("two files have one name, or no call moves a byte"));
+    if !names_are_distinct(&files) {
+        return Err(Unmade::SameName);
+    }
+    if step == 0 {
+        return Err(Unmade::NoStep);
     }
     let failing = vec![in alloc; call]?;
     Ok(MemFeeds::new(alloc, files, failing, step, 4)?)
@@ -56,14 +87,14 @@ pub fn feeds(
 ///
 /// # Errors
 ///
-/// A test fails if `step` is 0, and if memory runs out.
-pub fn drains(alloc: Global, call: u64, step: u32, room: u32) -> Result<MemDrains, Fail>
+/// `NoStep` if `step` is 0, and `Memory` if memory runs out.
+pub fn drains(alloc: Global, call: u64, step: u32, room: u32) -> Result<MemDrains, Unmade>
     ensures report_open { IfOk result (λ drains. (channels_of drains).is_open 0 ≡ true) }
     ensures others_closed { IfOk result (λ drains. (channel : ℕ) → channel ≢ 0
         → (channels_of drains).is_open channel ≡ false) }
 {
     if step == 0 {
-        return Err(Fail::new("no call moves a byte"));
+        return Err(Unmade::NoStep);
     }
     let failing = vec![in alloc; call]?;
     Ok(MemDrains::new(alloc, failing, step, 4, room)?)

@@ -1,15 +1,10 @@
 //! The top call over objects in memory.
 
-ghost use Rattle.std.specs.Prelude.{◌≡◌, ◌≢◌, ℕ, true, false};
-ghost use Rattle.rvc_io.specs.MemDrains.{channels_of};
-ghost use Rattle.rvc_io.specs.MemFeeds.{inputs_of};
-
 use run_objects::{begins, drains, feeds, left, library, words};
-use rvc_io::{MemDrains, MemFeeds, MemLibrary, OpenGate};
+use rvc_io::OpenGate;
 use rvc_top::rvc;
 use std::alloc::Global;
 use std::process::Abort;
-use std::test::Fail;
 use std::thread::Threads;
 
 /// What is run: the words, a file and its text, the inputs under the names `in` and `t`, the most bytes that a call moves,
@@ -25,58 +20,32 @@ pub(crate) struct Run<'a> {
     pub failing: (u64, u64, u64),
 }
 
-/// Stops unless words leave this on these objects: `REPORT | TRACE | OUTPUT | STATUS`, what the channels 0 and 1 hold, in
-/// which `/` ends each line, the bytes of channel 2, and the exit status with the start of its name.
-fn hold_on<R: Abort + Threads + Sync>(
-    rt: &R,
-    alloc: Global,
-    line: &str,
-    library: &mut MemLibrary,
-    feeds: &mut MemFeeds,
-    drains: &mut MemDrains,
-    told: &str,
-) -> Result<(), Fail>
-    requires feeds_closed { (feed : ℕ) → (inputs_of feeds.old).is_open feed ≡ false }
-    requires report_open { (channels_of drains.old).is_open 0 ≡ true }
-    requires others_closed { (channel : ℕ) → channel ≢ 0
-        → (channels_of drains.old).is_open channel ≡ false }
-{
-    let words = words(alloc, line)?;
-    let status = rvc(
-        rt,
-        alloc,
-        words.as_slice(),
-        library,
-        feeds,
-        drains,
-        &OpenGate,
-    );
-    let mut ended = left(alloc, drains)?;
-    write!(ended, " | {} {status:?}", status.code())?;
-    assert!(rt; begins(ended.as_str(), told), "{line}: {ended}");
-    Ok(())
-}
-
-/// Stops unless a run leaves this.
+/// Stops unless a run leaves this: `REPORT | TRACE | OUTPUT | STATUS`, what the channels 0 and 1 hold, in which `/` ends
+/// each line, the bytes of channel 2, and the exit status with the start of its name.
 pub(crate) fn hold_left<R: Abort + Threads + Sync>(
     rt: &R,
     alloc: Global,
     made: &Run<'_>,
     told: &str,
-) -> Result<(), Fail> {
+) {
     let (read, feed, channel) = made.failing;
-    let mut library = library(alloc, made.name, made.source, OTHERS, read)?;
-    let mut feeds = feeds(alloc, made.input, made.trace, feed, made.step)?;
-    let mut drains = drains(alloc, channel, made.step, 4096)?;
-    hold_on(
+    let line = made.words;
+    let words = words(alloc, line).expect(rt, "words");
+    let mut library = library(alloc, made.name, made.source, OTHERS, read).expect(rt, "a library");
+    let mut feeds = feeds(alloc, made.input, made.trace, feed, made.step).expect(rt, "feeds");
+    let mut drains = drains(alloc, channel, made.step, 4096).expect(rt, "channels");
+    let status = rvc(
         rt,
         alloc,
-        made.words,
+        words.as_slice(),
         &mut library,
         &mut feeds,
         &mut drains,
-        told,
-    )
+        &OpenGate,
+    );
+    let mut ended = left(alloc, &drains).expect(rt, "a text");
+    write!(ended, " | {} {status:?}", status.code()).expect(rt, "a text");
+    assert!(rt; begins(ended.as_str(), told), "{line}: {ended}");
 }
 
 /// An actor that isn't certified, since it adds two tokens where there are two, and a network of it behind `Inc`.

@@ -1,13 +1,12 @@
 //! Runs over the objects in memory: their outputs, traces, reports and statuses, and what faults leave.
 
 use crate::table::{STEPS, hold};
-use std::test::Fail;
 
 const BYTES: &[u8] = &[0, 1, 255];
 
 #[test]
-fn runs_leave_their_trace_and_output(rt: HostRuntime) -> Result<(), Fail> {
-    hold(&rt, rt.alloc(), RUNS, BYTES, STEPS)
+fn runs_leave_their_trace_and_output(rt: HostRuntime) {
+    hold(&rt, rt.alloc(), RUNS, BYTES, STEPS);
 }
 
 const RUNS: &str = "
@@ -32,8 +31,8 @@ rvc run Inc.cal In=in --trace t
 rvc run Inc.cal In=in Out=out --trace t --grow 1";
 
 #[test]
-fn a_run_over_no_bytes(rt: HostRuntime) -> Result<(), Fail> {
-    hold(&rt, rt.alloc(), EMPTY, &[], STEPS)
+fn a_run_over_no_bytes(rt: HostRuntime) {
+    hold(&rt, rt.alloc(), EMPTY, &[], STEPS);
 }
 
 const EMPTY: &str = "
@@ -42,8 +41,8 @@ const EMPTY: &str = "
 rvc run Inc.cal In=in Out=out --trace t";
 
 #[test]
-fn a_failed_call_is_a_fault(rt: HostRuntime) -> Result<(), Fail> {
-    hold(&rt, rt.alloc(), FAULTS, BYTES, &[1])
+fn a_failed_call_is_a_fault(rt: HostRuntime) {
+    hold(&rt, rt.alloc(), FAULTS, BYTES, &[1]);
 }
 
 /// No feed is opened if no word names the input. Each line says how many bytes a call moves.
@@ -75,8 +74,8 @@ const FAULTS: &str = "
 1000 0 0 1: rvc fmt Inc.cal";
 
 #[test]
-fn fmt_prints_the_canonical_text(rt: HostRuntime) -> Result<(), Fail> {
-    hold(&rt, rt.alloc(), PRINTS, BYTES, STEPS)
+fn fmt_prints_the_canonical_text(rt: HostRuntime) {
+    hold(&rt, rt.alloc(), PRINTS, BYTES, STEPS);
 }
 
 const PRINTS: &str = "
@@ -92,8 +91,8 @@ rvc fmt Inc.cal
 rvc fmt Inc.cal --trace t --workers 2 --round turn --burst 63 --budget 1";
 
 #[test]
-fn what_conforms_is_done(rt: HostRuntime) -> Result<(), Fail> {
-    hold(&rt, rt.alloc(), VERDICTS, BYTES, STEPS)
+fn what_conforms_is_done(rt: HostRuntime) {
+    hold(&rt, rt.alloc(), VERDICTS, BYTES, STEPS);
 }
 
 /// What `check` and `certify` write of the actor.
@@ -106,8 +105,8 @@ rvc check Inc.cal
 rvc certify Inc.cal";
 
 #[test]
-fn refusals_name_a_rule_and_its_place(rt: HostRuntime) -> Result<(), Fail> {
-    hold(&rt, rt.alloc(), REFUSALS, BYTES, STEPS)
+fn refusals_name_a_rule_and_its_place(rt: HostRuntime) {
+    hold(&rt, rt.alloc(), REFUSALS, BYTES, STEPS);
 }
 
 /// What refuses these words and this source.
@@ -161,8 +160,8 @@ rvc fmt Inc.cal In=in
 rvc fmt Inc.cal Out=out In=in";
 
 #[test]
-fn words_that_are_no_job_are_usage(rt: HostRuntime) -> Result<(), Fail> {
-    hold(&rt, rt.alloc(), USAGES, BYTES, STEPS)
+fn words_that_are_no_job_are_usage(rt: HostRuntime) {
+    hold(&rt, rt.alloc(), USAGES, BYTES, STEPS);
 }
 
 /// Words that are no job leave the cause and how the program is used.

@@ -3,10 +3,9 @@
 
 use crate::running::{Run, hold_left};
 use crate::table::hold;
-use std::test::Fail;
 
 #[test]
-fn a_byte_that_is_no_text(rt: HostRuntime) -> Result<(), Fail> {
+fn a_byte_that_is_no_text(rt: HostRuntime) {
     let made = Run {
         words: "rvc check A.cal",
         name: "A.cal",
@@ -21,12 +20,12 @@ fn a_byte_that_is_no_text(rt: HostRuntime) -> Result<(), Fail> {
         rt.alloc(),
         &made,
         "refused L1 A.cal 10/ |  | [] | 4 Refused",
-    )
+    );
 }
 
 #[test]
-fn files(rt: HostRuntime) -> Result<(), Fail> {
-    hold(&rt, rt.alloc(), FILES, &[], &[1000])
+fn files(rt: HostRuntime) {
+    hold(&rt, rt.alloc(), FILES, &[], &[1000]);
 }
 
 /// Whole sources.
@@ -78,8 +77,8 @@ rvc check A.cal
 rvc check A.cal";
 
 #[test]
-fn actions(rt: HostRuntime) -> Result<(), Fail> {
-    hold(&rt, rt.alloc(), ACTIONS, &[], &[1000])
+fn actions(rt: HostRuntime) {
+    hold(&rt, rt.alloc(), ACTIONS, &[], &[1000]);
 }
 
 /// Actions: each begins at 49, and its text at 56.

@@ -1,11 +1,10 @@
 //! The other verbs over the objects in memory: how each ended, and what it leaves.
 
 use crate::table::hold;
-use std::test::Fail;
 
 #[test]
-fn other_verbs_leave_their_verdicts(rt: HostRuntime) -> Result<(), Fail> {
-    hold(&rt, rt.alloc(), VERBS, &[0, 1, 255], &[3])
+fn other_verbs_leave_their_verdicts(rt: HostRuntime) {
+    hold(&rt, rt.alloc(), VERBS, &[0, 1, 255], &[3]);
 }
 
 /// Replays, a network of two actors, and a generated one.
