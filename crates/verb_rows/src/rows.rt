@@ -1,232 +1,155 @@
 //! Networks that are run over the objects in memory, and what each leaves.
+//!
+//! A table is one text of parts. Each begins with `# ` and the bytes of the input under the name `in`, as numbers. Then
+//! come its rows, each a line `= ` with what is left (`hold_on`), and the lines of words that leave it. A line may
+//! begin with the read of a file, the call to the feeds and the call to the channels that fails, counted from 1, and a
+//! colon; 0 is for none.
+
+ghost use Rattle.std.specs.Prelude.{◌≡◌, ◌≢◌, ℕ, true, false, IfOk};
+ghost use Rattle.rvc_io.specs.MemDrains.{channels_of};
+ghost use Rattle.rvc_io.specs.MemFeeds.{inputs_of};
+ghost use Rattle.rvc_words.specs.Words.{IsWithin, job_text};
 
 use run_job::run_job;
-use run_report::Status;
-use rvc_base::Memory;
-use rvc_io::{MemDrains, MemFeeds, MemLibrary, OpenGate, names_are_distinct};
-use rvc_words::read_words;
+use run_objects::{begins, cut, drains, feeds, left, library, words};
+use rvc_io::{MemDrains, MemFeeds, MemLibrary, OpenGate};
+use rvc_words::{Job, read_words};
 use std::alloc::{AllocError, Global};
 use std::process::Abort;
 use std::test::Fail;
 use std::thread::Threads;
 
-/// The read of a file, the call to the feeds and the call to the channels that fails, counted from 1; 0 for none.
-type Failing = (u64, u64, u64);
+#[test]
+fn runs_leave_their_report_trace_and_output(rt: HostRuntime) -> Result<(), Fail> {
+    hold(&rt, rt.alloc(), ROWS)
+}
 
-const NEVER: Failing = (0, 0, 0);
-
-/// How a run ended: its exit status; and what the channels 0, 1 and 2 hold.
-type Left = (u8, &'static str, &'static str, &'static [u8]);
-
-/// The words, the input under the name `in`, the calls that fail, and what is left.
-type Row = (&'static str, &'static [u8], Failing, Left);
+const ROWS: &str = "
+# 0 1 255
+= instances 1/links 2/certified 1/firings 3/rounds 2/in In 0 tokens 3 rest 0/out Out tokens 3/quiet/ | rvc-trace 1 1 2/i 0 Inc Inc/r/f 0 0/f 0 0/f 0 0/r/q/ | [1, 2, 0] | 0 Quiet
+rvc run Inc.cal In=in Out=out --trace t
+= instances 1/links 2/certified 1/firings 3/rounds 2/in In 0 tokens 3 rest 0/out Out tokens 3/quiet/ | rvc-trace 1 1 2/i 0 Inc Inc/r/f 0 0/f 0 0/f 0 0/r/q/ | [] | 0 Quiet
+rvc run Inc.cal In=in --trace t
+= instances 1/links 2/certified 1/firings 2/rounds 2/in In 0 tokens 3 rest 0/out Out tokens 2/budget 2/ | rvc-trace 1 1 2/i 0 Inc Inc/r/f 0 0/f 0 0/r/b/ | [1, 2] | 7 Budget
+rvc run Inc.cal In=in Out=out --trace t --budget 2
+= instances 2/links 3/certified 2/firings 6/rounds 3/in In 0 tokens 3 rest 0/out Out tokens 3/quiet/ | rvc-trace 1 2 3/i 0 a Inc/i 1 b Inc/r/f 0 0/f 0 0/f 0 0/r/f 1 0/f 1 0/f 1 0/r/q/ | [2, 3, 1] | 0 Quiet
+rvc run Twice.xdf In=in Out=out --trace t
+# 5 0 3
+= instances 1/links 2/certified 1/firings 1/rounds 1/in In 0 tokens 3 rest 0/out Out tokens 1/trapped 0 0 DivideByZero/ | rvc-trace 1 1 2/i 0 Div Div/r/f 0 0/t 0 0 DivideByZero/ | [20] | 5 Trapped
+rvc run Div.cal In=in Out=out --trace t
+# 0 1 255
+= refused P1 words 1/ |  | [] | 4 Refused
+rvc run Inc.cal Out=out X=in --trace t
+= refused N1 words 0/ |  | [] | 4 Refused
+rvc run None.cal --trace t
+= instances 1/links 2/certified 1/firings 3/rounds 2/in In 0 tokens 3 rest 0/out Out tokens 3/quiet/ | rvc-trace 1 1 2/i 0 Inc Inc/r/f 0 0/f 0 0/f 0 0/r/q/ | [1, 2, 0] | 0 Quiet
+rvc run Inc.cal In=in Out=out --trace t --workers 2
+= instances 2/links 3/certified 2/firings 6/rounds 3/in In 0 tokens 3 rest 0/out Out tokens 3/quiet/ | rvc-trace 1 2 3/i 0 a Inc/i 1 b Inc/r/f 0 0/f 0 0/f 0 0/r/f 1 0/f 1 0/f 1 0/r/q/ | [2, 3, 1] | 0 Quiet
+rvc run Twice.xdf In=in Out=out --trace t --workers 3
+= read fault Inc.cal/ |  | [] | 2 ReadFault
+1 0 0: rvc run Inc.cal In=in Out=out --trace t
+= read fault in/ |  | [] | 2 ReadFault
+0 1 0: rvc run Inc.cal In=in Out=out --trace t
+= read fault in/ | rvc-trace 1 1 2/i 0 Inc Inc/ | [] | 2 ReadFault
+0 2 0: rvc run Inc.cal In=in Out=out --trace t
+= write fault 1/ |  | [] | 3 WriteFault
+0 0 1: rvc run Inc.cal In=in Out=out --trace t
+=  |  | [] | 3 WriteFault
+0 0 1: rvc run None.cal --trace t";
 
 /// An actor that adds 1, one that divides 100, and a network of two that add 1, one behind the other.
-const FILES: &[(&str, &str)] = &[
-    (
-        "Inc.cal",
-        "actor Inc() uint(size=8) In ==> uint(size=8) Out : action In:[a] ==> Out:[a + 1] end end",
-    ),
-    (
-        "Div.cal",
-        "actor Div() uint(size=8) In ==> uint(size=8) Out : action In:[a] ==> Out:[100 / a] end end",
-    ),
-    (
-        "Twice.xdf",
-        "<XDF name='Twice'><Port kind='Input' name='In'><Type name='uint'><Entry kind='Expr' name='size'><Expr kind='Literal' literal-kind='Integer' value='8'/></Entry></Type></Port><Port kind='Output' name='Out'><Type name='uint'><Entry kind='Expr' name='size'><Expr kind='Literal' literal-kind='Integer' value='8'/></Entry></Type></Port><Instance id='a'><Class name='Inc'/></Instance><Instance id='b'><Class name='Inc'/></Instance><Connection src='' src-port='In' dst='a' dst-port='In'/><Connection src='a' src-port='Out' dst='b' dst-port='In'/><Connection src='b' src-port='Out' dst='' dst-port='Out'/></XDF>",
-    ),
-];
+const FILES: &str =
+    "Inc.cal actor Inc() uint(size=8) In ==> uint(size=8) Out : action In:[a] ==> Out:[a + 1] end end
+Div.cal actor Div() uint(size=8) In ==> uint(size=8) Out : action In:[a] ==> Out:[100 / a] end end
+Twice.xdf <XDF name='Twice'><Port kind='Input' name='In'><Type name='uint'><Entry kind='Expr' name='size'><Expr kind='Literal' literal-kind='Integer' value='8'/></Entry></Type></Port><Port kind='Output' name='Out'><Type name='uint'><Entry kind='Expr' name='size'><Expr kind='Literal' literal-kind='Integer' value='8'/></Entry></Type></Port><Instance id='a'><Class name='Inc'/></Instance><Instance id='b'><Class name='Inc'/></Instance><Connection src='' src-port='In' dst='a' dst-port='In'/><Connection src='a' src-port='Out' dst='b' dst-port='In'/><Connection src='b' src-port='Out' dst='' dst-port='Out'/></XDF>";
 
-const BYTES: &[u8] = &[0, 1, 255];
-
-const NO_BYTES: &[u8] = &[];
-
-const RUN: &str = "rvc run Inc.cal In=in Out=out --trace t";
-
-const REPORT: &str =
-    "instances 1\nlinks 2\ncertified 1\nfirings 3\nrounds 2\nin In 0 tokens 3 rest 0\nout Out tokens 3\nquiet\n";
-
-const TRACE: &str = "rvc-trace 1 1 2\ni 0 Inc Inc\nr\nf 0 0\nf 0 0\nf 0 0\nr\nq\n";
-
-const TWICE_REPORT: &str =
-    "instances 2\nlinks 3\ncertified 2\nfirings 6\nrounds 3\nin In 0 tokens 3 rest 0\nout Out tokens 3\nquiet\n";
-
-const TWICE_TRACE: &str =
-    "rvc-trace 1 2 3\ni 0 a Inc\ni 1 b Inc\nr\nf 0 0\nf 0 0\nf 0 0\nr\nf 1 0\nf 1 0\nf 1 0\nr\nq\n";
-
-const ROWS: &[Row] = &[
-    (RUN, BYTES, NEVER, (0, REPORT, TRACE, &[1, 2, 0])),
-    (
-        "rvc run Inc.cal In=in --trace t",
-        BYTES,
-        NEVER,
-        (0, REPORT, TRACE, NO_BYTES),
-    ),
-    (
-        "rvc run Inc.cal In=in Out=out --trace t --budget 2",
-        BYTES,
-        NEVER,
-        (
-            7,
-            "instances 1\nlinks 2\ncertified 1\nfirings 2\nrounds 2\nin In 0 tokens 3 rest 0\nout Out tokens 2\nbudget 2\n",
-            "rvc-trace 1 1 2\ni 0 Inc Inc\nr\nf 0 0\nf 0 0\nr\nb\n",
-            &[1, 2],
-        ),
-    ),
-    (
-        "rvc run Twice.xdf In=in Out=out --trace t",
-        BYTES,
-        NEVER,
-        (0, TWICE_REPORT, TWICE_TRACE, &[2, 3, 1]),
-    ),
-    (
-        "rvc run Div.cal In=in Out=out --trace t",
-        &[5, 0, 3],
-        NEVER,
-        (
-            5,
-            "instances 1\nlinks 2\ncertified 1\nfirings 1\nrounds 1\nin In 0 tokens 3 rest 0\nout Out tokens 1\ntrapped 0 0 DivideByZero\n",
-            "rvc-trace 1 1 2\ni 0 Div Div\nr\nf 0 0\nt 0 0 DivideByZero\n",
-            &[20],
-        ),
-    ),
-    (
-        "rvc run Inc.cal Out=out X=in --trace t",
-        BYTES,
-        NEVER,
-        (4, "refused P1 words 1\n", "", NO_BYTES),
-    ),
-    (
-        "rvc run None.cal --trace t",
-        BYTES,
-        NEVER,
-        (4, "refused N1 words 0\n", "", NO_BYTES),
-    ),
-    (
-        "rvc run Inc.cal In=in Out=out --trace t --workers 2",
-        BYTES,
-        NEVER,
-        (0, REPORT, TRACE, &[1, 2, 0]),
-    ),
-    (
-        "rvc run Twice.xdf In=in Out=out --trace t --workers 3",
-        BYTES,
-        NEVER,
-        (0, TWICE_REPORT, TWICE_TRACE, &[2, 3, 1]),
-    ),
-    (
-        RUN,
-        BYTES,
-        (1, 0, 0),
-        (2, "read fault Inc.cal\n", "", NO_BYTES),
-    ),
-    (RUN, BYTES, (0, 1, 0), (2, "read fault in\n", "", NO_BYTES)),
-    (
-        RUN,
-        BYTES,
-        (0, 2, 0),
-        (
-            2,
-            "read fault in\n",
-            "rvc-trace 1 1 2\ni 0 Inc Inc\n",
-            NO_BYTES,
-        ),
-    ),
-    (RUN, BYTES, (0, 0, 1), (3, "write fault 1\n", "", NO_BYTES)),
-    (
-        "rvc run None.cal --trace t",
-        BYTES,
-        (0, 0, 1),
-        (3, "", "", NO_BYTES),
-    ),
-];
-
-/// The words of a line, which one blank each parts.
-pub(crate) fn words(alloc: Global, line: &str) -> Result<Vec<String>, AllocError> {
-    let mut words = Vec::new(alloc);
-    for word in line.split(' ') {
-        words.push(String::from_str(alloc, word)?)?;
+/// Stops at the first line of a table that leaves something else.
+fn hold<R: Abort + Threads + Sync>(rt: &R, alloc: Global, table: &str) -> Result<(), Fail> {
+    for part in table.split("\n# ") {
+        let (numbers, rows) = cut(part, "\n= ");
+        let input = bytes(alloc, numbers)?;
+        for row in rows.split("\n= ") {
+            let (left, lines) = cut(row, "\n");
+            for line in lines.lines() {
+                hold_left(rt, alloc, line, &input, left)?;
+            }
+        }
     }
-    Ok(words)
+    Ok(())
 }
 
-/// The files.
-fn files(alloc: Global) -> Result<Vec<(String, Vec<u8>)>, AllocError> {
-    let mut files = Vec::new(alloc);
-    for &(name, text) in FILES {
-        files.push((
-            String::from_str(alloc, name)?,
-            Vec::from_slice(alloc, text.as_bytes())?,
-        ))?;
+/// Bytes as their numbers, which one blank each parts.
+fn bytes(alloc: Global, numbers: &str) -> Result<Vec<u8>, AllocError> {
+    let mut bytes = Vec::new(alloc);
+    for number in numbers.split(' ') {
+        bytes.push(number.parse().unwrap_or(0))?;
     }
-    Ok(files)
+    Ok(bytes)
 }
 
-/// The input.
-fn input(alloc: Global, bytes: &[u8]) -> Result<Vec<(String, Vec<u8>)>, AllocError> {
-    let mut files = Vec::new(alloc);
-    files.push((
-        String::from_str(alloc, "in")?,
-        Vec::from_slice(alloc, bytes)?,
-    ))?;
-    Ok(files)
+/// A number, or 0.
+fn number(text: &str) -> u64 {
+    text.parse().unwrap_or(0)
 }
 
-/// How a run ended, and its channels.
-#[derive(Drop)]
-struct Ran {
-    status: Status,
-    drains: MemDrains,
-}
-
-/// Runs the words of a line on objects of its own.
-fn run_line<R: Abort + Threads + Sync>(
+/// Stops unless a line leaves this, on objects of its own.
+fn hold_left<R: Abort + Threads + Sync>(
     rt: &R,
     alloc: Global,
     line: &str,
-    bytes: &[u8],
-    failing: Failing,
-) -> Result<Ran, Fail> {
-    let files = files(alloc)?;
-    let input = input(alloc, bytes)?;
-    assert!(rt; names_are_distinct(&files));
-    assert!(rt; names_are_distinct(&input));
-    let (read, feed, drain) = failing;
-    let mut library = MemLibrary::new(files, vec![in alloc; read]?);
-    let mut feeds = MemFeeds::new(alloc, input, vec![in alloc; feed]?, 3, 4)?;
-    let mut drains = MemDrains::new(alloc, vec![in alloc; drain]?, 3, 4, 4096)?;
-    let words = words(alloc, line)?;
-    let Ok(job) = read_words(alloc, words.as_slice()) else {
-        return Err(Fail::from(Memory));
-    };
-    let status = run_job(
+    input: &[u8],
+    told: &str,
+) -> Result<(), Fail> {
+    let (failing, words) = line.split_once(": ").unwrap_or(("", line));
+    let (read, rest) = cut(failing, " ");
+    let (feed, channel) = cut(rest, " ");
+    let (name, files) = cut(FILES, " ");
+    let (text, others) = cut(files, "\n");
+    let mut library = library(alloc, name, text.as_bytes(), others, number(read))?;
+    let mut feeds = feeds(alloc, input, "", number(feed), 3)?;
+    let mut drains = drains(alloc, number(channel), 3, 4096)?;
+    hold_on(
         rt,
         alloc,
-        &job,
+        words,
         &mut library,
         &mut feeds,
         &mut drains,
-        &OpenGate,
-    );
-    Ok(Ran { status, drains })
+        told,
+    )
 }
 
-#[test]
-fn runs_leave_their_report_trace_and_output(rt: HostRuntime) -> Result<(), Fail> {
-    for &(line, bytes, failing, left) in ROWS {
-        let ran = run_line(&rt, rt.alloc(), line, bytes, failing)?;
-        assert!(rt; ran.status.code() == left.0, "{}: {:?}", line, ran.status);
-        assert!(rt;
-            ran.drains.held(0) == left.1.as_bytes(),
-            "report of {}",
-            line
-        );
-        assert!(rt;
-            ran.drains.held(1) == left.2.as_bytes(),
-            "trace of {}",
-            line
-        );
-        assert!(rt; ran.drains.held(2) == left.3, "output of {}", line);
-    }
+/// Stops unless words leave this on these objects: `REPORT | TRACE | OUTPUT | STATUS`, what the channels 0 and 1 hold,
+/// in which `/` ends each line, the bytes of channel 2, and the exit status with the start of its name.
+fn hold_on<R: Abort + Threads + Sync>(
+    rt: &R,
+    alloc: Global,
+    line: &str,
+    library: &mut MemLibrary,
+    feeds: &mut MemFeeds,
+    drains: &mut MemDrains,
+    told: &str,
+) -> Result<(), Fail>
+    requires feeds_closed { (feed : ℕ) → (inputs_of feeds.old).is_open feed ≡ false }
+    requires report_open { (channels_of drains.old).is_open 0 ≡ true }
+    requires others_closed { (channel : ℕ) → channel ≢ 0
+        → (channels_of drains.old).is_open channel ≡ false }
+{
+    let job = job(alloc, line)?;
+    let status = run_job(rt, alloc, &job, library, feeds, drains, &OpenGate);
+    let mut ended = left(alloc, drains)?;
+    write!(ended, " | {} {status:?}", status.code())?;
+    assert!(rt; begins(ended.as_str(), told), "{line}: {ended}");
     Ok(())
+}
+
+/// The job of a line.
+fn job(alloc: Global, line: &str) -> Result<Job, Fail>
+    ensures within { IfOk result (λ job. IsWithin (job_text job)) }
+{
+    let words = words(alloc, line)?;
+    match read_words(alloc, words.as_slice()) {
+        Ok(job) => Ok(job),
+        Err(_) => Err(Fail::new("no job")),
+    }
 }
