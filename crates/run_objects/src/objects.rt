@@ -82,8 +82,8 @@ pub fn feeds(
     Ok(MemFeeds::new(alloc, files, failing, step, 4)?)
 }
 
-/// Channels of which the one of the report is open. A call moves at most `step` bytes, a channel holds at most `room`, and the
-/// call of this number fails, counted from 1; 0 for none.
+/// Channels of which the one of the report is open. A call moves at most `step` bytes, a channel holds at most `room`,
+/// and the call of this number fails, counted from 1; 0 for none.
 ///
 /// # Errors
 ///
