@@ -56,8 +56,8 @@ pub fn library(
     Ok(MemLibrary::new(files, vec![in alloc; read]?))
 }
 
-/// Closed feeds of an input under the name `in` and of a trace under the name `t`, in which `/` ends each line. A call moves
-/// at most `step` bytes, and the call of this number fails, counted from 1; 0 for none.
+/// Closed feeds of an input under the name `in` and of a trace under the name `t`, in which `/` ends each line. A call
+/// moves at most `step` bytes, and the call of this number fails, counted from 1; 0 for none.
 ///
 /// # Errors
 ///
@@ -90,8 +90,8 @@ pub fn feeds(
 /// `NoStep` if `step` is 0, and `Memory` if memory runs out.
 pub fn drains(alloc: Global, call: u64, step: u32, room: u32) -> Result<MemDrains, Unmade>
     ensures report_open { IfOk result (λ drains. (channels_of drains).is_open 0 ≡ true) }
-    ensures others_closed { IfOk result (λ drains. (channel : ℕ) → channel ≢ 0
-        → (channels_of drains).is_open channel ≡ false) }
+    ensures others_closed { IfOk result (λ drains. (n : ℕ) → n ≢ 0
+        → (channels_of drains).is_open n ≡ false) }
 {
     if step == 0 {
         return Err(Unmade::NoStep);

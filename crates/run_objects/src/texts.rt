@@ -47,7 +47,8 @@ pub fn begins(text: &str, row: &str) -> bool {
     true
 }
 
-/// What channels hold: `REPORT | TRACE | OUTPUT`, the texts of the channels 0 and 1, and the bytes of channel 2 as numbers.
+/// What channels hold: `REPORT | TRACE | OUTPUT`, the texts of the channels 0 and 1, and the bytes of channel 2 as
+/// numbers.
 ///
 /// # Errors
 ///
