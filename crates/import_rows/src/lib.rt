@@ -5,6 +5,4 @@
 #![tactic(auto)]
 
 #[cfg(test)]
-mod files;
-#[cfg(test)]
 mod scopes;

@@ -1,9 +1,9 @@
 //! Actors with what their imports lead to, or the rule of scope that one of their files breaks.
 
-use crate::files::{cut, file_of, printed};
 use cal_ast::{Actor, Body, File, Function, Ident, Member, UnitFile, VarDecl};
 use cal_imports::{FileSet, Scope, resolve};
 use rvc_base::Front;
+use scope_texts::{cut, file_of, printed};
 use std::alloc::Global;
 use std::process::Abort;
 use std::test::Fail;

@@ -1,34 +1,50 @@
 //! Files in memory.
 
-use crate::texts::{cut, lines};
+use crate::texts::{cut, replaced};
 use std::alloc::{AllocError, Global};
 
 /// Files, by their names.
 pub type Files = Vec<(String, Vec<u8>)>;
 
-/// Adds a file.
-fn add(files: &mut Files, alloc: Global, name: &str, bytes: &[u8]) -> Result<(), AllocError> {
+/// Adds a file `NAME TEXT`, if the text isn't empty.
+fn add(files: &mut Files, alloc: Global, file: &str) -> Result<(), AllocError> {
+    if file.is_empty() {
+        return Ok(());
+    }
+    let (name, text) = cut(file, " ");
     let name = String::from_str(alloc, name)?;
-    files.push((name, Vec::from_slice(alloc, bytes)?))?;
+    files.push((name, replaced(alloc, text, b'\x7f', 255)?))?;
     Ok(())
 }
 
-/// A file, and those of lines `NAME TEXT`.
-pub fn sources(alloc: Global, name: &str, text: &[u8], others: &str) -> Result<Files, AllocError> {
+/// The files of two texts. In each `\n+ ` stands between two files, which are `NAME TEXT`.
+pub fn sources(alloc: Global, own: &str, others: &str) -> Result<Files, AllocError> {
     let mut files = Vec::new(alloc);
-    add(&mut files, alloc, name, text)?;
-    for line in others.lines() {
-        let (name, text) = cut(line, " ");
-        add(&mut files, alloc, name, text.as_bytes())?;
+    for text in [own, others] {
+        for file in text.split("\n+ ") {
+            add(&mut files, alloc, file)?;
+        }
     }
     Ok(files)
 }
 
-/// The input under the name `in`, and the trace under the name `t`, in which `/` ends each line.
-pub fn inputs(alloc: Global, input: &[u8], trace: &str) -> Result<Files, AllocError> {
-    let trace = lines(alloc, trace)?;
+/// The inputs of rows.
+const INPUTS: &[(&str, &[u8])] = &[
+    ("in", &[0, 1, 255]),
+    ("zero", &[5, 0, 3]),
+    ("one", &[7]),
+    ("empty", &[]),
+];
+
+/// The inputs `in` of the bytes 0, 1 and 255, `zero` of 5, 0 and 3, `one` of 7 and `empty` of none, and the trace under
+/// the name `t`, in which `/` ends each line.
+pub fn inputs(alloc: Global, trace: &str) -> Result<Files, AllocError> {
     let mut files = Vec::new(alloc);
-    add(&mut files, alloc, "in", input)?;
-    add(&mut files, alloc, "t", &trace)?;
+    for &(name, bytes) in INPUTS {
+        let name = String::from_str(alloc, name)?;
+        files.push((name, Vec::from_slice(alloc, bytes)?))?;
+    }
+    let name = String::from_str(alloc, "t")?;
+    files.push((name, replaced(alloc, trace, b'/', b'\n')?))?;
     Ok(files)
 }

@@ -37,41 +37,31 @@ impl From<Memory> for Unmade {
     }
 }
 
-/// A library of a file and of those of lines `NAME TEXT`, whose read of this number fails, counted from 1; 0 for none.
+/// A library of its own files and of others, whose read of this number fails, counted from 1; 0 for none. In each text
+/// `\n+ ` stands between two files, which are `NAME TEXT`; `\x7f` stands for the byte 255, which no text has.
 ///
 /// # Errors
 ///
 /// `SameName` if two files have one name, and `Memory` if memory runs out.
-pub fn library(
-    alloc: Global,
-    name: &str,
-    text: &[u8],
-    others: &str,
-    read: u64,
-) -> Result<MemLibrary, Unmade> {
-    let files = sources(alloc, name, text, others)?;
+pub fn library(alloc: Global, own: &str, others: &str, read: u64) -> Result<MemLibrary, Unmade> {
+    let files = sources(alloc, own, others)?;
     if !names_are_distinct(&files) {
         return Err(Unmade::SameName);
     }
     Ok(MemLibrary::new(files, vec![in alloc; read]?))
 }
 
-/// Closed feeds of an input under the name `in` and of a trace under the name `t`, in which `/` ends each line. A call
-/// moves at most `step` bytes, and the call of this number fails, counted from 1; 0 for none.
+/// Closed feeds of inputs: `in` has the bytes 0, 1 and 255, `zero` has 5, 0 and 3, `one` has 7, `empty` has none, and `t`
+/// is a trace, in which `/` ends each line. A call moves at most `step` bytes, and the call of this number fails, counted
+/// from 1; 0 for none.
 ///
 /// # Errors
 ///
 /// `NoStep` if `step` is 0, and `Memory` if memory runs out.
-pub fn feeds(
-    alloc: Global,
-    input: &[u8],
-    trace: &str,
-    call: u64,
-    step: u32,
-) -> Result<MemFeeds, Unmade>
+pub fn feeds(alloc: Global, trace: &str, call: u64, step: u32) -> Result<MemFeeds, Unmade>
     ensures closed { IfOk result (λ feeds. (feed : ℕ) → (inputs_of feeds).is_open feed ≡ false) }
 {
-    let files = inputs(alloc, input, trace)?;
+    let files = inputs(alloc, trace)?;
     if !names_are_distinct(&files) {
         return Err(Unmade::SameName);
     }

@@ -22,13 +22,13 @@ pub fn words(alloc: Global, line: &str) -> Result<Vec<String>, AllocError> {
     Ok(words)
 }
 
-/// The bytes of a text in which `/` ends each line.
-pub(crate) fn lines(alloc: Global, text: &str) -> Result<Vec<u8>, AllocError> {
-    let mut lines = Vec::new(alloc);
+/// The bytes of a text, with one byte in place of another.
+pub(crate) fn replaced(alloc: Global, text: &str, old: u8, new: u8) -> Result<Vec<u8>, AllocError> {
+    let mut bytes = Vec::new(alloc);
     for &byte in text.as_bytes() {
-        lines.push(if byte == b'/' { b'\n' } else { byte })?;
+        bytes.push(if byte == old { new } else { byte })?;
     }
-    Ok(lines)
+    Ok(bytes)
 }
 
 /// Whether a text begins with that of a row, in which `/` ends each line.
@@ -48,14 +48,42 @@ pub fn begins(text: &str, row: &str) -> bool {
 }
 
 /// What channels hold: `REPORT | TRACE | OUTPUT`, the texts of the channels 0 and 1, and the bytes of channel 2 as
-/// numbers.
+/// numbers, with those of channel 3 behind them if it has any. Of a trace of more than 100 bytes, and of an output of
+/// more than 4, the first are told, and how many there are.
 ///
 /// # Errors
 ///
 /// `AllocError` if memory runs out.
 pub fn left(alloc: Global, drains: &MemDrains) -> Result<String, AllocError> {
     let report = str::from_utf8(drains.held(0)).unwrap_or("?");
-    let trace = str::from_utf8(drains.held(1)).unwrap_or("?");
-    let output = drains.held(2);
-    format!(in alloc; "{report} | {trace} | {output:?}")
+    let mut left = format!(in alloc; "{report} | ")?;
+    put_trace(&mut left, drains.held(1))?;
+    left.push_str(" | ")?;
+    put_output(&mut left, drains.held(2))?;
+    let other = drains.held(3);
+    if !other.is_empty() {
+        left.push_str(" ")?;
+        put_output(&mut left, other)?;
+    }
+    Ok(left)
+}
+
+/// Puts a trace of at most 100 bytes, or the first of them and how many there are.
+fn put_trace(left: &mut String, trace: &[u8]) -> Result<(), AllocError> {
+    match trace.get(..100) {
+        None => left.push_str(str::from_utf8(trace).unwrap_or("?")),
+        Some(first) => {
+            let first = str::from_utf8(first).unwrap_or("?");
+            write!(left, "{first} of {}", trace.len())
+        }
+    }
+}
+
+/// Puts an output of at most 4 bytes, or the first of them and how many there are.
+fn put_output(left: &mut String, output: &[u8]) -> Result<(), AllocError> {
+    if output.len() <= 4 {
+        return write!(left, "{output:?}");
+    }
+    let first = output.get(..4).unwrap_or(output);
+    write!(left, "{first:?} of {}", output.len())
 }

@@ -1,14 +1,13 @@
-//! Runs over the objects in memory: their outputs, traces, reports and statuses, and what faults leave.
+//! Runs: their outputs, traces, reports and statuses, what faults leave, and networks that are generated.
 
 use crate::table::{STEPS, hold};
 
-const BYTES: &[u8] = &[0, 1, 255];
-
 #[test]
 fn runs_leave_their_trace_and_output(rt: HostRuntime) {
-    hold(&rt, rt.alloc(), RUNS, BYTES, STEPS);
+    hold(&rt, rt.alloc(), RUNS, STEPS);
 }
 
+/// Runs of one actor and of small networks.
 const RUNS: &str = "
 # Inc.cal actor Inc() uint(size=8) In ==> uint(size=8) Out : action In:[a] ==> Out:[a + 1] end end
 = instances 1/links 2/certified 1/firings 3/rounds 2/in In 0 tokens 3 rest 0/out Out tokens 3/quiet/ | rvc-trace 1 1 2/i 0 Inc Inc/r/f 0 0/f 0 0/f 0 0/r/q/ | [1, 2, 0] | 0 Quiet
@@ -20,29 +19,38 @@ rvc run --budget=3 Inc.cal In=in --trace=t Out=out --workers 1 --burst 64 --roun
 rvc run Inc.cal In=in Out=out --trace t --workers 2
 rvc run Inc.cal In=in Out=out --trace t --round turn
 rvc run Inc.cal In=in Out=out --trace t --burst 63
-# Inc.cal actor Inc() uint(size=8) In ==> uint(size=8) Out : action In:[a] ==> Out:[a + 1] end end
 = instances 1/links 2/certified 1/firings 2/rounds 2/in In 0 tokens 3 rest 0/out Out tokens 2/budget 2/ | rvc-trace 1 1 2/i 0 Inc Inc/r/f 0 0/f 0 0/r/b/ | [1, 2] | 7 Budget { firings: 2 }
 rvc run Inc.cal In=in Out=out --trace t --budget 2
-# Inc.cal actor Inc() uint(size=8) In ==> uint(size=8) Out : action In:[a] ==> Out:[a + 1] end end
 = instances 1/links 2/certified 1/firings 3/rounds 2/in In 0 tokens 3 rest 0/out Out tokens 3/quiet/ | rvc-trace 1 1 2/i 0 Inc Inc/r/f 0 0/f 0 0/f 0 0/r/q/ | [] | 0 Quiet
 rvc run Inc.cal In=in --trace t
-# Inc.cal actor Inc() uint(size=8) In ==> uint(size=8) Out : action In:[a] ==> Out:[a + 1] end end
 = instances 1/links 2/certified 1/firings 3/rounds 2/in In 0 tokens 3 rest 0/out Out tokens 3/quiet/ | rvc-trace 2 1 2 1/i 0 Inc Inc/r/f 0 0/f 0 0/f 0 0/r/q/ | [1, 2, 0] | 0 Quiet
-rvc run Inc.cal In=in Out=out --trace t --grow 1";
-
-#[test]
-fn a_run_over_no_bytes(rt: HostRuntime) {
-    hold(&rt, rt.alloc(), EMPTY, &[], STEPS);
-}
-
-const EMPTY: &str = "
-# Inc.cal actor Inc() uint(size=8) In ==> uint(size=8) Out : action In:[a] ==> Out:[a + 1] end end
+rvc run Inc.cal In=in Out=out --trace t --grow 1
 = instances 1/links 2/certified 1/firings 0/rounds 1/in In 0 tokens 0 rest 0/out Out tokens 0/quiet/ | rvc-trace 1 1 2/i 0 Inc Inc/r/q/ | [] | 0 Quiet
-rvc run Inc.cal In=in Out=out --trace t";
+rvc run Inc.cal In=empty Out=out --trace t
+= instances 2/links 3/certified 1/firings 5/rounds 3/in In 0 tokens 3 rest 0/out Out tokens 2/quiet/ | rvc-trace 1 2 3/i 0 a Inc/i 1 b Two/r/f 0 0/f 0 0/f 0 0/r/f 1 0/f 1 1/r/q/ | [3, 0] | 0 Quiet
+rvc run Net.xdf In=in Out=out --trace t
+= instances 2/links 3/certified 2/firings 6/rounds 3/in In 0 tokens 3 rest 0/out Out tokens 3/quiet/ | rvc-trace 1 2 3/i 0 a Inc/i 1 b Inc/r/f 0 0/f 0 0/f 0 0/r/f 1 0/f 1 0/f 1 0/r/q/ | [2, 3, 1] | 0 Quiet
+rvc run Twice.xdf In=in Out=out --trace t
+rvc run Twice.xdf In=in Out=out --trace t --workers 3
+= instances 1/links 2/certified 1/firings 3/rounds 2/in In 0 tokens 3 rest 0/out Out tokens 3/quiet/ | rvc-trace 1 1 2/i 0 a Inc/r/f 0 0/f 0 0/f 0 0/r/q/ | [1, 2, 0] | 0 Quiet
+rvc run One.xdf --trace t In=in Out=out
+= instances 1/links 2/certified 1/firings 2/rounds 2/in In 0 tokens 3 rest 0/out Out tokens 2/budget 2/ | rvc-trace 1 1 2/i 0 a Inc/r/f 0 0/f 0 0/r/b/ | [1, 2] | 7 Budget { firings: 2 }
+rvc run One.xdf --trace t In=in Out=out --budget 2
+= instances 1/links 2/certified 1/firings 3/rounds 2/in In 0 tokens 3 rest 0/out Out tokens 3/quiet/ | rvc-trace 2 1 2 600/i 0 a Inc/r/f 0 0/f 0 0/f 0 0/r/q/ | [] | 0 Quiet
+rvc run One.xdf --trace t In=in --grow 600
+= instances 1/links 2/certified 1/firings 0/rounds 1/in In 0 tokens 0 rest 0/out Out tokens 0/quiet/ | rvc-trace 1 1 2/i 0 a Inc/r/q/ | [] | 0 Quiet
+rvc run One.xdf --trace t Out=out
+= instances 2/links 4/certified 2/firings 6/rounds 2/in In 0 tokens 3 rest 0/out Out tokens 3/out Other tokens 3/quiet/ | rvc-trace 1 2 4/i 0 a Inc/i 1 b Inc/r/f 0 0/f 0 0/f 0 0/f 1 0/f 1 0/f 1 0/r/q/ | [] [1, 2, 0] | 0 Quiet
+rvc run Both.xdf --trace t In=in Other=out
+= instances 2/links 4/certified 2/firings 6/rounds 4/in In 0 tokens 3 rest 0/out Out tokens 3/out Other tokens 3/quiet/ | rvc-trace 1 2 4/i 0 a Inc/i 1 b Inc/r/f 0 0/f 0 0/f 0 0/r/f 1 0/f 1 0/f 1 0/r/r/q/ | [1, 2, 0] | 0 Quiet
+rvc run Both.xdf --trace t Out=out In=in --round turn
+# Div.cal actor Div() uint(size=8) In ==> uint(size=8) Out : action In:[a] ==> Out:[100 / a] end end
+= instances 1/links 2/certified 1/firings 1/rounds 1/in In 0 tokens 3 rest 0/out Out tokens 1/trapped 0 0 DivideByZero/ | rvc-trace 1 1 2/i 0 Div Div/r/f 0 0/t 0 0 DivideByZero/ | [20] | 5 Trapped
+rvc run Div.cal In=zero Out=out --trace t";
 
 #[test]
 fn a_failed_call_is_a_fault(rt: HostRuntime) {
-    hold(&rt, rt.alloc(), FAULTS, BYTES, &[1]);
+    hold(&rt, rt.alloc(), FAULTS, &[1]);
 }
 
 /// No feed is opened if no word names the input. Each line says how many bytes a call moves.
@@ -52,138 +60,69 @@ const FAULTS: &str = "
 1 0 3 0: rvc run Inc.cal In=in Out=out --trace t
 3 0 3 0: rvc run Inc.cal In=in Out=out --trace t
 1000 0 3 0: rvc run Inc.cal In=in Out=out --trace t
-# Inc.cal actor Inc() uint(size=8) In ==> uint(size=8) Out : action In:[a] ==> Out:[a + 1] end end
+3 0 2 0: rvc run Inc.cal In=in Out=out --trace t
 = write fault 2/ | rvc-trace 1 1 2/i 0 Inc Inc/ | [] | 3 WriteFault { channel: 2 }
 1 0 0 31: rvc run Inc.cal In=in Out=out --trace t
 3 0 0 13: rvc run Inc.cal In=in Out=out --trace t
 1000 0 0 4: rvc run Inc.cal In=in Out=out --trace t
-# Inc.cal actor Inc() uint(size=8) In ==> uint(size=8) Out : action In:[a] ==> Out:[a + 1] end end
 = instances 1/links 2/certified 1/firings 0/rounds 1/in In 0 tokens 0 rest 0/out Out tokens 0/quiet/ | rvc-trace 1 1 2/i 0 Inc Inc/r/q/ | [] | 0 Quiet
 1000 0 1 0: rvc run Inc.cal Out=out --trace t
 1000 0 1 0: rvc run Inc.cal --trace t
+= read fault Inc.cal/ |  | [] | 2 ReadFault
+3 1 0 0: rvc run Inc.cal In=in Out=out --trace t
+= read fault in/ |  | [] | 2 ReadFault(Feed(1))
+3 0 1 0: rvc run Inc.cal In=in Out=out --trace t
+9 0 1 0: rvc run One.xdf --trace t In=in Out=out
+= write fault 1/ |  | [] | 3 WriteFault { channel: 1 }
+3 0 0 1: rvc run Inc.cal In=in Out=out --trace t
+9 0 0 1: rvc run One.xdf --trace t In=in Out=out
+=  |  | [] | 3 WriteFault
+3 0 0 1: rvc run None.cal --trace t
+= read fault in/ | rvc-trace 1 1 2/i 0 a Inc/ | [] | 2 ReadFault(Feed(1))
+1 0 3 0: rvc run One.xdf --trace t In=in Out=out
+= write fault 2/ |  | [] | 3 WriteFault { channel: 2 }
+9 0 0 2: rvc run One.xdf --trace t In=in Out=out
+= write fault 1/ | rvc-trac | [] | 3 WriteFault { channel: 1 }
+4 0 0 5: rvc run One.xdf --trace t In=in Out=out
+= write fault 2/ | rvc-trace 1 1 2/i 0 a Inc/ | [] | 3 WriteFault { channel: 2 }
+99 0 0 4: rvc run One.xdf --trace t In=in Out=out
+= read fault in/ |  | [] | 2 ReadFault(Feed(2))
+9 0 2 0: rvc run Both.xdf --trace t In=in
 # Inc.cal actor Inc() uint(size=8) In ==> uint(size=8) Out : action In:[a] ==> Out:[a+1] endaction endactor
 = read fault Inc.cal/ |  | [] | 2 ReadFault(File(1))
 1000 1 0 0: rvc fmt Inc.cal
 1000 1 0 0: rvc fmt Inc.cal In=in
-# Inc.cal actor Inc() uint(size=8) In ==> uint(size=8) Out : action In:[a] ==> Out:[a+1] endaction endactor
 = act |  | [] | 3 WriteFault { channel: 0 }
 1 0 0 4: rvc fmt Inc.cal
-# Inc.cal actor Inc() uint(size=8) In ==> uint(size=8) Out : action In:[a] ==> Out:[a+1] endaction endactor
 =  |  | [] | 3 WriteFault { channel: 0 }
 3 0 0 1: rvc fmt Inc.cal
 1000 0 0 1: rvc fmt Inc.cal";
 
 #[test]
-fn fmt_prints_the_canonical_text(rt: HostRuntime) {
-    hold(&rt, rt.alloc(), PRINTS, BYTES, STEPS);
+fn generated_networks_are_run(rt: HostRuntime) {
+    hold(&rt, rt.alloc(), GENERATED, &[3, 4096]);
 }
 
-const PRINTS: &str = "
-# Inc.cal actor Inc() uint(size=8) In ==> uint(size=8) Out : action In:[a] ==> Out:[a+1] endaction endactor
-= actor Inc ( ) uint ( size = 8 ) In ==> uint ( size = 8 ) Out : action In : [ a ] ==> Out : [ a + 1 ] end/end/ |  | [] | 0 Done
-rvc fmt Inc.cal
-rvc fmt Inc.cal --trace t --workers 2 --round turn --burst 63 --budget 1
-# Inc.cal actor Inc ( ) uint ( size = 8 ) In ==> uint ( size = 8 ) Out : action In : [ a ] ==> Out : [ a + 1 ] end
-end
-
-= actor Inc ( ) uint ( size = 8 ) In ==> uint ( size = 8 ) Out : action In : [ a ] ==> Out : [ a + 1 ] end/end/ |  | [] | 0 Done
-rvc fmt Inc.cal
-rvc fmt Inc.cal --trace t --workers 2 --round turn --burst 63 --budget 1";
-
-#[test]
-fn what_conforms_is_done(rt: HostRuntime) {
-    hold(&rt, rt.alloc(), VERDICTS, BYTES, STEPS);
-}
-
-/// What `check` and `certify` write of the actor.
-const VERDICTS: &str = "
-# Inc.cal actor Inc() uint(size=8) In ==> uint(size=8) Out : action In:[a] ==> Out:[a + 1] end end
-= instances 1/links 2/done/ |  | [] | 0 Done
-rvc check Inc.cal
-# Inc.cal actor Inc() uint(size=8) In ==> uint(size=8) Out : action In:[a] ==> Out:[a + 1] end end
-= certified 1/done/ |  | [] | 0 Done
-rvc certify Inc.cal";
-
-#[test]
-fn refusals_name_a_rule_and_its_place(rt: HostRuntime) {
-    hold(&rt, rt.alloc(), REFUSALS, BYTES, STEPS);
-}
-
-/// What refuses these words and this source.
-const REFUSALS: &str = "
-# Inc.cal actor Inc() uint(size=8) In ==> uint(size=8) Out : action In:[a] ==> Out:[a + 1] end end
-= refused N1 words 0/ |  | [] | 4 Refused
-rvc run No.cal In=in Out=out --trace t
-rvc run Inc.xdf In=in Out=out --trace t
-# Inc.cal actor Inc() uint(size=8) In ==> uint(size=8) Out : action In:[a] ==> Out:[a + 1] end end
-= refused P1 words 0/ |  | [] | 4 Refused
-rvc gen 1 In=in --trace t
-rvc check Inc.cal In=in
-rvc certify Inc.cal Out=out
-rvc run Inc.cal Inn=in --trace t
-rvc run Inc.cal X=in X=in --trace t
-# Inc.cal actor Inc() uint(size=8) In ==> uint(size=8) Out : action In:[a] ==> Out:[a + 1] end end
+/// Networks of one, two and three actors, and numbers and words that are refused.
+const GENERATED: &str = "
+# 
+= instances 1/links 2/certified 1/firings 1024/rounds 17/in In 0 tokens 1024 rest 0/out Out tokens 1024/quiet/ | rvc-trace 1 1 2/i 0 a0 gen.Add/r/f 0 0/f 0 0/f 0 0/f 0 0/f 0 0/f 0 0/f 0 0/f 0 0/f 0 0/f 0 0/f 0 0/f of 6211 | [198, 126, 129, 107] of 1024 | 0 Quiet
+rvc gen 1 Out=out --trace t
+= instances 2/links 3/certified 2/firings 2048/rounds 34/in In 0 tokens 1024 rest 0/out Out tokens 1024/quiet/ | rvc-trace 1 2 3/i 0 a0 gen.Add/i 1 a1 gen.Flip/r/f 0 0/f 0 0/f 0 0/f 0 0/f 0 0/f 0 0/f 0 0/f 0 0/f 0 of 12405 | [141, 33, 254, 114] of 1024 | 0 Quiet
+rvc gen 2 Out=out --trace t --round turn
+= instances 2/links 3/certified 2/firings 2048/rounds 18/in In 0 tokens 1024 rest 0/out Out tokens 1024/quiet/ | rvc-trace 1 2 3/i 0 a0 gen.Add/i 1 a1 gen.Flip/r/f 0 0/f 0 0/f 0 0/f 0 0/f 0 0/f 0 0/f 0 0/f 0 0/f 0 of 12373 | [141, 33, 254, 114] of 1024 | 0 Quiet
+rvc gen 2 Out=out --trace t
+rvc gen 2 Out=out --trace t --workers 2
+= instances 3/links 4/certified 3/firings 3072/rounds 19/in In 0 tokens 1024 rest 0/out Out tokens 1024/quiet/ | rvc-trace 1 3 4/i 0 a0 gen.Add/i 1 a1 gen.Flip/i 2 a2 gen.Add/r/f 0 0/f 0 0/f 0 0/f 0 0/f 0 0/f 0 0/ of 18534 | [] | 0 Quiet
+rvc gen 3 --trace t
+rvc gen 3 --trace t --workers 3
+= instances 1/links 2/certified 1/firings 3/rounds 2/in In 0 tokens 515 rest 0/out Out tokens 3/budget 3/ | rvc-trace 1 1 2/i 0 a0 gen.Add/r/f 0 0/f 0 0/f 0 0/r/b/ | [198, 126, 129] | 7 Budget { firings: 3 }
+rvc gen 1 Out=out --trace t --budget 3
+= instances 3/links 4/certified 3/firings 3/rounds 3/in In 0 tokens 515 rest 0/out Out tokens 0/budget 3/ | rvc-trace 2 3 4 1048576/i 0 a0 gen.Add/i 1 a1 gen.Flip/i 2 a2 gen.Add/r/f 0 0/r/f 0 0/f 0 0/r/b/ | [] | 7 Budget { firings: 3 }
+rvc gen 3 --trace t --budget 3 --grow 1048576
+= refused Z12 words 0/ |  | [] | 4 Refused
+rvc gen 17 --trace t --grow 1048576
 = refused P1 words 1/ |  | [] | 4 Refused
-rvc replay Inc.cal In=in Out=out --trace t
-rvc run Inc.cal In=in Inn=in --trace t
-# Inc.cal actor Inc() uint(size=8) In ==> uint(size=8) Out : action In:[a] ==> Out:[a + 1] end end
+rvc gen 2 Out=out In=x --trace t
 = refused P2 words 1/ |  | [] | 4 Refused
-rvc run Inc.cal In=in In=in --trace t
-rvc run Inc.cal In=in In=in X=in --trace t
-# Inc.cal actor Inc() uint(size=8) In ==> uint(size=8) Out : action In:[a] ==> Out:[a + 1] end end
-= refused P2 words 2/ |  | [] | 4 Refused
-rvc run Inc.cal In=in Out=out In=in --trace t
-# Inc.cal actor Inc() uint(size=8) In ==> uint(size=8) Out : action In:[a] ==> Out:[a + 1] end end
-= refused P1 words 2/ |  | [] | 4 Refused
-rvc run Inc.cal Out=o In=in X=in --trace t
-# Inc.cal actor B() \"
-= refused L5 Inc.cal 10/ |  | [] | 4 Refused
-rvc run Inc.cal In=in Out=out --trace t
-rvc fmt Inc.cal
-# Inc.cal actor B() uint(size=8) In ==> 
-= refused G1 Inc.cal 30/ |  | [] | 4 Refused
-rvc run Inc.cal In=in Out=out --trace t
-# Inc.cal  unit U : end
-= refused S5 Inc.cal 0/ |  | [] | 4 Refused
-rvc run Inc.cal In=in Out=out --trace t
-# Inc.cal 
-= refused G1 Inc.cal 0/ |  | [] | 4 Refused
-rvc fmt Inc.cal
-rvc fmt Inc.cal In=in
-# Inc.cal actor Inc() uint(size=8) In ==> uint(size=8) Out : action In:[a] ==> Out:[a+1] endaction endactor
-= refused N1 words 0/ |  | [] | 4 Refused
-rvc fmt No.cal
-rvc fmt a/Inc.cal
-# Inc.cal actor Inc() uint(size=8) In ==> uint(size=8) Out : action In:[a] ==> Out:[a+1] endaction endactor
-= refused P1 words 0/ |  | [] | 4 Refused
-rvc fmt Inc.cal In=in
-rvc fmt Inc.cal Out=out In=in";
-
-#[test]
-fn words_that_are_no_job_are_usage(rt: HostRuntime) {
-    hold(&rt, rt.alloc(), USAGES, BYTES, STEPS);
-}
-
-/// Words that are no job leave the cause and how the program is used.
-const USAGES: &str = "
-# Inc.cal actor Inc() uint(size=8) In ==> uint(size=8) Out : action In:[a] ==> Out:[a + 1] end end
-= usage words/rvc VERB TOP [PORT=FILE ..] [--trace FILE] [--workers N] [--round P] [--burst N] [--budget N] [--grow N]/ |  | [] | 1 Usage
-rvc
-# Inc.cal actor Inc() uint(size=8) In ==> uint(size=8) Out : action In:[a] ==> Out:[a + 1] end end
-= usage verb/rvc VERB TOP [PORT=FILE ..] [--trace FILE] [--workers N] [--round P] [--burst N] [--budget N] [--grow N]/ |  | [] | 1 Usage
-rvc go Inc.cal
-# Inc.cal actor Inc() uint(size=8) In ==> uint(size=8) Out : action In:[a] ==> Out:[a + 1] end end
-= usage top/rvc VERB TOP [PORT=FILE ..] [--trace FILE] [--workers N] [--round P] [--burst N] [--budget N] [--grow N]/ |  | [] | 1 Usage
-rvc run Inc.txt --trace t
-# Inc.cal actor Inc() uint(size=8) In ==> uint(size=8) Out : action In:[a] ==> Out:[a + 1] end end
-= usage number/rvc VERB TOP [PORT=FILE ..] [--trace FILE] [--workers N] [--round P] [--burst N] [--budget N] [--grow N]/ |  | [] | 1 Usage
-rvc run Inc.cal --workers 65 --trace t
-# Inc.cal actor Inc() uint(size=8) In ==> uint(size=8) Out : action In:[a] ==> Out:[a + 1] end end
-= usage round/rvc VERB TOP [PORT=FILE ..] [--trace FILE] [--workers N] [--round P] [--burst N] [--budget N] [--grow N]/ |  | [] | 1 Usage
-rvc run Inc.cal --round x --trace t
-# Inc.cal actor Inc() uint(size=8) In ==> uint(size=8) Out : action In:[a] ==> Out:[a + 1] end end
-= usage port/rvc VERB TOP [PORT=FILE ..] [--trace FILE] [--workers N] [--round P] [--burst N] [--budget N] [--grow N]/ |  | [] | 1 Usage
-rvc run Inc.cal In --trace t
-# Inc.cal actor Inc() uint(size=8) In ==> uint(size=8) Out : action In:[a] ==> Out:[a + 1] end end
-= usage trace/rvc VERB TOP [PORT=FILE ..] [--trace FILE] [--workers N] [--round P] [--burst N] [--budget N] [--grow N]/ |  | [] | 1 Usage
-rvc run Inc.cal";
+rvc gen 2 Out=a Out=b --trace t";

@@ -1,31 +1,12 @@
 //! Sources with what the check of them reports: the numbers of the network that they mean, or the rule that they break and
 //! where.
 
-use crate::running::{Run, hold_left};
 use crate::table::hold;
 
 #[test]
-fn a_byte_that_is_no_text(rt: HostRuntime) {
-    let made = Run {
-        words: "rvc check A.cal",
-        name: "A.cal",
-        source: b"actor A() \xff",
-        input: &[],
-        trace: "",
-        step: 1000,
-        failing: (0, 0, 0),
-    };
-    hold_left(
-        &rt,
-        rt.alloc(),
-        &made,
-        "refused L1 A.cal 10/ |  | [] | 4 Refused",
-    );
-}
-
-#[test]
-fn files(rt: HostRuntime) {
-    hold(&rt, rt.alloc(), FILES, &[], &[1000]);
+fn sources_are_checked(rt: HostRuntime) {
+    hold(&rt, rt.alloc(), FILES, &[1000]);
+    hold(&rt, rt.alloc(), ACTIONS, &[1000]);
 }
 
 /// Whole sources.
@@ -35,6 +16,9 @@ const FILES: &str = "
 rvc check A.cal
 # A.cal /* an **/actor//x\n A/**/(\t)\r\nuint(size/*/*/=0x8)In==>uint(size=8)Out:action In:[a]==>Out:[a*1]endaction//\nend\u{c}// the end
 = instances 1/links 2/done/ |  | [] | 0 Done
+rvc check A.cal
+# A.cal actor A() \u{7f}
+= refused L1 A.cal 10/ |  | [] | 4 Refused
 rvc check A.cal
 # A.cal actor A() /* never closed
 = refused L2 A.cal 10/ |  | [] | 4 Refused
@@ -75,11 +59,6 @@ rvc check A.cal
 # A.cal actor A() uint(size=8) In ==> uint(size=8) Out : end
 = instances 1/links 2/done/ |  | [] | 0 Done
 rvc check A.cal";
-
-#[test]
-fn actions(rt: HostRuntime) {
-    hold(&rt, rt.alloc(), ACTIONS, &[], &[1000]);
-}
 
 /// Actions: each begins at 49, and its text at 56.
 const ACTIONS: &str = "

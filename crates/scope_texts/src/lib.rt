@@ -1,7 +1,8 @@
 //! What rows of scope are made of: tables that are one text each, files from text, names for them to use, and answers as
 //! text.
 //!
-//! The tests are those of `scope_rows` and `member_rows`, which stand on this so that what they share is proved once.
+//! The tests are those of `scope_rows`, `member_rows` and `import_rows`, which stand on this so that what they share is
+//! proved once.
 #![tactic(auto)]
 
 mod faults;

@@ -72,7 +72,8 @@ impl GrowingNames {
         known: &[KnownName],
         funs: &[DeclaredFun],
     ) -> Result<GrowingNames, Memory>
-        ensures { IfOk result (λ names. IsKept (kept_in names) (fun_decls funs.now) (all_known known.now)) }
+        ensures { IfOk result (λ names. IsKept (kept_in names) (fun_decls funs.now)
+            (all_known known.now)) }
     {
         let alone = names_alone(alloc, known)?;
         let order = order_of(alloc, funs)?;
@@ -113,7 +114,8 @@ impl GrowingNames {
     pub fn make(&mut self, known: &[KnownName], funs: &[DeclaredFun]) -> Result<(), Memory>
         requires differ { names_differ (fun_decls funs.now) ≡ true }
         requires kept { IsKept (kept_in self.old) (fun_decls funs.now) (all_known known.now) }
-        ensures kept { OnOk result (IsKept (kept_in self.new) (fun_decls funs.now) (all_known known.now)) }
+        ensures kept { OnOk result (IsKept (kept_in self.new) (fun_decls funs.now)
+            (all_known known.now)) }
         ensures made { OnOk result (IsSome self.new.seen) }
         ensures alike { OnOk result (IsMade self.new.seen
             (seen (fun_decls funs.now) (all_known known.now))) }
@@ -146,7 +148,8 @@ impl GrowingNames {
     ///
     /// `Memory` if memory runs out. What is kept isn't said then.
     pub fn add(&mut self, x: &KnownName) -> Result<(), Memory>
-        ensures { OnOk result ((fs : List FunDecl) (known : List Known) → IsKept (kept_in self.old) fs known
+        ensures { OnOk result ((fs : List FunDecl) (known : List Known)
+            → IsKept (kept_in self.old) fs known
             → IsKept (kept_in self.new) fs (known_view x.now ∷ known)) }
     {
         self.add_alone(x)?;

@@ -53,7 +53,8 @@ pub(crate) fn names_without(
     at_rest: bool,
     known: &[KnownName],
 ) -> Result<Env, Memory>
-    ensures names { IfOk result (λ env. globals_of env ≡ last_first (known_at at_rest) known.now []) }
+    ensures names { IfOk result (λ env. globals_of env
+        ≡ last_first (known_at at_rest) known.now []) }
     ensures no_funs { IfOk result (λ env. (held env).funs ≡ []) }
 {
     let mut env = Env::new(alloc);

@@ -58,7 +58,8 @@ impl Order {
 
     /// Adds a name behind the others.
     fn add(&mut self, name: &str) -> Result<(), Memory>
-        ensures { OnOk result (self.new ≡ record self.old { names = with_seen self.old.names name.now }) }
+        ensures { OnOk result (self.new
+            ≡ record self.old { names = with_seen self.old.names name.now }) }
     {
         self.names.add(name)
     }

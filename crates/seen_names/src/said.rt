@@ -86,7 +86,8 @@ fn places_or_none(alloc: Global, places: Option<Vec<usize>>) -> Vec<usize>
 
 /// The function at a place says what it needs.
 fn add_said(alloc: Global, said: &mut Said, place: usize, f: &Function) -> Result<(), Memory>
-    ensures { OnOk result (Says (with_needs false (function_tree f.now) nothing).names place said.old said.new) }
+    ensures { OnOk result (Says (with_needs false (function_tree f.now) nothing).names place
+        said.old said.new) }
 {
     let mut needs = Needs::new(alloc);
     say_needs(&mut needs, said, place, f)
@@ -95,7 +96,8 @@ fn add_said(alloc: Global, said: &mut Said, place: usize, f: &Function) -> Resul
 /// The same, with nothing that is needed so far.
 fn say_needs(needs: &mut Needs, said: &mut Said, place: usize, f: &Function) -> Result<(), Memory>
     requires { needs.old ≡ nothing }
-    ensures { OnOk result (Says (with_needs false (function_tree f.now) nothing).names place said.old said.new) }
+    ensures { OnOk result (Says (with_needs false (function_tree f.now) nothing).names place
+        said.old said.new) }
 {
     add_fun(needs, f)?;
     needs.say(said, place)

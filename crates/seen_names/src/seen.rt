@@ -25,7 +25,8 @@ use std::alloc::Global;
 fn add_over(next: &mut Env, names: &Names, f: DeclaredFun) -> Result<(), Memory>
     requires new { has_fun f.name.now (held next.old).funs ≡ false }
     ensures added { OnOk result ((held next.new).funs ≡ (held next.old).funs
-        ++ with_fun (fun_judged f.entry.name.now (function_tree f.entry.decl.now) (names_view names.now)) []) }
+        ++ with_fun (fun_judged f.entry.name.now (function_tree f.entry.decl.now)
+            (names_view names.now)) []) }
     ensures same_names { OnOk result (globals_of next.new ≡ globals_of next.old) }
 {
     types_are_kept();
@@ -45,7 +46,8 @@ fn round(
     before: &Env,
 ) -> Result<Env, Memory>
     requires { names_differ (fun_decls funs.now) ≡ true }
-    ensures names { IfOk result (λ env. globals_of env ≡ last_first (known_at at_rest) known.now []) }
+    ensures names { IfOk result (λ env. globals_of env
+        ≡ last_first (known_at at_rest) known.now []) }
     ensures funs { IfOk result (λ env. (held env).funs
         ≡ funs_over (fun_decls funs.now) (names_in before.now)) }
 {

@@ -1,12 +1,15 @@
 //! The smallest source of each rule, checked: what breaks it, and the place that the report names. docs/RULES.md has
 //! the same sources.
 
-use crate::commands::{hold, hold_left};
-use std::test::Fail;
+use crate::running::hold_left;
+use crate::table::hold;
+use run_objects::Row;
 
 #[test]
-fn actors_break_each_rule(rt: HostRuntime) -> Result<(), Fail> {
-    hold(&rt, rt.alloc(), ACTORS)
+fn sources_break_each_rule(rt: HostRuntime) {
+    hold(&rt, rt.alloc(), ACTORS, &[1000]);
+    hold(&rt, rt.alloc(), NETWORKS, &[1000]);
+    hold(&rt, rt.alloc(), NOT_CONSTANT, &[1000]);
 }
 
 /// Rules that actors break.
@@ -27,7 +30,7 @@ rvc check B.cal
 = refused S5 B.cal 0/ |  | [] | 4 Refused
 rvc check B.cal
 # B.cal import U.*; actor B() ==> : end
-U.cal import U.*; unit U : end
++ U.cal import U.*; unit U : end
 = refused S6 U.cal 0/ |  | [] | 4 Refused
 rvc check B.cal
 # B.cal actor B() ==> : int x = true; end
@@ -91,11 +94,6 @@ rvc check B.cal
 = refused N2 words 0/ |  | [] | 4 Refused
 rvc check B.cal";
 
-#[test]
-fn networks_break_each_rule(rt: HostRuntime) -> Result<(), Fail> {
-    hold(&rt, rt.alloc(), NETWORKS)
-}
-
 /// Rules that networks break.
 const NETWORKS: &str = "
 # T.xdf <XDF name=\"T\"><Port ki
@@ -117,15 +115,15 @@ rvc check T.xdf
 = refused N3 T.xdf 31/ |  | [] | 4 Refused
 rvc check T.xdf
 # T.xdf <XDF name=\"T\"><Port kind=\"Input\" name=\"In\"><Type name=\"int\"/></Port><Instance id=\"a\"><Class name=\"Copy\"/></Instance><Connection src=\"\" src-port=\"In\" dst=\"a\" dst-port=\"In\"/><Connection src=\"\" src-port=\"In\" dst=\"a\" dst-port=\"In\"/></XDF>
-Copy.cal actor Copy() int In ==> int Out : action In:[x] ==> Out:[x] end end
++ Copy.cal actor Copy() int In ==> int Out : action In:[x] ==> Out:[x] end end
 = refused N4 T.xdf 172/ |  | [] | 4 Refused
 rvc check T.xdf
 # T.xdf <XDF name=\"T\"><Port kind=\"Input\" name=\"In\"><Type name=\"int\"/></Port><Instance id=\"a\"><Class name=\"Copy\"/></Instance><Connection src=\"\" src-port=\"In\" dst=\"b\" dst-port=\"In\"/></XDF>
-Copy.cal actor Copy() int In ==> int Out : action In:[x] ==> Out:[x] end end
++ Copy.cal actor Copy() int In ==> int Out : action In:[x] ==> Out:[x] end end
 = refused N5 T.xdf 116/ |  | [] | 4 Refused
 rvc check T.xdf
 # T.xdf <XDF name=\"T\"><Port kind=\"Input\" name=\"In\"><Type name=\"int\"/></Port><Instance id=\"a\"><Class name=\"Flag\"/></Instance><Connection src=\"\" src-port=\"In\" dst=\"a\" dst-port=\"In\"/></XDF>
-Flag.cal actor Flag() bool In ==> : action In:[x] ==> end end
++ Flag.cal actor Flag() bool In ==> : action In:[x] ==> end end
 = refused N6 T.xdf 116/ |  | [] | 4 Refused
 rvc check T.xdf
 # T.xdf <XDF name=\"T\"><Port kind=\"Input\" name=\"In\"><Type name=\"int\"/></Port><Port kind=\"Output\" name=\"Out\"><Type name=\"int\"/></Port><Connection src=\"\" src-port=\"In\" dst=\"\" dst-port=\"Out\"/></XDF>
@@ -135,14 +133,9 @@ rvc check T.xdf
 = refused N8 T.xdf 68/ |  | [] | 4 Refused
 rvc check T.xdf
 # T.xdf <XDF name=\"T\"><Port kind=\"Input\" name=\"In\"><Type name=\"int\"/></Port><Instance id=\"a\"><Class name=\"Copy\"/></Instance><Connection src=\"\" src-port=\"In\" dst=\"a\" dst-port=\"In\"><Attribute name=\"bufferSize\"><Expr kind=\"Literal\" literal-kind=\"Integer\" value=\"0\"/></Attribute></Connection></XDF>
-Copy.cal actor Copy() int In ==> int Out : action In:[x] ==> Out:[x] end end
++ Copy.cal actor Copy() int In ==> int Out : action In:[x] ==> Out:[x] end end
 = refused N9 T.xdf 171/ |  | [] | 4 Refused
 rvc check T.xdf";
-
-#[test]
-fn what_is_not_constant_is_reported_last(rt: HostRuntime) -> Result<(), Fail> {
-    hold(&rt, rt.alloc(), NOT_CONSTANT)
-}
 
 /// Actors inside which something isn't constant. If that is all, it is reported; else another rule is, wherever it
 /// stands.
@@ -168,17 +161,12 @@ rvc check B.cal";
 
 /// An actor of 257 actions has one too many.
 #[test]
-fn actions_are_counted(rt: HostRuntime) -> Result<(), Fail> {
-    let mut file = String::from_str(rt.alloc(), "B.cal actor B() ==> : ")?;
+fn actions_are_counted(rt: HostRuntime) {
+    let mut file = String::from_str(rt.alloc(), "B.cal actor B() ==> : ").expect(&rt, "a text");
     for _action in 0..257usize {
-        file.push_str("action ==> end ")?;
+        file.push_str("action ==> end ").expect(&rt, "a text");
     }
-    file.push_str("end")?;
-    hold_left(
-        &rt,
-        rt.alloc(),
-        file.as_str(),
-        "rvc check B.cal",
-        "refused Z2 B.cal 0/ |  | [] | 4 Refused",
-    )
+    file.push_str("end").expect(&rt, "a text");
+    let row = Row::of_line("rvc check B.cal", file.as_str(), 1000);
+    hold_left(&rt, rt.alloc(), &row, "refused Z2 B.cal 0/ |  | [] | 4 Refused");
 }
