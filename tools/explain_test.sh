@@ -29,6 +29,19 @@ same_sentences() {
     done < <(awk -F ' *[|] *' '$2 ~ /^[A-Z][0-9]+$/ && NF == 6 { print $2 "\t" $3 }' "$top/docs/RULES.md")
 }
 
+# Each rule of the table in the code has a row in docs/RULES.md.
+all_rules() {
+    local rule
+    while read -r rule; do
+        if grep -q "^| $rule |" "$top/docs/RULES.md"; then
+            passed=$((passed + 1))
+        else
+            failed=$((failed + 1))
+            printf 'of %s: docs/RULES.md has no row\n' "$rule"
+        fi
+    done < <(sed -n -E 's|^    /// ([A-Z][0-9]+): .*|\1|p' "$top/crates/rvc_base/src/rules.rt")
+}
+
 # The explanation of these words begins with the first line, and has the second as its place.
 wants() { # first line, place, words
     local first=$1 place=$2 found
@@ -49,6 +62,7 @@ source_wants() { # first line, place, text
 }
 
 same_sentences
+all_rules
 
 source_wants 'error L1: a byte' 'B.cal:1:3' 'a !b'
 source_wants 'error L2: a comment' 'B.cal:2:1' 'a\n/* b'
@@ -61,6 +75,8 @@ source_wants 'error Z11: a name' 'B.cal:1:1' "$(printf 'a%.0s' {1..256})"
 wants 'error N1: a class' 'the words' fmt No.cal
 wants 'error P1: a port word' 'the word Uot=b.bin' run Inc.cal In=a.bin Uot=b.bin --trace t
 wants 'error P2: a port' 'the word In=c.bin' run Inc.cal In=a.bin In=c.bin --trace t
+wants 'error P1: a port word' 'the word Uot=b.bin' run Inc.cal --trace a=b Uot=b.bin
+wants 'error Z12: capacities' 'the words' gen 17 --trace t --grow 1048576
 
 printf '%d passed, %d failed\n' "$passed" "$failed"
 [[ $failed -eq 0 ]]

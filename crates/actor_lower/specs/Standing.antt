@@ -14,7 +14,7 @@ use Rattle.actor_tables.specs.Carrying.{BodiesAreAlike, GuardsAreAlike, HasTable
 
 -- A lowered actor stands for an actor: it has its schedule, its priorities, its rates and its state cells, which hold the
 -- numbers of its variables, at first those of the start; its guards say what the actor's say, and its firings leave and
--- send what the actor's do, or trap as they do, each after as many turns. So it behaves as the actor does.
+-- send what the actor's do, or trap as they do, by a turn too many as well. So it behaves as the actor does.
 pub record StandsForActor (actor : Actor) (l : coded.Actor) : Type 0 where
   pub tables : HasTables actor l
   pub numbers : HoldsNumbers actor numbers_of_vars l

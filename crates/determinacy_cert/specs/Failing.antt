@@ -1,5 +1,5 @@
 -- What the certification rule refuses, in the order in which it is sought.
--- Trusted but for `first`: part of what a promise means.
+-- Trusted: part of what a promise means.
 use Rattle.std.specs.Prelude.{ℕ, zero, suc, ◌-◌, Bool, ◌&&◌, ◌||◌, List, [], ◌∷◌, ◌++◌, length, if◌then◌else◌, Option, None, Some, slice_get}
 use Rattle.cal_model.specs.Actor.{Action, Actor}
 use Rattle.cal_model.specs.Eligible.{eligible, has_initialize, states_of}

@@ -1,5 +1,5 @@
 -- The steps of a command of the verb `gen`.
--- Not trusted: no promise is read with it.
+-- Trusted for `command_over` alone: part of what a promise means.
 use Rattle.std.specs.Prelude.{◌≡◌, ℕ, List, Some, string_bytes}
 use Rattle.rvc_base.specs.declared.refusal.Refusal.{Refusal}
 use Rattle.rvc_io.specs.Channels.{Channels}

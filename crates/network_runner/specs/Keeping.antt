@@ -1,5 +1,5 @@
 -- What a runner keeps between its calls.
--- Not trusted: no promise is read with it.
+-- Trusted for `running_of` alone: part of what a promise means.
 use Rattle.std.specs.Prelude.{◌≡◌, ℕ, ◌+◌, ◌*◌, ◌≤◌, ◌<◌, Bool, true, false, List, length, map, slice_get, slice_index_or, Option, None, Some}
 use Rattle.rvc_base.specs.declared.round_kind.RoundKind.{RoundKind}
 use Rattle.rvc_base.specs.declared.scalar.Scalar.{Scalar}

@@ -1,6 +1,6 @@
 //! Port files: the tokens of a feed's bytes, and the bytes of a token.
 //!
-//! A token takes 1, 2 or 4 bytes, the least that hold its size, the lowest byte first; a number below
+//! A token takes 1, 2, 4 or 8 bytes, the least that hold its size, the lowest byte first; a number below
 //! 0 is in two's complement.
 #![tactic(auto)]
 

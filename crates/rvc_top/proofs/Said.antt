@@ -18,6 +18,7 @@ use Rattle.run_report.specs.Report.{report}
 use Rattle.run_report.specs.declared.status.ReadAt.TheVariants.{File, Feed}
 use Rattle.run_report.specs.declared.status.Status.{Status}
 use Rattle.run_report.specs.declared.status.Status.TheVariants.{Quiet, Done, Usage, ReadFault, WriteFault, Refused, Trapped, Stalled, Budget, OutOfMemory, NotRun, Uncertified}
+use Rattle.rvc_top.specs.Generated.{GenComesDeterminate}
 use Rattle.rvc_top.specs.Steps.{IsNoUsage, IsSaid}
 
 -- ---- any verb
@@ -182,3 +183,8 @@ module _ (cmd : Command) where
 
   pub gen_no_usage : (answer : Status) → IsAnswered gen.Comes cmd answer → IsNoUsage answer
   gen_no_usage = no_usage_of gen.Comes cmd (λ cause lines about comes. comes)
+
+  -- what was answered tells of quiet runs of the generated network
+  pub gen_tells : RunsTellQuietRuns → (answer : Status) → IsAnswered gen.Comes cmd answer → IsAnswered GenComesDeterminate cmd answer
+  gen_tells law _ (is_reported {said = said} lines about comes put) = is_reported lines about (comes, λ made is. law made said lines about) put
+  gen_tells law _ (is_unreported said lines about comes put risen) = is_unreported said lines about (comes, λ made is. law made said lines about) put risen

@@ -1,3 +1,4 @@
+pub mod Generated
 pub mod Jobs
 pub mod Status
 pub mod Steps

@@ -26,6 +26,7 @@ ghost use Rattle.gen_job.specs.Jobs.{GeneratedConform, instances_of};
 ghost use Rattle.replay_job.specs.Ends.{Comes as ReplayComes, IsJudgedOrOutside, IsNoVerdict};
 ghost use Rattle.replay_job.specs.Replays.{ConformsToReplay, RefusesReplay};
 ghost use Rattle.run_job.specs.Ends.{Comes as RunComes, ComesFor, IsNoEnd};
+ghost use Rattle.rvc_top.specs.Generated.{GenComesDeterminate};
 ghost use Rattle.rvc_top.specs.Jobs.{IsAnsweredAlone, IsDoneBy, IsSettled};
 ghost use Rattle.rvc_top.specs.Status.{IsReportAlone, IsCaused, IsOfJob, PlainReportIs};
 
@@ -62,10 +63,11 @@ use std::thread::Threads;
 ///   network that the files mean, over the bytes of the feeds, and `NotRun` at the first line that isn't. No channel is
 ///   opened. What conforms is judged so, unless memory runs out, or reading or writing fails (`replay_complete`); what is
 ///   refused never is (`replay_incomplete`).
-/// - `generated`: `gen` made a network and ran it as [`gen_job`](gen_job::gen_job) says, over an input that was generated too. No
-///   file is read and no feed is opened (`gen_reads_no_file`, `gen_opens_no_feed`). If the generated files conform with the
-///   port words, their network is run, unless memory runs out, writing fails or the job is refused for what `IsStillRefused`
-///   of that crate names (`gen_complete`).
+/// - `generated`: `gen` made a network and ran it as [`gen_job`](gen_job::gen_job) says, over an input that was generated
+///   too. No file is read and no feed is opened (`gen_reads_no_file`, `gen_opens_no_feed`). If every actor is certified,
+///   that run tells of every quiet run over the generated input what `determinate` says of `run` (`gen_determinate`). If the
+///   generated files conform with the port words, their network is run, unless memory runs out, writing fails or the job is
+///   refused for what `IsStillRefused` of that crate names (`gen_complete`).
 /// - `formatted`: `fmt` is `Done` only if the file's text spells a tree and no words name ports, and channel 0 got the
 ///   canonical text of that tree alone. A file that is told to hold such a text is `Done`, unless memory runs out, a read
 ///   failed or the text couldn't be written (`complete`). The other answers of `fmt` are its report; nothing is opened, and
@@ -190,6 +192,9 @@ pub fn rvc<R: Threads + Sync, L: Library, F: Feeds, D: Drains, G: Gate>(
     // `gen`.
     ensures generated { (j : JobText) → job (texts words.now) ≡ Ok j → j.verb ≡ verb.Gen
         → IsDoneBy GenComes j (met_by L.file L.misses L.faults F.feeds D.channels
+        library.old library.new feeds.old feeds.new drains.old drains.new) result }
+    ensures gen_determinate { (j : JobText) → job (texts words.now) ≡ Ok j → j.verb ≡ verb.Gen
+        → IsDoneBy GenComesDeterminate j (met_by L.file L.misses L.faults F.feeds D.channels
         library.old library.new feeds.old feeds.new drains.old drains.new) result }
     ensures gen_complete { (j : JobText) (instances : ℕ) (net : Network State)
         → job (texts words.now) ≡ Ok j → j.verb ≡ verb.Gen → instances_of j.top ≡ Some instances

@@ -24,6 +24,7 @@ ghost use Rattle.gen_job.specs.Jobs.{GeneratedConform, instances_of};
 ghost use Rattle.replay_job.specs.Ends.{Comes as ReplayComes, IsJudgedOrOutside, IsNoVerdict};
 ghost use Rattle.replay_job.specs.Replays.{ConformsToReplay, RefusesReplay};
 ghost use Rattle.run_job.specs.Ends.{Comes as RunComes, ComesFor, IsNoEnd};
+ghost use Rattle.rvc_top.specs.Generated.{GenComesDeterminate};
 ghost use Rattle.rvc_top.specs.Steps.{IsNoUsage, IsSaid};
 
 use certify_job::certify_job;
@@ -156,6 +157,10 @@ pub(crate) fn do_job<R: Threads + Sync, L: Library, F: Feeds, D: Drains, G: Gate
         (met_by L.file L.misses L.faults F.feeds D.channels library.old library.new
         feeds.old feeds.new drains.old drains.new) job.now)
         result }
+    ensures gen_determinate { job.now.verb ≡ Verb.Gen → IsAnswered GenComesDeterminate (command
+        (met_by L.file L.misses L.faults F.feeds D.channels library.old library.new
+        feeds.old feeds.new drains.old drains.new) job.now)
+        result }
     ensures gen_complete { (instances : ℕ) (net : Network State) → job.now.verb ≡ Verb.Gen
         → instances_of (string_bytes job.now.top) ≡ Some instances
         → GeneratedConform instances (map port_text job.now.ports.items) net
@@ -170,11 +175,9 @@ pub(crate) fn do_job<R: Threads + Sync, L: Library, F: Feeds, D: Drains, G: Gate
         (F.feeds feeds.new).faults (D.channels drains.old) (D.channels drains.new) result }
     ensures no_usage { IsNoUsage result }
 {
+    runs_tell_quiet_runs();
     match job.verb {
-        Verb::Run => {
-            runs_tell_quiet_runs();
-            run_job(rt, alloc, job, library, feeds, drains, gate)
-        }
+        Verb::Run => run_job(rt, alloc, job, library, feeds, drains, gate),
         Verb::Check => check_job(alloc, job, library, drains),
         Verb::Certify => certify_job(alloc, job, library, drains),
         Verb::Fmt => format_job(alloc, job, library, drains),

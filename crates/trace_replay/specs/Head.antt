@@ -1,5 +1,5 @@
 -- The first lines of a trace.
--- Not trusted: no promise is read with it.
+-- Trusted for `name_of` alone: part of what a promise means.
 use Rattle.std.specs.Prelude.{◌≡◌, ℕ, ◌+◌, List, ◌++◌, map, codes, String, string_bytes}
 use Rattle.std.specs.declared.alloc.Global.{Global as Heap}
 use Rattle.std.specs.List.{concat}

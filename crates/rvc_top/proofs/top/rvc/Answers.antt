@@ -106,6 +106,11 @@ returns-in-Ok-clause-generated g c = λ j is verb.
     let says : job_text c.in-Ok.job ≡ j = same_job (job_text c.in-Ok.job) j (job (texts c.args.words.now)) c.in-Ok.ensures.read is in
     inl (record { read = c.in-Ok.job; says = says; holds = c.do_job.ensures.generated (ap (λ x. x.verb) says ∙ verb) })
 
+pub returns-in-Ok-clause-gen_determinate : goal.returns-in-Ok-clause-gen_determinate
+returns-in-Ok-clause-gen_determinate g c = λ j is verb.
+    let says : job_text c.in-Ok.job ≡ j = same_job (job_text c.in-Ok.job) j (job (texts c.args.words.now)) c.in-Ok.ensures.read is in
+    inl (record { read = c.in-Ok.job; says = says; holds = c.do_job.ensures.gen_determinate (ap (λ x. x.verb) says ∙ verb) })
+
 pub returns-in-Ok-clause-gen_complete : goal.returns-in-Ok-clause-gen_complete
 returns-in-Ok-clause-gen_complete g c = λ j instances net is verb number conform.
     let says : job_text c.in-Ok.job ≡ j = same_job (job_text c.in-Ok.job) j (job (texts c.args.words.now)) c.in-Ok.ensures.read is in

@@ -1,4 +1,4 @@
-use Rattle.rvc_top.proofs.Said.{certify_no_usage, certify_said, check_no_usage, check_said, gen_no_usage, gen_said, replay_no_usage, replay_said, run_no_usage, run_said, run_tells}
+use Rattle.rvc_top.proofs.Said.{certify_no_usage, certify_said, check_no_usage, check_said, gen_no_usage, gen_said, gen_tells, replay_no_usage, replay_said, run_no_usage, run_said, run_tells}
 use Rattle.rvc_top.proofs.verbs.do_job.Goals as goal
 
 pub returns-in-Run-clause-determinate : goal.returns-in-Run-clause-determinate
@@ -70,6 +70,13 @@ returns-in-Gen-clause-generated g c = λ is. c.gen_job.ensures.answered
     (record { old = g.L.Library.misses c.args.library.now; new = g.L.Library.misses c.args.library.now })
     (record { old = g.L.Library.faults c.args.library.now; new = g.L.Library.faults c.args.library.now })
     (g.F.Feeds.feeds c.args.feeds.now)
+
+pub returns-in-Gen-clause-gen_determinate : goal.returns-in-Gen-clause-gen_determinate
+returns-in-Gen-clause-gen_determinate g c = λ is. gen_tells _ c.runs_tell_quiet_runs.ensures c.gen_job.result (c.gen_job.ensures.answered
+    (g.L.Library.file c.args.library.now)
+    (record { old = g.L.Library.misses c.args.library.now; new = g.L.Library.misses c.args.library.now })
+    (record { old = g.L.Library.faults c.args.library.now; new = g.L.Library.faults c.args.library.now })
+    (g.F.Feeds.feeds c.args.feeds.now))
 
 pub returns-in-Gen-clause-gen_complete : goal.returns-in-Gen-clause-gen_complete
 returns-in-Gen-clause-gen_complete g c = λ instances net is number conform. c.gen_job.ensures.complete
