@@ -127,9 +127,13 @@ fn read_whole<F: Read + Drop>(file: F, out: &mut Vec<u8>) -> ReadAnswer
     }
 }
 
-/// There is no such file: nothing has the name, or something on its path is no folder.
+/// There is no such file: nothing has the name, something on its path is no folder, or no file can have the name, as one
+/// that is too long.
 fn is_lacking(error: &Error) -> bool {
-    matches!(error.kind(), ErrorKind::NotFound | ErrorKind::NotADirectory)
+    matches!(
+        error.kind(),
+        ErrorKind::NotFound | ErrorKind::NotADirectory | ErrorKind::InvalidFilename
+    )
 }
 
 /// Whether a path leads out of the folder.
