@@ -1,5 +1,5 @@
-//! Rows of the outside: files, feeds and drains in memory, the tokens of port files, and the lines of a trace, over the
-//! public calls of `rvc_io`, `port_files` and `trace_text`.
+//! Rows of the outside: files, feeds and drains in memory, and the tokens of port files, over the public calls of `rvc_io`
+//! and `port_files`.
 //!
 //! Tests that stand beside a crate make it be proved twice.
 #![tactic(auto)]
@@ -8,7 +8,3 @@
 mod memory;
 #[cfg(test)]
 mod tokens;
-#[cfg(test)]
-mod traces;
-#[cfg(test)]
-mod written;
