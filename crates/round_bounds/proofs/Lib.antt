@@ -1,0 +1,2 @@
+pub mod FewRounds
+pub mod FewGrowths
