@@ -1,2 +1,3 @@
 pub mod FewRounds
 pub mod FewGrowths
+pub mod AllGrowths

@@ -1,6 +1,6 @@
 -- How many rounds a run has, and how often a link grows, as statements.
 -- Trusted: part of what a promise means.
-use Rattle.std.specs.Prelude.{ℕ, suc, ◌+◌, ◌*◌, ◌≤◌, ◌==◌, List, [], ◌∷◌, length, if◌then◌else◌}
+use Rattle.std.specs.Prelude.{ℕ, suc, ◌+◌, ◌*◌, ◌≤◌, ◌<◌, ◌==◌, List, [], ◌∷◌, length, if◌then◌else◌}
 use Rattle.trace_text.specs.declared.line.Line.{Line}
 use Rattle.trace_text.specs.declared.line.Line.TheVariants.{Header, Inst, Fire, Deliver, Grow, Quiet, Trap, Stall, Budget}
 use Rattle.net_model.specs.Network.{Network}
@@ -61,3 +61,15 @@ GrowthsAreFew X =
     (net : Network X) (grow : ℕ) (s : State X) (lines : List Line) (last : State X) (l : ℕ)
     → PlaysFrom net grow s lines last → grow ≤ max_grow → 1 ≤ capacity_at s l
     → growths_of l lines ≤ 20
+
+-- each link of the network can hold a token
+abbrev pub HoldTokens : {X : Type 0} → Network X → State X → Type 0
+HoldTokens net s = (l : ℕ) → l < length net.links → 1 ≤ capacity_at s l
+
+-- so if each link can hold a token at first, and may grow to 2^20 or less, paced lines have at most
+-- two rounds for each firing, 20 for each link, and two more
+abbrev pub FiringsBoundRounds : (X : Type 0) → Type 0
+FiringsBoundRounds X =
+    (net : Network X) (pace : Pace) (s : State X) (lines : List Line) (last : State X)
+    → IsPaced net pace s lines last → pace.grow ≤ max_grow → HoldTokens net s
+    → deliveries_in lines ≤ 2 * length (firings_shown lines) + 20 * length net.links + 2

@@ -2,7 +2,7 @@
 //!
 //! Each law is the contract of a function that does nothing: it is proved with the crate, and can be cited.
 
-ghost use Rattle.round_bounds.specs.Bounds.{BegunRoundsAreFew, GrowthsAreFew, PacedRoundsAreFew};
+ghost use Rattle.round_bounds.specs.Bounds.{BegunRoundsAreFew, FiringsBoundRounds, GrowthsAreFew, PacedRoundsAreFew};
 
 use net_model::Meaning;
 
@@ -17,4 +17,10 @@ pub fn rounds_are_few<M: Meaning>()
 /// each growth doubles its capacity, or brings it to the limit.
 pub fn links_grow_few_times<M: Meaning>()
     ensures { GrowthsAreFew M.State }
+{}
+
+/// So firings bound the rounds of a run: if each link can hold a token, and may grow to 1,048,576 or less, there are
+/// at most two for each firing, 20 for each link, and two more.
+pub fn firings_bound_rounds<M: Meaning>()
+    ensures { FiringsBoundRounds M.State }
 {}
