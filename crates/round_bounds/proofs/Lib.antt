@@ -1,0 +1,3 @@
+pub mod FewRounds
+pub mod FewGrowths
+pub mod AllGrowths
