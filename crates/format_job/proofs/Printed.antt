@@ -16,12 +16,12 @@ use Rattle.cal_lexer.specs.Lexeme.{Placed}
 use Rattle.cal_lexer.specs.Lexes as lexis
 use Rattle.cal_grammar.specs.Refusals as grammar
 use Rattle.actor_files.specs.FileText.{IsFile, IsRightly, IsText, in_grammar, in_lexis}
-use Rattle.rvc_words.specs.Words.{PortText, port_text}
+use Rattle.rvc_words.specs.Words.{JobText, PortText, port_text}
 use Rattle.rvc_words.specs.declared.job.PortWord.{PortWord}
 use Rattle.port_words.specs.Matching.{IsWrong}
 use Rattle.rvc_base.specs.Rules.{unknown_port}
-use Rattle.format_job.specs.Formatting.{HasFile, IsDoneOrMemory, IsPreparing, IsPrinting, IsUnprinted, IsUnread, breaks_rules, lacks, passes}
-use Rattle.format_job.specs.Reports.{IsReported, Reports}
+use Rattle.format_job.specs.Formatting.{HasFile, IsCanonical, IsDoneOrMemory, IsPreparing, IsPrinting, IsUnprinted, IsUnread, LibraryMet, PrintsNothing, breaks_rules, lacks, passes}
+use Rattle.format_job.specs.Reports.{IsCutShort, IsReported, Reports, about_file, in_report, in_text}
 use Rattle.run_report.specs.About.{About}
 use Rattle.run_report.specs.Report.{last_line}
 use Rattle.run_report.specs.declared.status.ReadAt.{ReadAt}
@@ -135,6 +135,48 @@ caused lo ln fo fn (Uncertified inst state first second reason) is rose = absurd
 pub faults-reported : (lo ln : ℕ) (said answer : Status) (text : List ℕ) (old new : Channels) → IsPreparing said → ((place : ReadAt) → said ≡ ReadFault place → HasRisen lo ln) → Reports said text old new answer → IsPrinting lo ln old.faults new.faults answer
 faults-reported lo ln said answer text old new is rose (inl done) = subst (IsPrinting lo ln old.faults new.faults) (sym done.0) (caused lo ln old.faults new.faults said is rose)
 faults-reported lo ln said answer text old new is rose (inr failed) = subst (IsPrinting lo ln old.faults new.faults) (sym failed.0) (refl, failed.1.counted)
+
+-- ---- a text that couldn't be put whole
+
+pub cut-text : (met : LibraryMet) (j : JobText) (text : List ℕ) (old new : Channels) (answer : Status) → IsCanonical (met.library j.top) j.ports text → Reports Done text old new answer → answer ≡ WriteFault 0 → IsCutShort met j old new
+cut-text met j text old new answer is (inl done) faulted = absurd (no (sym done.0 ∙ faulted))
+  where
+    no : Done ≡ WriteFault 0 → ⊥
+    no h = cc
+cut-text met j text old new answer is (inr failed) faulted = in_text text is failed.1.front
+
+prints-nothing : {T : Type 0} (met : LibraryMet) (j : JobText) (s : Status) → IsPreparing s
+    → ((refusal : Refusal) → ◌≡◌ {A = Result T Status} (Err s) (Err (Refused refusal)) → IsUnprinted j.ports (met.library j.top) met.misses.old met.misses.new refusal)
+    → ((place : ReadAt) → ◌≡◌ {A = Result T Status} (Err s) (Err (ReadFault place)) → HasRisen met.faults.old met.faults.new)
+    → PrintsNothing met j s
+prints-nothing met j Quiet is refused rose = absurd is
+prints-nothing met j Done is refused rose = absurd is
+prints-nothing met j (Usage cause) is refused rose = absurd is
+prints-nothing met j (ReadFault (File file)) is refused rose = (is, rose (File file) refl)
+prints-nothing met j (ReadFault (Feed feed)) is refused rose = absurd is
+prints-nothing met j (WriteFault channel) is refused rose = absurd is
+prints-nothing met j (Refused refusal) is refused rose = refused refusal refl
+prints-nothing met j (Trapped inst action trap) is refused rose = absurd is
+prints-nothing met j (Stalled inst action link) is refused rose = absurd is
+prints-nothing met j (Budget firings) is refused rose = absurd is
+prints-nothing met j OutOfMemory is refused rose = tt
+prints-nothing met j (NotRun number why) is refused rose = absurd is
+prints-nothing met j (Uncertified inst state first second reason) is refused rose = absurd is
+
+-- .. by a file of this name and words that say these ports
+pub cut-report : {T : Type 0} (met : LibraryMet) (j : JobText) (name : List ℕ) (ports : List PortText) (said answer : Status) (old new : Channels) → name ≡ j.top → ports ≡ j.ports → IsPreparing said
+    → ((refusal : Refusal) → ◌≡◌ {A = Result T Status} (Err said) (Err (Refused refusal)) → IsUnprinted ports (met.library name) met.misses.old met.misses.new refusal)
+    → ((place : ReadAt) → ◌≡◌ {A = Result T Status} (Err said) (Err (ReadFault place)) → HasRisen met.faults.old met.faults.new)
+    → Reports said (last_line (about_file j.top) said) old new answer → answer ≡ WriteFault 0 → IsCutShort met j old new
+cut-report met j name ports said answer old new named worded is refused rose (inl done) faulted = absurd (subst IsPreparing (sym done.0 ∙ faulted) is)
+cut-report met j name ports said answer old new named worded is refused rose (inr failed) faulted =
+    in_report said
+    (prints-nothing met j said is
+    (λ refusal answered.
+        subst (λ ps. IsUnprinted ps (met.library j.top) met.misses.old met.misses.new refusal) worded
+        (subst (λ n. IsUnprinted ports (met.library n) met.misses.old met.misses.new refusal) named (refused refusal answered)))
+    rose)
+    failed.1.front
 
 -- an answer is this refusal, so what is said of it holds
 pub denied : {T : Type 0} (P : Refusal → Type 0) (s : Status) (stated refusal : Refusal) → s ≡ Refused stated → ◌≡◌ {A = Result T Status} (Err s) (Err (Refused refusal)) → P stated → P refusal

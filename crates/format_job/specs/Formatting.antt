@@ -8,10 +8,11 @@ use Rattle.rvc_io.specs.Channels.{Channels}
 use Rattle.rvc_io.specs.Count.{HasRisen}
 use Rattle.rvc_io.specs.Library.{max_file_bytes, IsTooLong}
 use Rattle.rvc_io.specs.Told.{Told, Holding, IsLacking}
-use Rattle.rvc_words.specs.Words.{PortText}
+use Rattle.rvc_words.specs.Words.{JobText, PortText}
 use Rattle.cal_ast.specs.Tree.{Tree}
 use Rattle.cal_print.specs.Canon.{canon}
 use Rattle.actor_files.specs.FileText.{BreaksRules, IsFile, IsText}
+use Rattle.actor_files.specs.Loading.{Counts, Library}
 use Rattle.port_words.specs.Matching.{IsWrongWord}
 use Rattle.run_report.specs.declared.status.ReadAt.TheVariants.{File, Feed}
 use Rattle.run_report.specs.declared.status.Status.{Status}
@@ -63,6 +64,39 @@ pub data IsUnprinted (ports : List PortText) (source : Told) (misses_old misses_
   names_port : (text : List ℕ) (tree : Tree) (refusal : Refusal) → IsText source text
       → IsFile text tree → IsWrongWord [] ports refusal
       → IsUnprinted ports source misses_old misses_new refusal
+
+-- What a call met of its library: what that tells, and how often it missed a file or failed, before the call and after.
+pub record LibraryMet : Type 0 where
+  pub library : Library
+  pub misses : Counts
+  pub faults : Counts
+
+-- .. by what is known of it before and after
+abbrev pub library_met : {L : Type 0} → (file : L → Library) → (misses faults : L → ℕ)
+    → (old new : L) → LibraryMet
+library_met file misses faults old new = record {
+  library = file old;
+  misses = record { old = misses old; new = misses new };
+  faults = record { old = faults old; new = faults new };
+}
+
+-- Why a job prints nothing: its file couldn't be read, which was counted; it is refused; or memory was lacking.
+abbrev pub PrintsNothing : LibraryMet → JobText → Status → Type 0
+PrintsNothing met j status.Quiet = ⊥
+PrintsNothing met j status.Done = ⊥
+PrintsNothing met j (status.Usage cause) = ⊥
+PrintsNothing met j (status.ReadFault (File file)) =
+    (file ≡ 1) × HasRisen met.faults.old met.faults.new
+PrintsNothing met j (status.ReadFault (Feed feed)) = ⊥
+PrintsNothing met j (status.WriteFault channel) = ⊥
+PrintsNothing met j (status.Refused refusal) =
+    IsUnprinted j.ports (met.library j.top) met.misses.old met.misses.new refusal
+PrintsNothing met j (status.Trapped inst action trap) = ⊥
+PrintsNothing met j (status.Stalled inst action link) = ⊥
+PrintsNothing met j (status.Budget firings) = ⊥
+PrintsNothing met j status.OutOfMemory = Unit {0}
+PrintsNothing met j (status.NotRun number why) = ⊥
+PrintsNothing met j (status.Uncertified inst state first second reason) = ⊥
 
 -- the answers of a printing, each fault with the count that rose
 abbrev pub IsPrinting : (file_faults_old file_faults faults_old faults : ℕ) → Status → Type 0

@@ -1,7 +1,10 @@
--- What a report of one line leaves on channel 0.
+-- What a report of one line leaves on channel 0, and what is left there of a text that couldn't be put.
 -- Trusted: part of what a promise means.
 use Rattle.std.specs.Prelude.{◌≡◌, ◌≢◌, ◌⊎◌, ℕ, true, List, [], ◌∷◌, ◌++◌}
 use Rattle.rvc_io.specs.Channels.{Channels}
+use Rattle.channel_writer.specs.Held.{AppendsFront}
+use Rattle.rvc_words.specs.Words.{JobText}
+use Rattle.format_job.specs.Formatting.{IsCanonical, LibraryMet, PrintsNothing}
 use Rattle.run_report.specs.About.{About}
 use Rattle.run_report.specs.Puts.{GetsLess, GetsText}
 use Rattle.run_report.specs.Report.{last_line}
@@ -26,7 +29,7 @@ about_file top = record {
 }
 
 -- Channel 0 got the last line alone. Nothing is said if a verb came to its end, for what it writes then stands with it, nor
--- if the report itself couldn't be written, which is a write fault on channel 0.
+-- if the report itself couldn't be written, which is a write fault on channel 0: then `IsCutShort` says what that got.
 abbrev pub IsReported : About → Status → (held_old held : List ℕ) → Type 0
 IsReported a status.Quiet held_old held = Unit {0}
 IsReported a status.Done held_old held = Unit {0}
@@ -47,3 +50,11 @@ IsReported a (status.Uncertified inst state first second reason) held_old held =
 -- the same by what is known of the channels
 abbrev pub ReportIs : About → Status → (old new : Channels) → Type 0
 ReportIs a status old new = old.tells ≡ true → IsReported a status (old.held 0) (new.held 0)
+
+-- Channel 0 got a prefix of what a job of `fmt` puts there: of the canonical text of its file, or of the last line that says
+-- why there is none.
+pub data IsCutShort (met : LibraryMet) (j : JobText) (old new : Channels) : Type 0 where
+  in_text : (printed : List ℕ) → IsCanonical (met.library j.top) j.ports printed
+      → AppendsFront 0 old new printed → IsCutShort met j old new
+  in_report : (said : Status) → PrintsNothing met j said
+      → AppendsFront 0 old new (last_line (about_file j.top) said) → IsCutShort met j old new

@@ -5,9 +5,9 @@ ghost use Rattle.rvc_io.specs.Channels.{WriteFails, WritesOnly};
 ghost use Rattle.rvc_io.specs.Count.{HasRisen};
 ghost use Rattle.rvc_base.specs.declared.refusal.Refusal.{Refusal as Denial};
 ghost use Rattle.cal_ast.specs.Tree.{Tree};
-ghost use Rattle.rvc_words.specs.Words.{port_text};
-ghost use Rattle.format_job.specs.Formatting.{HasFile, IsDoneOrMemory, IsPrinting, IsUnprinted, PrintsFile};
-ghost use Rattle.format_job.specs.Reports.{ReportIs, about_file};
+ghost use Rattle.rvc_words.specs.Words.{job_text, port_text};
+ghost use Rattle.format_job.specs.Formatting.{HasFile, IsDoneOrMemory, IsPrinting, IsUnprinted, PrintsFile, library_met};
+ghost use Rattle.format_job.specs.Reports.{IsCutShort, ReportIs, about_file};
 
 use crate::printing::canonical_text;
 use crate::reporting::{put_printed, report};
@@ -26,7 +26,8 @@ use std::alloc::Global;
 ///
 /// `Refused`: the file lacks, passes its limit, or breaks a rule of the lexis or the grammar at its place, or its text
 /// spells a file and the first port word is refused (`refused`). `ReadFault` of file 1 and `WriteFault` of channel 0: the
-/// count of faults of what it names rose (`faults`). `OutOfMemory`: an allocation was refused.
+/// count of faults of what it names rose (`faults`). After this `WriteFault` channel 0 got a prefix of the canonical text, or
+/// of the last line that says why there is none (`cut`). `OutOfMemory`: an allocation was refused.
 pub fn format_job<L: Library, D: Drains>(
     alloc: Global,
     job: &Job,
@@ -50,6 +51,9 @@ pub fn format_job<L: Library, D: Drains>(
         (D.channels drains.old).faults (D.channels drains.new).faults result }
     ensures reported { ReportIs (about_file (string_bytes job.now.top)) result
         (D.channels drains.old) (D.channels drains.new) }
+    ensures cut { result ≡ Status.WriteFault 0
+        → IsCutShort (library_met L.file L.misses L.faults library.old library.new)
+        (job_text job.now) (D.channels drains.old) (D.channels drains.new) }
     ensures keeps { WritesOnly D.channels drains.old drains.new 0 }
 {
     match canonical_text(alloc, job.top.as_str(), job.ports.as_slice(), library) {

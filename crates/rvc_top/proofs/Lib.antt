@@ -1,2 +1,3 @@
+mod Printed
 mod Said
 mod SameJob

@@ -19,8 +19,8 @@ ghost use Rattle.network_commands.specs.Commands.{RefusesJob, met_by};
 ghost use Rattle.certify_job.specs.Ends.{Comes as CertifyComes, IsDecided, IsUndecided};
 ghost use Rattle.check_job.specs.Ends.{Comes as CheckComes, IsDoneOrOutside};
 ghost use Rattle.determinate_jobs.specs.QuietRuns.{ComesDeterminate};
-ghost use Rattle.format_job.specs.Formatting.{HasFile, IsDoneOrMemory, IsPrinting, IsUnprinted, PrintsFile};
-ghost use Rattle.format_job.specs.Reports.{ReportIs, about_file};
+ghost use Rattle.format_job.specs.Formatting.{HasFile, IsDoneOrMemory, IsPrinting, IsUnprinted, PrintsFile, library_met};
+ghost use Rattle.format_job.specs.Reports.{IsCutShort, ReportIs, about_file};
 ghost use Rattle.gen_job.specs.Ends.{Comes as GenComes, ComesFor as GenComesFor};
 ghost use Rattle.gen_job.specs.Jobs.{GeneratedConform, instances_of};
 ghost use Rattle.replay_job.specs.Ends.{Comes as ReplayComes, IsJudgedOrOutside, IsNoVerdict};
@@ -70,9 +70,9 @@ use std::thread::Threads;
 ///   refused for what `IsStillRefused` of that crate names (`gen_complete`).
 /// - `formatted`: `fmt` is `Done` only if the file's text spells a tree and no words name ports, and channel 0 got the
 ///   canonical text of that tree alone. A file that is told to hold such a text is `Done`, unless memory runs out, a read
-///   failed or the text couldn't be written (`complete`). The other answers of `fmt` are its report; nothing is opened, and
-///   nothing but channel 0 is written (`format_refused`, `format_faults`, `format_report`, `format_alone`,
-///   `format_opens_no_feed`).
+///   failed or the text couldn't be written (`complete`). The other answers of `fmt` are its report, and if a put failed
+///   channel 0 got a prefix of that or of the canonical text; nothing is opened, and nothing but channel 0 is written
+///   (`format_refused`, `format_faults`, `format_report`, `format_cut`, `format_alone`, `format_opens_no_feed`).
 /// - `planned`: no other answer than `Usage`, `OutOfMemory` and `WriteFault` comes of words that aren't a job.
 /// - `nothing_else` and `nothing_opened`: after `Done`, `NotRun`, `Uncertified`, `Usage`, `Refused`, `OutOfMemory` and a file
 ///   that can't be read, no channel was opened, and nothing but channel 0 was written.
@@ -168,6 +168,10 @@ pub fn rvc<R: Threads + Sync, L: Library, F: Feeds, D: Drains, G: Gate>(
         (D.channels drains.new).faults result }
     ensures format_report { (j : JobText) → job (texts words.now) ≡ Ok j → j.verb ≡ verb.Fmt
         → ReportIs (about_file j.top) result (D.channels drains.old) (D.channels drains.new) }
+    ensures format_cut { (j : JobText) → job (texts words.now) ≡ Ok j → j.verb ≡ verb.Fmt
+        → result ≡ Status.WriteFault 0
+        → IsCutShort (library_met L.file L.misses L.faults library.old library.new) j
+        (D.channels drains.old) (D.channels drains.new) }
     ensures format_alone { (j : JobText) → job (texts words.now) ≡ Ok j → j.verb ≡ verb.Fmt
         → WritesOnly D.channels drains.old drains.new 0 }
     ensures format_opens_no_feed { (j : JobText) → job (texts words.now) ≡ Ok j

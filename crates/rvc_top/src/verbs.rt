@@ -17,8 +17,8 @@ ghost use Rattle.network_commands.specs.Commands.{RefusesJob, command, met_by};
 ghost use Rattle.certify_job.specs.Ends.{Comes as CertifyComes, IsDecided, IsUndecided};
 ghost use Rattle.check_job.specs.Ends.{Comes as CheckComes, IsDoneOrOutside};
 ghost use Rattle.determinate_jobs.specs.QuietRuns.{ComesDeterminate};
-ghost use Rattle.format_job.specs.Formatting.{HasFile, IsDoneOrMemory, IsPrinting, IsUnprinted, PrintsFile};
-ghost use Rattle.format_job.specs.Reports.{ReportIs, about_file};
+ghost use Rattle.format_job.specs.Formatting.{HasFile, IsDoneOrMemory, IsPrinting, IsUnprinted, PrintsFile, library_met};
+ghost use Rattle.format_job.specs.Reports.{IsCutShort, ReportIs, about_file};
 ghost use Rattle.gen_job.specs.Ends.{Comes as GenComes, ComesFor as GenComesFor};
 ghost use Rattle.gen_job.specs.Jobs.{GeneratedConform, instances_of};
 ghost use Rattle.replay_job.specs.Ends.{Comes as ReplayComes, IsJudgedOrOutside, IsNoVerdict};
@@ -132,6 +132,9 @@ pub(crate) fn do_job<R: Threads + Sync, L: Library, F: Feeds, D: Drains, G: Gate
     ensures format_report { job.now.verb ≡ Verb.Fmt
         → ReportIs (about_file (string_bytes job.now.top)) result (D.channels drains.old)
         (D.channels drains.new) }
+    ensures format_cut { job.now.verb ≡ Verb.Fmt → result ≡ Status.WriteFault 0
+        → IsCutShort (library_met L.file L.misses L.faults library.old library.new)
+        (job_text job.now) (D.channels drains.old) (D.channels drains.new) }
     ensures format_alone { job.now.verb ≡ Verb.Fmt → WritesOnly D.channels drains.old drains.new 0 }
     ensures format_opens_no_feed { job.now.verb ≡ Verb.Fmt → feeds.new ≡ feeds.old }
 

@@ -2,12 +2,14 @@ use Rattle.std.proofs.Common.{◌≡◌, inl, sym, ap, subst, ◌∙◌}
 use Rattle.conforming_jobs.specs.Conforming.{Conforms, ConformsWith, names_of_ports, no_ports}
 use Rattle.grown_links.specs.Growth.{GrowTooFar}
 use Rattle.certify_job.specs.Ends.{IsDecided}
-use Rattle.format_job.specs.Formatting.{HasFile}
+use Rattle.format_job.specs.Formatting.{HasFile, library_met}
+use Rattle.format_job.specs.Reports.{IsCutShort}
 use Rattle.gen_job.specs.Jobs.{GeneratedConform, instances_of}
 use Rattle.replay_job.specs.Replays.{ConformsToReplay, RefusesReplay}
 use Rattle.network_commands.specs.Commands.{RefusesJob}
 use Rattle.rvc_engine.specs.Top.{top_asked}
 use Rattle.rvc_words.specs.Words.{job, job_text, texts}
+use Rattle.rvc_top.proofs.Printed.{memory_cut}
 use Rattle.rvc_top.proofs.SameJob.{same_job}
 use Rattle.rvc_top.proofs.top.rvc.Goals as goal
 
@@ -80,6 +82,17 @@ pub returns-in-Ok-clause-complete : goal.returns-in-Ok-clause-complete
 returns-in-Ok-clause-complete g c = λ j tree is verb has quiet kept.
     let says : job_text c.in-Ok.job ≡ j = same_job (job_text c.in-Ok.job) j (job (texts c.args.words.now)) c.in-Ok.ensures.read is in
     c.do_job.ensures.format_complete tree (ap (λ x. x.verb) says ∙ verb) (subst (λ x. HasFile (g.L.Library.file c.args.library.now x.top) x.ports tree) (sym says) has) quiet kept
+
+pub returns-in-Ok-clause-format_cut : goal.returns-in-Ok-clause-format_cut
+returns-in-Ok-clause-format_cut g c = λ j is verb faulted.
+    let says : job_text c.in-Ok.job ≡ j = same_job (job_text c.in-Ok.job) j (job (texts c.args.words.now)) c.in-Ok.ensures.read is in
+    subst (λ x. IsCutShort (library_met g.L.Library.file g.L.Library.misses g.L.Library.faults c.args.library.now c.do_job.new.library) x (g.D.Drains.channels c.args.drains.now) (g.D.Drains.channels c.do_job.new.drains)) says
+    (c.do_job.ensures.format_cut (ap (λ x. x.verb) says ∙ verb) faulted)
+
+pub returns-in-Err-Memory-clause-format_cut : goal.returns-in-Err-Memory-clause-format_cut
+returns-in-Err-Memory-clause-format_cut g c = λ j is verb faulted.
+    memory_cut (library_met g.L.Library.file g.L.Library.misses g.L.Library.faults c.args.library.now c.args.library.now) j
+    (g.D.Drains.channels c.args.drains.now) (g.D.Drains.channels c.report.new.drains) c.report.result c.report.ensures faulted
 
 pub returns-in-Ok-clause-replay : goal.returns-in-Ok-clause-replay
 returns-in-Ok-clause-replay g c = λ j is verb.
