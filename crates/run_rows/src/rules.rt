@@ -168,5 +168,10 @@ fn actions_are_counted(rt: HostRuntime) {
     }
     file.push_str("end").expect(&rt, "a text");
     let row = Row::of_line("rvc check B.cal", file.as_str(), 1000);
-    hold_left(&rt, rt.alloc(), &row, "refused Z2 B.cal 0/ |  | [] | 4 Refused");
+    hold_left(
+        &rt,
+        rt.alloc(),
+        &row,
+        "refused Z2 B.cal 0/ |  | [] | 4 Refused",
+    );
 }

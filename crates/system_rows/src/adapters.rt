@@ -60,7 +60,11 @@ const READS: &[(&str, ReadAnswer, usize)] = &[
     ("rvc_real_library/longer", ReadAnswer::TooLong, 0),
     ("rvc_real_library/none", ReadAnswer::Missing, 0),
     ("rvc_real_library/three/within", ReadAnswer::Missing, 0),
-    ("rvc_real_library/aaaaaaaaaaaaaaaaaaaaaaaaaaaaaaaaaaaaaaaaaaaaaaaaaaaaaaaaaaaaaaaaaaaaaaaaaaaaaaaaaaaaaaaaaaaaaaaaaaaaaaaaaaaaaaaaaaaaaaaaaaaaaaaaaaaaaaaaaaaaaaaaaaaaaaaaaaaaaaaaaaaaaaaaaaaaaaaaaaaaaaaaaaaaaaaaaaaaaaaaaaaaaaaaaaaaaaaaaaaaaaaaaaaaaaaaaaaaaaaaaaaaaaaaaaaa.cal", ReadAnswer::Missing, 0),
+    (
+        "rvc_real_library/aaaaaaaaaaaaaaaaaaaaaaaaaaaaaaaaaaaaaaaaaaaaaaaaaaaaaaaaaaaaaaaaaaaaaaaaaaaaaaaaaaaaaaaaaaaaaaaaaaaaaaaaaaaaaaaaaaaaaaaaaaaaaaaaaaaaaaaaaaaaaaaaaaaaaaaaaaaaaaaaaaaaaaaaaaaaaaaaaaaaaaaaaaaaaaaaaaaaaaaaaaaaaaaaaaaaaaaaaaaaaaaaaaaaaaaaaaaaaaaaaaaaaaaaaaaa.cal",
+        ReadAnswer::Missing,
+        0,
+    ),
     ("rvc_real_library/folder", ReadAnswer::Failed, 0),
     ("rvc_real_library/folder/../three", ReadAnswer::Missing, 0),
     ("/dev/null", ReadAnswer::Missing, 0),
