@@ -1,4 +1,4 @@
-use Rattle.std.proofs.Common.{ap, map, subst, sym}
+use Rattle.std.proofs.Common.{ap, map, rules, subst, sym}
 use Rattle.std.specs.Prelude.{string_bytes}
 use Rattle.rvc_words.specs.Words.{job_text, port_text}
 use Rattle.format_job.specs.Formatting.{HasFile, IsCanonical, library_met}
