@@ -121,8 +121,8 @@ def declaration(name, value):
     return "<Decl kind='Variable' name='%s'>%s%s</Decl>" % (name, INT, value)
 
 
-def network(parts):
-    return "<XDF name='B'>%s</XDF>" % "".join(parts)
+def network(parts, name="B"):
+    return "<XDF name='%s'>%s</XDF>" % (name, "".join(parts))
 
 
 def join(source, source_port, target, target_port):
@@ -186,7 +186,7 @@ def declarations(value):
 def nets(size):
     """A network of networks of 9 instances each."""
     count = size // 10_000
-    files = {"Inc.cal": INC % ("", ""), "N.xdf": network([instance("a%d" % k, "Inc") for k in range(9)])}
+    files = {"Inc.cal": INC % ("", ""), "N.xdf": network([instance("a%d" % k, "Inc") for k in range(9)], "N")}
     files["B.xdf"] = network([instance("n%d" % k, "N") for k in range(count)])
     return files, count
 

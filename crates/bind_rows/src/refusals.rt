@@ -9,7 +9,7 @@ fn texts(rt: HostRuntime) -> Result<(), Fail> {
     hold(&rt, rt.alloc(), Told::Whole, TEXTS)
 }
 
-/// Texts that are no networks.
+/// Texts that are no networks, or not those of their classes.
 const TEXTS: &str = "
 # ..
 = F1 1 22
@@ -26,7 +26,14 @@ net T <?xml version=\"1.0\" encoding=\"latin-1\"?><XDF name=\"T\"></XDF>
 # ..
 = F3 2 14
 net T <XDF name='T'><Instance id='m'><Class name='M'/></Instance></XDF>
-net M <XDF name='M'><Port kind='In' name='x'/></XDF>";
+net M <XDF name='M'><Port kind='In' name='x'/></XDF>
+# another name than that of the class
+= S5 1 0
+net T <XDF name='U'/>
+# .. inside another network
+= S5 2 0
+net T <XDF name='T'><Instance id='m'><Class name='p.M'/></Instance></XDF>
+net p.M <XDF name='N'/>";
 
 #[test]
 fn parameters(rt: HostRuntime) -> Result<(), Fail> {

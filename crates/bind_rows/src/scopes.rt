@@ -25,26 +25,27 @@ fn told(alloc: Global, found: Result<(), ScopeFault>) -> Result<String, AllocErr
     }
 }
 
-fn broken_in(alloc: Global, net: &NetFile, above: &str) -> Result<String, AllocError> {
+fn broken_in(alloc: Global, net: &NetFile, class: &str, above: &str) -> Result<String, AllocError> {
     let classes = classes_of(alloc, above)?;
-    told(alloc, check_scopes(alloc, net, &classes))
+    told(alloc, check_scopes(alloc, net, class, &classes))
 }
 
-/// The rule of scope that a network breaks that stands in networks of these classes, its own among them.
-fn broken(alloc: Global, text: &str, above: &str) -> Result<String, AllocError> {
+/// The rule of scope that the network of a class breaks that stands in networks of these classes, its own among them.
+fn broken(alloc: Global, text: &str, class: &str, above: &str) -> Result<String, AllocError> {
     match read(alloc, 1, text) {
-        Ok(net) => broken_in(alloc, &net, above),
+        Ok(net) => broken_in(alloc, &net, class, above),
         Err(_) => String::from_str(alloc, "no network"),
     }
 }
 
-/// Stops unless the network of a row breaks the rule that is told, which stands in a line `= `. The classes of the networks
-/// round it stand in a line `in `, and its text in a line `net `.
+/// Stops unless the network of a row breaks the rule that is told, which stands in a line `= `. Its class stands in a line
+/// `of `, the classes of the networks round it in a line `in `, and its text in a line `net `.
 fn hold_row(rt: &impl Abort, alloc: Global, row: &str) -> Result<(), Fail> {
     let (_, row) = cut(row, "\n= ");
-    let (expected, parts) = cut(row, "\nin ");
+    let (expected, parts) = cut(row, "\nof ");
+    let (class, parts) = cut(parts, "\nin ");
     let (above, text) = cut(parts, "\nnet ");
-    let found = broken(alloc, text, above)?;
+    let found = broken(alloc, text, class, above)?;
     same(rt, found.as_str(), expected);
     Ok(())
 }
@@ -60,84 +61,129 @@ fn scopes(rt: HostRuntime) -> Result<(), Fail> {
 }
 
 const SCOPES: &str = "
+# the name of a class in packages
+= fine
+of p.q.T
+in p.q.T
+net <XDF name='T'/>
+# another name, and an element behind the file's start
+= S5 at 0
+of U
+in U
+net  <XDF name='T'/>
+# the name of a package
+= S5 at 0
+of p.q.T
+in p.q.T
+net <XDF name='q'/>
+# a part of the name
+= S5 at 0
+of p.ST
+in p.ST
+net <XDF name='T'/>
+# more than the name
+= S5 at 0
+of p.T
+in p.T
+net <XDF name='ST'/>
 # ..
 = fine
+of T
 in T
 net <XDF name='T'></XDF>
 # ..
 = fine
+of T
 in T M
 net <XDF name='T'><Instance id='a'><Class name='A'/></Instance><Instance id='b'><Class name='A'/></Instance></XDF>
 # ..
 = fine
+of T
 in T
 net <XDF name='T'><Decl kind='Param' name='p'><Type name='int'/></Decl><Decl kind='Variable' name='v'><Type name='int'/><Expr kind='Var' name='p'/></Decl><Instance id='a'><Class name='A'/><Parameter name='k'><Expr kind='Var' name='v'/></Parameter></Instance></XDF>
 # ..
 = N3 at 31
+of T
 in A
 net <XDF name='T'><Instance id='a'><Class name='A'/></Instance></XDF>
 # one of those outside
 = N3 at 76
+of T
 in T M
 net <XDF name='T'><Instance id='x'><Class name='X'/></Instance><Instance id='m'><Class name='M'/></Instance></XDF>
 # ..
 = N3 at 76
+of T
 in M T
 net <XDF name='T'><Instance id='x'><Class name='X'/></Instance><Instance id='t'><Class name='T'/></Instance></XDF>
 # its own class is one of those that are told
 = fine
+of T
 in M
 net <XDF name='T'><Instance id='t'><Class name='T'/></Instance></XDF>
 # classes are whole
 = fine
+of T
 in A
 net <XDF name='T'><Instance id='a'><Class name='x.A'/></Instance></XDF>
 # ..
 = N8 at 68
+of T
 in T
 net <XDF name='T'><Port kind='Input' name='a'><Type name='bool'/></Port><Port kind='Output' name='a'><Type name='bool'/></Port></XDF>
 # ..
 = N8 at 125
+of T
 in T
 net <XDF name='T'><Decl kind='Variable' name='a'><Type name='int'/><Expr kind='Literal' literal-kind='Integer' value='1'/></Decl><Decl kind='Param' name='a'><Type name='int'/></Decl></XDF>
 # ..
 = N8 at 59
+of T
 in T
 net <XDF name='T'><Instance id='a'><Class name='A'/></Instance><Instance id='a'><Class name='B'/></Instance></XDF>
 # a port, a declaration and an instance of one name
 = fine
+of T
 in T
 net <XDF name='T'><Port kind='Input' name='a'><Type name='bool'/></Port><Decl kind='Variable' name='a'><Type name='int'/><Expr kind='Literal' literal-kind='Integer' value='1'/></Decl><Instance id='a'><Class name='A'/></Instance></XDF>
 # ..
 = S1 at 154
+of T
 in T
 net <XDF name='T'><Decl kind='Variable' name='v'><Type name='int'/><Expr kind='BinOpSeq'><Expr kind='Literal' literal-kind='Integer' value='1'/><Op name='+'/><Expr kind='Var' name='w'/></Expr></Decl></XDF>
 # ..
 = S1 at 81
+of T
 in T
 net <XDF name='T'><Decl kind='Variable' name='v'><Type name='int'/><Expr kind='List'><Expr kind='Var' name='w'/></Expr></Decl></XDF>
 # ..
 = S1 at 91
+of T
 in T
 net <XDF name='T'><Port kind='Input' name='In'><Type name='int'><Entry kind='Expr' name='size'><Expr kind='Var' name='w'/></Entry></Type></Port></XDF>
 # ..
 = S1 at 198
+of T
 in T
 net <XDF name='T'><Port kind='Input' name='In'><Type name='bool'/></Port><Instance id='a'><Class name='A'/></Instance><Connection src='' src-port='In' dst='a' dst-port='In'><Attribute name='bufferSize'><Expr kind='Var' name='w'/></Attribute></Connection></XDF>
 # ..
 = S1 at 103
+of T
 in T
 net <XDF name='T'><Instance id='a'><Class name='A'/><Parameter name='k'><Expr kind='UnaryOp'><Op name='-'/><Expr kind='Var' name='w'/></Expr></Parameter></Instance></XDF>
 # ..
 = S1 at 43
+of T
 in T
 net <XDF name='T'><Port kind='Input' name='In'><Type name='Int'/></Port></XDF>
 # ..
 = S1 at 94
+of T
 in T
 net <XDF name='T'><Decl kind='Variable' name='v'><Type name='List'><Entry kind='Type' name='type'><Type name='nat'/></Entry><Entry kind='Expr' name='size'><Expr kind='Literal' literal-kind='Integer' value='2'/></Entry></Type><Expr kind='Literal' literal-kind='Integer' value='1'/></Decl></XDF>
 # declared later, and types that there are in the language
 = fine
+of T
 in T
 net <XDF name='T'><Decl kind='Variable' name='v'><Type name='float'/><Expr kind='Var' name='w'/></Decl><Decl kind='Variable' name='w'><Type name='half'/><Expr kind='Literal' literal-kind='Integer' value='1'/></Decl></XDF>";
 

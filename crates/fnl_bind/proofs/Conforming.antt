@@ -21,7 +21,7 @@ use Rattle.fnl_read.specs.Net.{Net, Port, a_port, Instance, an_instance, Size, a
 use Rattle.fnl_tree.specs.Tree.{Inner, InnerNet, InnerLeaf, Own}
 use Rattle.fnl_tree.specs.Sound.{AreDistinct, IsNetSound, IsSound, max_buffer_size}
 use Rattle.fnl_bind.specs.Library.{Entry, network_of, is_among, ports_of, instance_id, instance_class, instance_at}
-use Rattle.fnl_bind.specs.Scopes.{keyed_ports, keyed_instances, named_twice, keyed_decls, ports_broken, unknown_names, circles, scope_broken}
+use Rattle.fnl_bind.specs.Scopes.{name_broken, keyed_ports, keyed_instances, named_twice, keyed_decls, ports_broken, unknown_names, circles, scope_broken}
 use Rattle.fnl_bind.specs.Values.{end_judged, ends_judged, ends_of, or_no, size_of_value, size_given, size_of_kind, size_judged, sizes_judged, largest, wire_of, wires_of, max_size_asked}
 use Rattle.fnl_bind.specs.Networks.{Place, StandsNet, standing_as, standing, own_found, found_behind, net_under, leaf_under, net_with, names_at}
 use Rattle.fnl_bind.specs.Values as values
@@ -174,15 +174,16 @@ instance_keys (an_instance id class class_at parameters at ∷ is) = ap (λ ns. 
 few_of : (input : Bool) (net : Net) → unless (nat_le (length (ports_of input net.ports)) max_ports) too_many_ports net.at ≡ [] → length (ports_of input net.ports) ≤ max_ports
 few_of input net h = leb-true (length (ports_of input net.ports)) max_ports (unless_fine (nat_le (length (ports_of input net.ports)) max_ports) too_many_ports net.at h)
 
-scoped : (net : Net) (above : List (List ℕ)) → scope_broken net above ≡ [] → IsScoped net above
-scoped net above h =
-    let a = none_then (named_twice (keyed_ports net.ports)) _ h in
+scoped : (net : Net) (class : List ℕ) (above : List (List ℕ)) → scope_broken net class above ≡ [] → IsScoped net above
+scoped net class above h =
+    let named = none_then (name_broken net class) _ h in
+    let a = none_then (named_twice (keyed_ports net.ports)) _ named in
     let b = none_then (named_twice (keyed_decls net.decls)) _ a in
     let c = none_then (named_twice (keyed_instances net.instances)) _ b in
     let d = none_first (ports_broken net) _ c in
     let e = none_then (ports_broken net) _ c in
     record {
-      ports = subst AreTold (port_keys net.ports) (told_once network_name_twice (keyed_ports net.ports) (none_first (named_twice (keyed_ports net.ports)) _ h));
+      ports = subst AreTold (port_keys net.ports) (told_once network_name_twice (keyed_ports net.ports) (none_first (named_twice (keyed_ports net.ports)) _ named));
       instances = subst AreTold (instance_keys net.instances) (told_once network_name_twice (keyed_instances net.instances) (none_first (named_twice (keyed_instances net.instances)) _ b));
       few_ins = few_of true net (none_first (unless (nat_le (length (ports_of true net.ports)) max_ports) too_many_ports net.at) _ d);
       few_outs = few_of false net (none_then (unless (nat_le (length (ports_of true net.ports)) max_ports) too_many_ports net.at) _ d);
@@ -190,7 +191,7 @@ scoped net above h =
     }
 
 own_scoped : (p : Place) → own_found p ≡ [] → IsScoped p.entry.net p.above
-own_scoped p h = scoped p.entry.net p.above (go (scope_broken p.entry.net p.above) h)
+own_scoped p h = scoped p.entry.net p.entry.class p.above (go (scope_broken p.entry.net p.entry.class p.above) h)
   where
     go : (vs : List Violation) → found_behind vs p ≡ [] → vs ≡ []
     go [] h = refl

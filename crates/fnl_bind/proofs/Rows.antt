@@ -12,7 +12,7 @@ use Rattle.cal_model.specs.Value.{Num}
 use Rattle.cal_check.specs.Variables.{Found}
 use Rattle.fnl_read.specs.Net.{Net, Port, a_port, Decl, a_decl, Parameter, a_parameter, Instance, an_instance, Size, a_size, Connection, a_connection}
 use Rattle.cal_check.specs.Violations.{violation}
-use Rattle.fnl_bind.specs.Scopes.{ports_broken}
+use Rattle.fnl_bind.specs.Scopes.{last_component, ports_broken}
 use Rattle.rvc_base.specs.declared.refusal.Place.{Place as FilePlace}
 use Rattle.fnl_tree.specs.Tree.{Inner, InnerNet, InnerLeaf, Part, Net as BoundNet, Leaf}
 use Rattle.fnl_bind.specs.Library.{Entry}
@@ -73,8 +73,9 @@ net ports decls instances connections = record {
   at = 3;
 }
 
+-- a network that has the name of its class
 abbrev entry : List ℕ → ℕ → Net → Entry
-entry class file n = record { class = class; file = file; net = n }
+entry class file n = record { class = class; file = file; net = record n { name = class } }
 
 -- a library with one network
 abbrev alone : Net → List Entry
@@ -96,6 +97,26 @@ abbrev decls : List Decl → Net
 decls ds = net [] ds [] []
 
 -- ---- names
+
+in_packages : last_component (codes "p.q.M") ≡ codes "M"
+in_packages = refl
+
+in_no_package : last_component (codes "M") ≡ codes "M"
+in_no_package = refl
+
+abbrev named_t : List ℕ → ℕ → List Instance → Entry
+named_t class file instances = record { class = class; file = file; net = net [] [] instances [] }
+
+its_last_component : violations (named_t (codes "p.q.T") 1 [] ∷ []) (codes "p.q.T") ≡ []
+its_last_component = refl
+
+another_name : violations (named_t (codes "U") 1 [] ∷ []) (codes "U") ≡ found rules.not_as_asked 0 ∷ []
+another_name = refl
+
+-- the same for a network within another one
+another_name_inside : violations (named_t (codes "T") 1 (instance (codes "m") (codes "p.M") [] 10 ∷ []) ∷ named_t (codes "p.M") 2 [] ∷ []) (codes "T")
+    ≡ found_in 2 rules.not_as_asked 0 ∷ []
+another_name_inside = refl
 
 -- a network inside itself
 self_is_a_circle : violations (entry (codes "Self") 1 (net [] [] (an_instance (codes "a") (codes "Self") 34 [] 17 ∷ []) []) ∷ []) (codes "Self") ≡ found rules.network_cycle 34 ∷ []

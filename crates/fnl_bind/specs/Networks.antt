@@ -55,7 +55,7 @@ found_behind (v ∷ vs) p = found_in p.entry.file (v ∷ vs)
 
 -- Its values are judged if it breaks none of the rules of scope.
 abbrev pub own_found : Place → List Found
-own_found p = found_behind (scope_broken p.entry.net p.above) p
+own_found p = found_behind (scope_broken p.entry.net p.entry.class p.above) p
 
 -- ---- what stands in it
 

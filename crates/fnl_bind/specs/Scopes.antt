@@ -1,9 +1,10 @@
--- The rules that a network breaks whatever its values are: names that stand twice, names that are unknown, too many
--- ports, and networks inside themselves (ISO/IEC 23001-4, FNL).
+-- The rules that a network breaks whatever its values are: a name that isn't that of its class, names that stand twice,
+-- names that are unknown, too many ports, and networks inside themselves (ISO/IEC 23001-4, FNL).
 -- Trusted: part of what a promise means.
-use Rattle.std.specs.Prelude.{ℕ, List, [], ◌∷◌, ◌++◌, length, true, false, nat_le, if◌then◌else◌}
+use Rattle.std.specs.Prelude.{ℕ, List, [], ◌∷◌, ◌++◌, ◌==◌, length, true, false, nat_le, if◌then◌else◌}
+use Rattle.std.specs.List.{after_last}
 use Rattle.std.specs.Str.{bytes_eq}
-use Rattle.rvc_base.specs.Rules.{unknown_name, too_many_ports, network_cycle, network_name_twice}
+use Rattle.rvc_base.specs.Rules.{not_as_asked, unknown_name, too_many_ports, network_cycle, network_name_twice}
 use Rattle.cal_ast.specs.Tree as tree
 use Rattle.cal_ast.specs.Tree.{Tree}
 use Rattle.cal_model.specs.Kinding.{is_word}
@@ -11,6 +12,19 @@ use Rattle.cal_model.specs.Sound.{max_ports}
 use Rattle.cal_check.specs.Violations.{Violation, violation, unless, Keyed, twice}
 use Rattle.fnl_read.specs.Net.{Net, Port, a_port, Decl, a_decl, Parameter, a_parameter, Instance, an_instance, Size, a_size, Connection, a_connection}
 use Rattle.fnl_bind.specs.Library.{is_among, ports_of, decl_names, instance_class, instance_class_at}
+
+-- ---- its own name
+
+abbrev pub dot : ℕ
+dot = 46
+
+-- what stands behind the last dot of a class, or all of it if it has none
+abbrev pub last_component : List ℕ → List ℕ
+last_component class = after_last (λ b. b == dot) class
+
+-- the network in the file of a class has the name with which the class ends; if not, the file's start is named
+abbrev pub name_broken : Net → (class : List ℕ) → List Violation
+name_broken net class = unless (bytes_eq (last_component class) net.name) not_as_asked 0
 
 -- ---- names that stand twice
 
@@ -103,9 +117,10 @@ ports_broken net =
     unless (nat_le (length (ports_of true net.ports)) max_ports) too_many_ports net.at
     ++ unless (nat_le (length (ports_of false net.ports)) max_ports) too_many_ports net.at
 
--- a network that stands in networks of these classes, its own among them
-abbrev pub scope_broken : Net → List (List ℕ) → List Violation
-scope_broken net above =
-    named_twice (keyed_ports net.ports) ++ (named_twice (keyed_decls net.decls)
+-- the network of a class that stands in networks of these classes, its own among them
+abbrev pub scope_broken : Net → (class : List ℕ) → (above : List (List ℕ)) → List Violation
+scope_broken net class above =
+    name_broken net class
+    ++ (named_twice (keyed_ports net.ports) ++ (named_twice (keyed_decls net.decls)
     ++ (named_twice (keyed_instances net.instances)
-    ++ (ports_broken net ++ (unknown_names net ++ circles net.instances above))))
+    ++ (ports_broken net ++ (unknown_names net ++ circles net.instances above)))))

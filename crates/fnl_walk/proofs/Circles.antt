@@ -13,7 +13,7 @@ use Rattle.cal_check.specs.Variables.{found_in}
 use Rattle.fnl_read.specs.Net.{Net, Instance}
 use Rattle.fnl_bind.specs.Library.{is_among, instance_class, instance_class_at}
 use Rattle.fnl_bind.specs.Networks.{Place, found_behind, own_found, values_found}
-use Rattle.fnl_bind.specs.Scopes.{circles, keyed_decls, keyed_instances, keyed_ports, named_twice, ports_broken, scope_broken, unknown_names}
+use Rattle.fnl_bind.specs.Scopes.{circles, keyed_decls, keyed_instances, keyed_ports, name_broken, named_twice, ports_broken, scope_broken, unknown_names}
 use Rattle.given_values.specs.Causes.{IsCause}
 use Rattle.fnl_values.specs.Visiting.{Visit, AreVisits}
 
@@ -57,9 +57,9 @@ circles_reversed (i ∷ is) above =
     ap (λ b. (if b then violation network_cycle (instance_class_at i) else []) ++ circles is (reverse above)) (among_reversed (instance_class i) above)
     ∙ ap (λ vs. (if is_among (instance_class i) above then violation network_cycle (instance_class_at i) else []) ++ vs) (circles_reversed is above)
 
-pub scope_reversed : (net : Net) (above : List (List ℕ)) → scope_broken net (reverse above) ≡ scope_broken net above
-scope_reversed net above =
-    ap (λ vs. named_twice (keyed_ports net.ports) ++ (named_twice (keyed_decls net.decls) ++ (named_twice (keyed_instances net.instances) ++ (ports_broken net ++ (unknown_names net ++ vs)))))
+pub scope_reversed : (net : Net) (class : List ℕ) (above : List (List ℕ)) → scope_broken net class (reverse above) ≡ scope_broken net class above
+scope_reversed net class above =
+    ap (λ vs. name_broken net class ++ (named_twice (keyed_ports net.ports) ++ (named_twice (keyed_decls net.decls) ++ (named_twice (keyed_instances net.instances) ++ (ports_broken net ++ (unknown_names net ++ vs))))))
     (circles_reversed net.instances above)
 
 -- ---- none of them
@@ -72,13 +72,14 @@ none_first : {A : Type 0} (xs ys : List A) → xs ++ ys ≡ [] → xs ≡ []
 none_first [] ys h = refl
 none_first (x ∷ xs) ys h = absurd (cc)
 
-no_circles : (net : Net) (above : List (List ℕ)) → scope_broken net above ≡ [] → circles net.instances above ≡ []
-no_circles net above h =
+no_circles : (net : Net) (class : List ℕ) (above : List (List ℕ)) → scope_broken net class above ≡ [] → circles net.instances above ≡ []
+no_circles net class above h =
     none_then (unknown_names net) (circles net.instances above)
     (none_then (ports_broken net) (unknown_names net ++ circles net.instances above)
     (none_then (named_twice (keyed_instances net.instances)) (ports_broken net ++ (unknown_names net ++ circles net.instances above))
     (none_then (named_twice (keyed_decls net.decls)) (named_twice (keyed_instances net.instances) ++ (ports_broken net ++ (unknown_names net ++ circles net.instances above)))
-    (none_then (named_twice (keyed_ports net.ports)) (named_twice (keyed_decls net.decls) ++ (named_twice (keyed_instances net.instances) ++ (ports_broken net ++ (unknown_names net ++ circles net.instances above)))) h))))
+    (none_then (named_twice (keyed_ports net.ports)) (named_twice (keyed_decls net.decls) ++ (named_twice (keyed_instances net.instances) ++ (ports_broken net ++ (unknown_names net ++ circles net.instances above))))
+    (none_then (name_broken net class) (named_twice (keyed_ports net.ports) ++ (named_twice (keyed_decls net.decls) ++ (named_twice (keyed_instances net.instances) ++ (ports_broken net ++ (unknown_names net ++ circles net.instances above))))) h)))))
 
 free : (b : Bool) (at : ℕ) → (if b then violation network_cycle at else []) ≡ [] → b ≡ false
 free true at h = absurd (cc)
@@ -95,19 +96,19 @@ frees file names (i ∷ is) (v ∷ vs) above a h =
       frees file names is vs above a.2 (none_then (if is_among (instance_class i) above then violation network_cycle (instance_class_at i) else []) (circles is above) h),
     )
 
-pub visits_free : (p : Place) (names : Names) (vs : List Visit) → scope_broken p.entry.net p.above ≡ [] → AreVisits p.entry.file names p.entry.net.instances vs
+pub visits_free : (p : Place) (names : Names) (vs : List Visit) → scope_broken p.entry.net p.entry.class p.above ≡ [] → AreVisits p.entry.file names p.entry.net.instances vs
     → Each (λ v. is_among (instance_class v.instance) p.above ≡ false) vs
-visits_free p names vs h a = frees p.entry.file names p.entry.net.instances vs p.above a (no_circles p.entry.net p.above h)
+visits_free p names vs h a = frees p.entry.file names p.entry.net.instances vs p.above a (no_circles p.entry.net p.entry.class p.above h)
 
 -- ---- what a network breaks itself
 
-pub conforms : (p : Place) → scope_broken p.entry.net p.above ≡ [] → values_found p ≡ [] → own_found p ≡ []
+pub conforms : (p : Place) → scope_broken p.entry.net p.entry.class p.above ≡ [] → values_found p ≡ [] → own_found p ≡ []
 conforms p h k = ap (λ vs. found_behind vs p) h ∙ k
 
-pub values_cause : (p : Place) (f : Front) → scope_broken p.entry.net p.above ≡ [] → IsCause f (values_found p) → IsCause f (own_found p)
+pub values_cause : (p : Place) (f : Front) → scope_broken p.entry.net p.entry.class p.above ≡ [] → IsCause f (values_found p) → IsCause f (own_found p)
 values_cause p f h c = subst (λ vs. IsCause f (found_behind vs p)) (sym h) c
 
-pub scope_cause : (p : Place) (vs : List Violation) (f : Front) → vs ≡ scope_broken p.entry.net p.above → IsCause f (found_in p.entry.file vs) → IsCause f (own_found p)
+pub scope_cause : (p : Place) (vs : List Violation) (f : Front) → vs ≡ scope_broken p.entry.net p.entry.class p.above → IsCause f (found_in p.entry.file vs) → IsCause f (own_found p)
 scope_cause p vs f e c = subst (λ ws. IsCause f (found_behind ws p)) e (go vs c)
   where
     none : (g : Front) → IsCause g [] → IsCause g (found_behind [] p)

@@ -36,7 +36,7 @@ bare_is p v h =
     ∙ ap (λ es. record { file = p.entry.file; path = p.path; ins = (net_with p []).ins; outs = es; parts = []; wires = map wire_of v.wires.items }) h.outs
     ∙ ap (λ ws. record { file = p.entry.file; path = p.path; ins = (net_with p []).ins; outs = (net_with p []).outs; parts = []; wires = ws }) h.wires
 
-pub opens_so : (levels : ℕ) (p : Place) (class : List ℕ) (old new : Walk) (v : NetValues) → p.above ≡ class ∷ old.above → scope_broken p.entry.net p.above ≡ []
+pub opens_so : (levels : ℕ) (p : Place) (class : List ℕ) (old new : Walk) (v : NetValues) → p.above ≡ class ∷ old.above → scope_broken p.entry.net p.entry.class p.above ≡ []
     → values_found (alone p.entry.file p.entry.net p.given p.owner) ≡ [] → HasParts v p.entry.file p.entry.net (names_at p)
     → new ≡ with_net (opened p.entry.file (length old.grown.nets) p.path levels (map visit_of v.visits.items)) (bare_net p.entry.file p.path v) (with_class class old)
     → Opens levels p old new
@@ -58,5 +58,5 @@ opens_so levels p class old new v above scope values parts is = record {
       }) (bare_is p v parts);
 }
 
-pub values_refused : (p : Place) (f : Front) → scope_broken p.entry.net p.above ≡ [] → IsCause f (values_found (alone p.entry.file p.entry.net p.given p.owner)) → IsCause f (own_found p)
+pub values_refused : (p : Place) (f : Front) → scope_broken p.entry.net p.entry.class p.above ≡ [] → IsCause f (values_found (alone p.entry.file p.entry.net p.given p.owner)) → IsCause f (own_found p)
 values_refused p f scope c = values_cause p f scope (subst (IsCause f) (found_alone p) c)

@@ -34,12 +34,19 @@ pub(crate) struct Standing<'a, 'b> {
     pub levels: usize,
 }
 
-/// Tests the rules of scope in a network of a file that stands in networks of these classes, its own among them.
-fn scopes_hold(alloc: Global, file: u32, net: &NetFile, above: &[String]) -> Result<(), Front>
-    ensures { Finds result
-        (found_in file (scope_broken (net_of net.now) (reverse (map string_bytes above.now)))) }
+/// Tests the rules of scope in the network of a file and a class that stands in networks of these classes, its own among
+/// them.
+fn scopes_hold(
+    alloc: Global,
+    file: u32,
+    net: &NetFile,
+    class: &str,
+    above: &[String],
+) -> Result<(), Front>
+    ensures { Finds result (found_in file
+        (scope_broken (net_of net.now) class.now (reverse (map string_bytes above.now)))) }
 {
-    match check_scopes(alloc, net, above) {
+    match check_scopes(alloc, net, class, above) {
         Ok(()) => Ok(()),
         Err(ScopeFault::Broken { rule, at }) => {
             let place = Place { file, offset: at };
@@ -127,7 +134,7 @@ pub(crate) fn open_net<'a>(walk: &mut Walk<'a>, at: Standing<'a, '_>) -> Result<
     let Ok(()) = add_class(walk, at.class) else {
         return Err(Front::Memory);
     };
-    scopes_hold(alloc, at.source.file, &at.source.net, &walk.above)?;
+    scopes_hold(alloc, at.source.file, &at.source.net, at.class, &walk.above)?;
     let values = evaluate(alloc, at.source.file, &at.source.net, at.given, at.owner)?;
     match add_net(walk, at, values) {
         Ok(()) => Ok(()),

@@ -43,9 +43,10 @@ fn nothing_open<'a>(alloc: Global) -> Walk<'a>
 /// # Errors
 ///
 /// `Refused` with a rule that the networks break and its place (`refused`), which comes if they break any (`bound`): N3
-/// if a network stands in itself, Z7 if there are more than 1,024 instances, S1, N8 and Z3 if names or ports break a
-/// rule of scope, N2 if a parameter is given wrongly or is missed, N9 if a size isn't allowed, and T1, T2, T3, T5, T6,
-/// T7, T8, T9 and Z4 as they say of types and values. `Memory` if memory runs out.
+/// if a network stands in itself, Z7 if there are more than 1,024 instances, S5 if a network's name isn't the last
+/// component of its class, S1, N8 and Z3 if names or ports break a rule of scope, N2 if a parameter is given wrongly or
+/// is missed, N9 if a size isn't allowed, and T1, T2, T3, T5, T6, T7, T8, T9 and Z4 as they say of types and values.
+/// `Memory` if memory runs out.
 pub fn bind(alloc: Global, nets: &NetSet, top: &str) -> Result<Tree, Front>
     requires { is_some (network_of top.now (networks nets.now)) ≡ true }
     ensures bound { IfOk result (IsBound (networks nets.now) top.now) }

@@ -108,6 +108,9 @@ rvc check T.xdf
 # T.xdf <?xml version=\"1.0\" encoding=\"latin1\"?><XDF name=\"T\"/>
 = refused F4 T.xdf 0/ |  | [] | 4 Refused
 rvc check T.xdf
+# T.xdf <XDF name=\"U\"/>
+= refused S5 T.xdf 0/ |  | [] | 4 Refused
+rvc check T.xdf
 # T.xdf <XDF name=\"T\"><Instance id=\"a\"><Class name=\"No\"/></Instance></XDF>
 = refused N1 T.xdf 31/ |  | [] | 4 Refused
 rvc check T.xdf

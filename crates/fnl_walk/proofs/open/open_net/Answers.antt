@@ -18,8 +18,8 @@ returns-in-Ok-add_net c =
     let entered : middle ≡ with_class c.args.at.class.now old = c.in-Ok.ensures in
     let above : c.deref.result.now ≡ c.add_class.new.walk.above.items = search rules in
     let classes : reverse (map string_bytes c.deref.result.now) ≡ c.args.at.class.now ∷ old.above = ap (λ cs. reverse (map string_bytes cs)) above ∙ ap (λ w. w.above) entered in
-    let scope : scope_broken (net_of c.args.at.source.now.net) (c.args.at.class.now ∷ old.above) ≡ [] =
-    ap (scope_broken (net_of c.args.at.source.now.net)) (sym classes) ∙ none_found c.args.at.source.now.file (scope_broken (net_of c.args.at.source.now.net) (reverse (map string_bytes c.deref.result.now))) c.in_ok-scopes_hold.ensures in
+    let scope : scope_broken (net_of c.args.at.source.now.net) c.args.at.class.now (c.args.at.class.now ∷ old.above) ≡ [] =
+    ap (scope_broken (net_of c.args.at.source.now.net) c.args.at.class.now) (sym classes) ∙ none_found c.args.at.source.now.file (scope_broken (net_of c.args.at.source.now.net) c.args.at.class.now (reverse (map string_bytes c.deref.result.now))) c.in_ok-scopes_hold.ensures in
     let values = c.in_ok-values.values in
     let file = c.args.at.source.now.file in
     let path = c.args.at.path.now in
