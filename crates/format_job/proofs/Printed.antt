@@ -173,8 +173,8 @@ cut-report met j name ports said answer old new named worded is refused rose (in
     in_report said
     (prints-nothing met j said is
     (λ refusal answered.
-        subst (λ ps. IsUnprinted ps (met.library j.top) met.misses.old met.misses.new refusal) worded
-        (subst (λ n. IsUnprinted ports (met.library n) met.misses.old met.misses.new refusal) named (refused refusal answered)))
+    subst (λ ps. IsUnprinted ps (met.library j.top) met.misses.old met.misses.new refusal) worded
+    (subst (λ n. IsUnprinted ports (met.library n) met.misses.old met.misses.new refusal) named (refused refusal answered)))
     rose)
     failed.1.front
 

@@ -26,7 +26,7 @@ fn add_over(next: &mut Env, names: &Names, f: DeclaredFun) -> Result<(), Memory>
     requires new { has_fun f.name.now (held next.old).funs ≡ false }
     ensures added { OnOk result ((held next.new).funs ≡ (held next.old).funs
         ++ with_fun (fun_judged f.entry.name.now (function_tree f.entry.decl.now)
-            (names_view names.now)) []) }
+        (names_view names.now)) []) }
     ensures same_names { OnOk result (globals_of next.new ≡ globals_of next.old) }
 {
     types_are_kept();
