@@ -1,5 +1,5 @@
 -- A job that was prepared and started: what its run leaves, or what it leaves if it can't be started.
-use Rattle.std.proofs.Common.{◌≡◌, ◌≢◌, ◌⊎◌, ⊎_elim, ℕ, suc, ◌+◌, ◌-◌, false, List, length, map, refl, sym, ap, subst, ◌∙◌, arith}
+use Rattle.std.proofs.Common.{◌≡◌, ◌≢◌, ◌⊎◌, inl, inr, ⊎_elim, ℕ, suc, ◌+◌, ◌-◌, false, List, length, map, refl, sym, ap, subst, ◌∙◌, arith}
 use Rattle.std.specs.Prelude.{Err, string_bytes}
 use Rattle.std.proofs.lemmas.List.{length-map}
 use Rattle.rvc_base.specs.declared.round_kind.RoundKind.{RoundKind}
@@ -29,7 +29,8 @@ use Rattle.port_words.specs.Matching.{names_of}
 use Rattle.port_words.specs.Opening.{ChannelFails, FeedsAreOpened, channels_of, feeds_of}
 use Rattle.network_job.specs.declared.outcome.JobFault.{JobFault}
 use Rattle.network_job.specs.declared.outcome.JobFault.TheVariants.{Memory, ReadFault, Refused, WriteFault}
-use Rattle.network_job.specs.Answering.{LeavesJob}
+use Rattle.network_job.specs.declared.outcome.Outcome.{Outcome}
+use Rattle.network_job.specs.Answering.{HeadFails, IsUnwritten, LeavesJob, OnUnwritten}
 use Rattle.network_job.specs.Arriving.{ArriveInEach}
 use Rattle.network_job.specs.Files.{AreInputs, OpensOnly, WritesOnly}
 use Rattle.network_job.specs.Leaving.{LeavesRun, Setting, WasBroken, ending_of, pace_of, setting_of}
@@ -167,6 +168,23 @@ module _ {S T : Type 0} (feeds : S → Inputs) (channels : T → Channels) (flat
   unstarted_channels Memory starts = absurd starts
   unstarted_channels (ReadFault feed) starts = same_channels (sym starts.1)
   unstarted_channels (WriteFault channel) starts = ⊎_elim (writes_before all_outs words trace channel (channels old) (channels now)) (head_channels channel) starts.1
+
+  head_fails : (channel : ℕ) → BreaksHead trace all_outs words head (channels old) (channels now) channel → HeadFails (channels_of trace all_outs words) head channel (channels old) (channels now)
+  head_fails channel breaks = record {
+    channel_is = breaks.channel_is;
+    between = breaks.between;
+    are_opened = breaks.are_opened;
+    front = breaks.front;
+    only = breaks.only;
+    counted = breaks.counted;
+  }
+
+  pub unstarted_unwritten : (fault : JobFault) → Starts feeds channels flat words trace feeds_old feeds_new old now head (Err fault)
+      → OnUnwritten {A = Outcome} (Err fault) (IsUnwritten flat.links.items all_ins all_outs words trace head (feeds feeds_old) (feeds feeds_new) (channels old) (channels now))
+  unstarted_unwritten (Refused refusal) starts = tt
+  unstarted_unwritten Memory starts = tt
+  unstarted_unwritten (ReadFault feed) starts = tt
+  unstarted_unwritten (WriteFault channel) starts = record { feeds = starts.0; fails = ⊎_elim (λ fails. inl fails) (λ breaks. inr (head_fails channel breaks)) starts.1 }
 
 -- ---- who works
 

@@ -5,7 +5,7 @@ use Rattle.trace_text.specs.declared.line.Line.TheVariants.{Header, Inst}
 use Rattle.trace_text.specs.Text.{line_feed, line_text}
 use Rattle.net_model.specs.Network.{Leaf, Network}
 use Rattle.net_model.specs.Trace.{head_text, instance_lines}
-use Rattle.network_job.specs.Preparing.{head_named, instance_named, instances_named}
+use Rattle.network_job.specs.Network.{head_named, instance_named, instances_named}
 
 lines_are : {X : Type 0} (k : ℕ) (leaves : List (Leaf X)) → instances_named k (map (λ leaf. leaf.path) leaves) (map (λ leaf. leaf.class) leaves) ≡ instance_lines k leaves
 lines_are k [] = refl

@@ -5,6 +5,7 @@ use Rattle.rvc_base.specs.declared.refusal.Refusal.{Refusal}
 use Rattle.rvc_io.specs.Channels.{Channels, WritesOnlyAt}
 use Rattle.rvc_io.specs.Count.{HasRisen}
 use Rattle.rvc_io.specs.Feeds.{Inputs}
+use Rattle.channel_writer.specs.Held.{AppendsFront}
 use Rattle.rvc_words.specs.Words.{PortText}
 use Rattle.rvc_words.specs.declared.job.Job.{Job}
 use Rattle.fnl_flatten.specs.declared.flat.Flat.{Flat}
@@ -87,11 +88,14 @@ LeavesJob run (Err Memory) feeds channels = Unit {0}
 LeavesJob run (Err (ReadFault feed)) feeds channels = Unit {0}
 LeavesJob run (Err (WriteFault channel)) feeds channels = WasBroken run channels
 
--- All channels were opened, and then what stands before the first event couldn't be written whole to the trace's.
-pub record HeadFails (openings : List Opening) (channel : ℕ) (old new : Channels) : Type 0 where
+-- All channels were opened, and then what stands before the first event couldn't be written whole to the trace's, which got
+-- a prefix of it.
+pub record HeadFails (openings : List Opening) (head : List ℕ) (channel : ℕ) (old new : Channels) :
+    Type 0 where
   pub channel_is : channel ≡ 1
   pub between : Channels
   pub are_opened : ChannelsAreOpened openings old between
+  pub front : AppendsFront 1 between new head
   pub only : WritesOnlyAt 1 between new
   pub counted : HasRisen between.faults new.faults
 
@@ -109,12 +113,12 @@ abbrev pub IsUnread : List Link → (ins : List (List ℕ)) → List PortText �
 IsUnread links ins words old new feed = FeedFails (feeds_of links ins words) feed old new
 
 module _ (links : List Link) (ins outs : List (List ℕ)) (words : List PortText) where
-  -- all feeds were opened, and then a channel couldn't be, or couldn't be written
-  pub record IsUnwritten (trace : List ℕ) (feeds_old feeds_new : Inputs) (old new : Channels)
+  -- all feeds were opened, and then a channel couldn't be, or this head of the trace couldn't be written
+  pub record IsUnwritten (trace head : List ℕ) (feeds_old feeds_new : Inputs) (old new : Channels)
       (channel : ℕ) : Type 0 where
     pub feeds : FeedsAreOpened (feeds_of links ins words) feeds_old feeds_new
     pub fails : ChannelFails (channels_of trace outs words) channel old new
-        ⊎ HeadFails (channels_of trace outs words) channel old new
+        ⊎ HeadFails (channels_of trace outs words) head channel old new
 
   -- A run ends by a feed or a channel only if the count of faults rose, and only by one that it opened.
   abbrev pub EndIsCaused : Inputs → Inputs → Channels → Channels → RunEnd → Type 0

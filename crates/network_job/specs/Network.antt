@@ -1,7 +1,9 @@
 -- The network that a job runs: that of cells, joined as a flat network says.
 -- Trusted: part of what a promise means.
-use Rattle.std.specs.Prelude.{◌≡◌, ℕ, List, length, map, string_bytes}
+use Rattle.std.specs.Prelude.{◌≡◌, ℕ, ◌+◌, List, [], ◌∷◌, ◌++◌, length, map, codes, string_bytes}
 use Rattle.fnl_flatten.specs.declared.flat.Flat.{Flat}
+use Rattle.trace_text.specs.declared.line.Line.TheVariants.{Header, Inst}
+use Rattle.trace_text.specs.Text.{line_feed, line_text}
 use Rattle.net_model.specs.declared.wiring.Wiring.{Wiring}
 use Rattle.net_model.specs.Cell.{Cell}
 use Rattle.net_model.specs.Network.{Network}
@@ -29,6 +31,27 @@ in_names flat = names_of flat.ins.items
 
 abbrev pub out_names : Flat → List (List ℕ)
 out_names flat = names_of flat.outs.items
+
+-- What stands in a trace before its first event, by the paths and classes of the instances: what `head_text` says of any
+-- network that has them.
+
+abbrev pub instance_named : ℕ → List ℕ → List ℕ → List ℕ
+instance_named k path class = line_text (Inst k) ++ path ++ codes " " ++ class ++ line_feed
+
+abbrev pub instances_named : ℕ → List (List ℕ) → List (List ℕ) → List ℕ
+instances_named k [] classes = []
+instances_named k (path ∷ paths) [] = []
+instances_named k (path ∷ paths) (class ∷ classes) =
+    instance_named k path class ++ instances_named (k + 1) paths classes
+
+abbrev pub head_named : (instances links grow : ℕ) → List (List ℕ) → List (List ℕ) → List ℕ
+head_named instances links grow paths classes =
+    line_text (Header instances links grow) ++ instances_named 0 paths classes
+
+-- .. of a flat network that has so many instances, if its links may grow so far
+abbrev pub head_of : Flat → (instances grow : ℕ) → List ℕ
+head_of flat instances grow = head_named instances (length flat.links.items) grow
+    (map string_bytes flat.paths.items) (map string_bytes flat.classes.items)
 
 -- the port words of a job
 abbrev pub words_of : Job → List PortText

@@ -1,14 +1,12 @@
 -- What is made for a job before anything is opened, and how far it has come then.
 -- Not trusted: no promise is read with it.
-use Rattle.std.specs.Prelude.{◌≡◌, ◌⊎◌, ℕ, ◌+◌, List, [], ◌∷◌, ◌++◌, length, map, codes, string_bytes, Result, Ok, Err}
+use Rattle.std.specs.Prelude.{◌≡◌, ◌⊎◌, ℕ, List, length, Result, Ok, Err}
 use Rattle.rvc_base.specs.declared.round_kind.RoundKind.{RoundKind}
 use Rattle.rvc_io.specs.Channels.{Appends, Channels, WritesOnlyAt}
 use Rattle.rvc_io.specs.Count.{HasRisen}
 use Rattle.rvc_io.specs.Feeds.{Inputs}
 use Rattle.channel_writer.specs.Held.{AppendsFront}
 use Rattle.rvc_words.specs.Words.{PortText}
-use Rattle.trace_text.specs.declared.line.Line.TheVariants.{Header, Inst}
-use Rattle.trace_text.specs.Text.{line_feed, line_text}
 use Rattle.net_model.specs.declared.wiring.Counts.{Counts}
 use Rattle.net_model.specs.declared.wiring.Wiring.{Wiring}
 use Rattle.net_model.specs.Cell.{Cell}
@@ -21,22 +19,7 @@ use Rattle.port_words.specs.Matching.{names_of}
 use Rattle.port_words.specs.Opening.{ChannelFails, ChannelsAreOpened, FeedFails, FeedsAreOpened, channels_of, feeds_of}
 use Rattle.network_job.specs.declared.outcome.JobFault.{JobFault}
 use Rattle.network_job.specs.declared.outcome.JobFault.TheVariants.{Refused, Memory, ReadFault, WriteFault}
-use Rattle.network_job.specs.Network.{IsWiringBy}
-
--- What stands in a trace before its first event, by the names of the instances.
-
-abbrev pub instance_named : ℕ → List ℕ → List ℕ → List ℕ
-instance_named k path class = line_text (Inst k) ++ path ++ codes " " ++ class ++ line_feed
-
-abbrev pub instances_named : ℕ → List (List ℕ) → List (List ℕ) → List ℕ
-instances_named k [] classes = []
-instances_named k (path ∷ paths) [] = []
-instances_named k (path ∷ paths) (class ∷ classes) =
-    instance_named k path class ++ instances_named (k + 1) paths classes
-
-abbrev pub head_named : (instances links grow : ℕ) → List (List ℕ) → List (List ℕ) → List ℕ
-head_named instances links grow paths classes =
-    line_text (Header instances links grow) ++ instances_named 0 paths classes
+use Rattle.network_job.specs.Network.{IsWiringBy, head_of}
 
 -- Numbers.
 
@@ -58,9 +41,7 @@ pub record IsPrepared {X : Type 0} (cells : List (Cell X)) (flat : Flat) (words 
   pub wiring : Wiring
   pub is_wiring : IsWiringBy flat words wiring
   pub begins : Begins cells wiring plan kind run
-  pub head_is : head ≡ head_named (length cells) (length flat.links.items) plan.grow
-      (map string_bytes flat.paths.items)
-      (map string_bytes flat.classes.items)
+  pub head_is : head ≡ head_of flat (length cells) plan.grow
   pub places : CountNothing (length flat.links.items) (length flat.outs.items) counts
 
 -- The openings.

@@ -1,7 +1,7 @@
 //! What stands in a trace before its first event.
 
 ghost use Rattle.std.specs.Prelude.{◌≡◌, ◌≤◌, ◌+◌, ◌++◌, ℕ, IfOk, OnOk, length, map, string_bytes};
-ghost use Rattle.network_job.specs.Preparing.{head_named, instance_named, instances_named};
+ghost use Rattle.network_job.specs.Network.{head_of, instance_named, instances_named};
 
 use arrayvec::ArrayVec;
 use fnl_flatten::Flat;
@@ -57,8 +57,7 @@ pub(crate) fn head_of(
 ) -> Result<Vec<u8>, Memory>
     requires few_paths { length flat.now.paths.items ≤ 4294967295 }
     requires few_links { length flat.now.links.items ≤ 4294967295 }
-    ensures { IfOk result (λ head. head.items ≡ head_named instances (length flat.now.links.items)
-        grow (map string_bytes flat.now.paths.items) (map string_bytes flat.now.classes.items)) }
+    ensures { IfOk result (λ head. head.items ≡ head_of flat.now instances grow) }
 {
     let header = Line::Header {
         instances,

@@ -7,7 +7,7 @@ ghost use Rattle.network_job.specs.Answering.{AreAllOpen, EndIsCaused, IfStarted
 ghost use Rattle.network_job.specs.Arriving.{ArriveInEach};
 ghost use Rattle.network_job.specs.Files.{AreInputs, Keeps, OpensOnly, WritesOnly};
 ghost use Rattle.network_job.specs.Leaving.{setting_of};
-ghost use Rattle.network_job.specs.Network.{CanRunAll, IsNetworkOf, in_names, out_names, plan_of, words_of};
+ghost use Rattle.network_job.specs.Network.{CanRunAll, IsNetworkOf, head_of, in_names, out_names, plan_of, words_of};
 
 use crate::numbers::take_over;
 use crate::opening::start;
@@ -63,7 +63,8 @@ fn run_by<R: Threads + Sync, A: Firing + Send, P: Policy, F: Feeds, D: Drains, G
         (words_of job.now) (F.feeds feeds.old) (F.feeds feeds.new) feed
         × (drains.new ≡ drains.old)) }
     ensures unwritten { OnUnwritten result (IsUnwritten flat.now.links.items (in_names flat.now)
-        (out_names flat.now) (words_of job.now) (string_bytes job.now.trace) (F.feeds feeds.old)
+        (out_names flat.now) (words_of job.now) (string_bytes job.now.trace)
+        (head_of flat.now (length cells.items) job.now.grow) (F.feeds feeds.old)
         (F.feeds feeds.new) (D.channels drains.old) (D.channels drains.new)) }
     ensures opened { IfOk result (λ _. AreAllOpen flat.now.links.items (in_names flat.now)
         (out_names flat.now) (words_of job.now) (string_bytes job.now.trace) (F.feeds feeds.new)
@@ -128,8 +129,8 @@ fn run_by<R: Threads + Sync, A: Firing + Send, P: Policy, F: Feeds, D: Drains, G
 /// - `ReadFault` with the number of the first feed that couldn't be opened: the failure was counted, the feeds before it are
 ///   open, and no channel was opened (`unread`).
 /// - `WriteFault` with the number of the first channel that couldn't be opened, or that of the trace's, if what stands
-///   before the first event couldn't be written: the failure was counted, and all feeds and the channels before it are open
-///   (`unwritten`).
+///   before the first event couldn't be written, of which it got a prefix: the failure was counted, and all feeds and the
+///   channels before it are open (`unwritten`).
 #[tactic(auto, using(crate::proofs::Kept::report_kept))]
 pub fn run_network<R: Threads + Sync, A: Firing + Send, F: Feeds, D: Drains, G: Gate>(
     rt: &R,
@@ -166,7 +167,8 @@ pub fn run_network<R: Threads + Sync, A: Firing + Send, F: Feeds, D: Drains, G: 
         (words_of job.now) (F.feeds feeds.old) (F.feeds feeds.new) feed
         × (drains.new ≡ drains.old)) }
     ensures unwritten { OnUnwritten result (IsUnwritten flat.now.links.items (in_names flat.now)
-        (out_names flat.now) (words_of job.now) (string_bytes job.now.trace) (F.feeds feeds.old)
+        (out_names flat.now) (words_of job.now) (string_bytes job.now.trace)
+        (head_of flat.now (length cells.items) job.now.grow) (F.feeds feeds.old)
         (F.feeds feeds.new) (D.channels drains.old) (D.channels drains.new)) }
     ensures opened { IfOk result (λ _. AreAllOpen flat.now.links.items (in_names flat.now)
         (out_names flat.now) (words_of job.now) (string_bytes job.now.trace) (F.feeds feeds.new)

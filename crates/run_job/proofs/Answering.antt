@@ -1,5 +1,5 @@
 -- To what a command comes, by what a run of its image comes to.
-use Rattle.std.proofs.Common.{◌≡◌, ◌⊎◌, inl, inr, ℕ, ◌≤◌, List, ◌∷◌, ◌++◌, length, refl, sym, ap, subst, ◌∙◌, arith, Contains}
+use Rattle.std.proofs.Common.{◌≡◌, ◌⊎◌, inl, inr, ℕ, ◌≤◌, List, ◌∷◌, ◌++◌, length, map, refl, sym, ap, subst, ◌∙◌, arith, Contains}
 use Rattle.std.specs.Prelude.{string_bytes}
 use Rattle.std.specs.Arc.{arc_value}
 use Rattle.std.specs.declared.result.Result.{Result}
@@ -19,6 +19,7 @@ use Rattle.cal_model.specs.Selection.{State as ActorState}
 use Rattle.net_model.specs.declared.wiring.Counts.{Counts}
 use Rattle.net_model.specs.declared.wiring.Link.{Link}
 use Rattle.net_model.specs.Network.{Network}
+use Rattle.net_model.specs.Trace.{head_text}
 use Rattle.actor_files.specs.Loading as loading
 use Rattle.actor_files.specs.Views.{file_names}
 use Rattle.actor_files.specs.declared.names.Names.{Names}
@@ -42,6 +43,7 @@ use Rattle.network_job.specs.Network as asks
 use Rattle.network_job.specs.declared.outcome.JobFault.{JobFault}
 use Rattle.network_job.specs.declared.outcome.JobFault.TheVariants as fault
 use Rattle.network_job.specs.declared.outcome.Outcome.{Outcome}
+use Rattle.network_job.proofs.Named.{head_is}
 use Rattle.network_job.proofs.Numbered.{is_channel}
 use Rattle.run_report.specs.About.{About}
 use Rattle.network_commands.specs.Commands.{AreCertified, AreGiven, Command, HasFiles, IsToRun, OpenedNothing, TouchesOnly, about_net, count_none, port_names, run_over}
@@ -53,17 +55,17 @@ use Rattle.run_job.proofs.Reported.{broken, cut, ended, risen_from, risen_to}
 
 -- ---- channels that fail
 
-is_one_of : (trace : List ℕ) (outs : List (List ℕ)) (words : List PortText) (channel : ℕ) (old new : Channels)
-    → ChannelFails (channels_of trace outs words) channel old new ⊎ HeadFails (channels_of trace outs words) channel old new → IsChannelOf outs words channel
-is_one_of trace outs words channel old new (inl fails) =
+is_one_of : (trace : List ℕ) (outs : List (List ℕ)) (words : List PortText) (head : List ℕ) (channel : ℕ) (old new : Channels)
+    → ChannelFails (channels_of trace outs words) channel old new ⊎ HeadFails (channels_of trace outs words) head channel old new → IsChannelOf outs words channel
+is_one_of trace outs words head channel old new (inl fails) =
     subst (IsChannelOf outs words) fails.number_is
     (is_channel trace outs words fails.failed (subst (λ os. Contains os fails.failed) (sym fails.in_order) (Contains-append_right fails.before (fails.failed ∷ fails.after) fails.failed (0, omega arith, refl))))
-is_one_of trace outs words channel old new (inr head) = inl head.channel_is
+is_one_of trace outs words head channel old new (inr broke) = inl broke.channel_is
 
-is_counted : (trace : List ℕ) (outs : List (List ℕ)) (words : List PortText) (channel : ℕ) (old new : Channels)
-    → ChannelFails (channels_of trace outs words) channel old new ⊎ HeadFails (channels_of trace outs words) channel old new → HasRisen old.faults new.faults
-is_counted trace outs words channel old new (inl fails) = fails.counted
-is_counted trace outs words channel old new (inr head) = risen_from old.faults head.between.faults new.faults head.are_opened.faults_stay head.counted
+is_counted : (trace : List ℕ) (outs : List (List ℕ)) (words : List PortText) (head : List ℕ) (channel : ℕ) (old new : Channels)
+    → ChannelFails (channels_of trace outs words) channel old new ⊎ HeadFails (channels_of trace outs words) head channel old new → HasRisen old.faults new.faults
+is_counted trace outs words head channel old new (inl fails) = fails.counted
+is_counted trace outs words head channel old new (inr broke) = risen_from old.faults broke.between.faults new.faults broke.are_opened.faults_stay broke.counted
 
 -- ---- an image and its command
 
@@ -170,13 +172,23 @@ module _ (job : Job) (library : loading.Library) (misses faults : loading.Counts
       (subst (λ ps. AreAllOpen image.flat.links.items (asks.in_names image.flat) ps (asks.words_of job) (string_bytes job.trace) feeds_new between) (sym outs_are) are)) in
       record { feeds_are = here.feeds_are; channels_are = λ o h. only.same_open o.number ∙ here.channels_are o h }
 
-  unopened : (channel : ℕ) → IsUnwritten image.flat.links.items (asks.in_names image.flat) (asks.out_names image.flat) (asks.words_of job) (string_bytes job.trace) feeds feeds_new old between channel
+  -- what stands before the first event of its trace
+  abbrev head : List ℕ
+  head = asks.head_of image.flat (length image.codes.items) job.grow
+
+  head_same : head ≡ head_text net job.grow
+  head_same = head_is net (length image.codes.items) (length image.flat.links.items) job.grow (map string_bytes image.flat.paths.items) (map string_bytes image.flat.classes.items)
+      (sym (sym (length-map image.codes.items arc_value) ∙ many_leaves image actors net has is)) (ap length links_are) (has.is_net).paths_are (has.is_net).classes_are
+
+  unopened : (channel : ℕ)
+      → IsUnwritten image.flat.links.items (asks.in_names image.flat) (asks.out_names image.flat) (asks.words_of job) (string_bytes job.trace) head feeds feeds_new old between channel
       → ChannelUnopened cmd net channel
   unopened channel is = record {
     between = between;
-    unwritten = subst (λ ls. IsUnwritten ls (port_names net.ins) (port_names net.outs) (asks.words_of job) (string_bytes job.trace) feeds feeds_new old between channel) (sym links_are)
-        (subst (λ ps. IsUnwritten image.flat.links.items ps (port_names net.outs) (asks.words_of job) (string_bytes job.trace) feeds feeds_new old between channel) (sym ins_are)
-        (subst (λ ps. IsUnwritten image.flat.links.items (asks.in_names image.flat) ps (asks.words_of job) (string_bytes job.trace) feeds feeds_new old between channel) (sym outs_are) is));
+    unwritten = subst (λ ls. IsUnwritten ls (port_names net.ins) (port_names net.outs) (asks.words_of job) (string_bytes job.trace) (head_text net job.grow) feeds feeds_new old between channel) (sym links_are)
+        (subst (λ ps. IsUnwritten image.flat.links.items ps (port_names net.outs) (asks.words_of job) (string_bytes job.trace) (head_text net job.grow) feeds feeds_new old between channel) (sym ins_are)
+        (subst (λ ps. IsUnwritten image.flat.links.items (asks.in_names image.flat) ps (asks.words_of job) (string_bytes job.trace) (head_text net job.grow) feeds feeds_new old between channel) (sym outs_are)
+        (subst (λ h. IsUnwritten image.flat.links.items (asks.in_names image.flat) (asks.out_names image.flat) (asks.words_of job) (string_bytes job.trace) h feeds feeds_new old between channel) head_same is)));
     only_report = only;
   }
 
@@ -282,9 +294,9 @@ module _ (job : Job) (library : loading.Library) (misses faults : loading.Counts
       is_to_run = to_run ran.permitted.matched;
       fits = within_growth ran.permitted.fits;
       counted = risen_to old.faults between.faults new.faults
-          (is_counted (string_bytes job.trace) (asks.out_names image.flat) (asks.words_of job) channel old between ran.unwritten.fails) only.faults_stay;
+          (is_counted (string_bytes job.trace) (asks.out_names image.flat) (asks.words_of job) head channel old between ran.unwritten.fails) only.faults_stay;
       is_channel = subst (λ ps. IsChannelOf ps (asks.words_of job) channel) (sym outs_are)
-          (is_one_of (string_bytes job.trace) (asks.out_names image.flat) (asks.words_of job) channel old between ran.unwritten.fails);
+          (is_one_of (string_bytes job.trace) (asks.out_names image.flat) (asks.words_of job) head channel old between ran.unwritten.fails);
       how = inl (unopened channel ran.unwritten);
       leaves = λ inputs given. broken (run_over cmd net inputs) between new only (leaves_of (Err (fault.WriteFault channel)) ran inputs given);
       touches = touched ran.only_feeds ran.others;

@@ -10,6 +10,7 @@ use Rattle.cal_model.specs.Selection.{State}
 use Rattle.cal_model.specs.Sound.{Each, IsSound}
 use Rattle.net_model.specs.declared.wiring.Counts.{Counts}
 use Rattle.net_model.specs.Network.{Network}
+use Rattle.net_model.specs.Trace.{head_text}
 use Rattle.grown_links.specs.Growth.{GrowTooFar, IsGrownTooMuch}
 use Rattle.port_words.specs.Matching.{AreMatched}
 use Rattle.port_words.specs.Opening.{FeedFails, feeds_of}
@@ -93,12 +94,14 @@ pub record WasUnread (cmd : Command) (net : Network State) (feed : ℕ) (about :
   pub how : FeedUnopened cmd net feed ⊎ FeedBroke cmd net feed
   pub about_is : about ≡ about_net cmd is_to_run.files.names net
 
--- A channel couldn't be opened: all feeds were, and the channels before it. Or all were opened, and what stands in the trace
--- before its first event couldn't be written. Then nothing was written but the report.
+-- A channel couldn't be opened: all feeds were, and the channels before it, and nothing was written but the report. Or all
+-- were opened, and what stands in the trace before its first event couldn't be written whole: then the trace's channel got a
+-- prefix of that, and no other was written but that of the report.
 pub record ChannelUnopened (cmd : Command) (net : Network State) (channel : ℕ) : Type 0 where
   pub between : Channels
   pub unwritten : IsUnwritten net.links (port_names net.ins) (port_names net.outs) (words_of cmd)
-      (string_bytes cmd.job.trace) cmd.feeds cmd.feeds_after cmd.channels between channel
+      (string_bytes cmd.job.trace) (head_text net cmd.job.grow) cmd.feeds cmd.feeds_after
+      cmd.channels between channel
   pub only_report : WritesOnlyAt 0 between cmd.channels_after
 
 -- The trace's channel or that of an output couldn't be opened or written, which was counted: each that was opened has a

@@ -111,7 +111,8 @@ pub record CellsRan (image : Image) (job : Job) (feeds feeds_new : Inputs) (old 
       (asks.words_of job) feeds feeds_new feed × (new ≡ old))
   pub unwritten : OnUnwritten came
       (IsUnwritten image.flat.links.items (asks.in_names image.flat) (asks.out_names image.flat)
-      (asks.words_of job) (string_bytes job.trace) feeds feeds_new old new)
+      (asks.words_of job) (string_bytes job.trace)
+      (asks.head_of image.flat (length image.codes.items) job.grow) feeds feeds_new old new)
   pub faults : IfOk came (λ outcome. EndIsCaused image.flat.links.items (asks.in_names image.flat)
       (asks.out_names image.flat) (asks.words_of job) feeds feeds_new old new outcome.end)
   pub report : Keeps 0 old new

@@ -1,6 +1,6 @@
 use Rattle.std.proofs.Common.{◌≡◌, ◌++◌, ◌+◌, ◌≤◌, map, length}
 use Rattle.std.specs.Prelude.{string_bytes}
-use Rattle.network_job.specs.Preparing.{instances_named}
+use Rattle.network_job.specs.Network.{instances_named}
 use Rattle.network_job.proofs.head.push_instances.Given as goal
 
 abbrev pub invariant-instances : goal.invariant-instances

@@ -1,15 +1,15 @@
-use Rattle.std.proofs.Common.{map, string_bytes, subst}
+use Rattle.std.proofs.Common.{◌∙◌, ap, length, map, string_bytes, subst}
 use Rattle.std.proofs.lemmas.List.{length-map}
 use Rattle.std.specs.Prelude.{Err}
 use Rattle.rvc_words.specs.Words.{port_text}
 use Rattle.net_model.specs.declared.wiring.Counts.{Counts}
 use Rattle.port_words.specs.Matching.{names_of}
 use Rattle.network_job.specs.Arriving.{ArriveInEach}
-use Rattle.network_job.specs.Network.{plan_of}
+use Rattle.network_job.specs.Network.{head_of, plan_of}
 use Rattle.network_job.specs.Preparing.{Starts, TakesOver, WritesHead}
 use Rattle.network_job.proofs.Begun.{channels_fit, feeds_fit, is_caused, wrote_faults, writes_all}
 use Rattle.network_job.proofs.Kept.{all_open, opens_all, opens_then}
-use Rattle.network_job.proofs.Finished.{arrives_run, leaves_run, leaves_unstarted, unstarted_channels, unstarted_feeds}
+use Rattle.network_job.proofs.Finished.{arrives_run, leaves_run, leaves_unstarted, unstarted_channels, unstarted_feeds, unstarted_unwritten}
 use Rattle.network_job.proofs.running.run_by.Goals as goal
 
 pub returns-in-Err-start-clause-leaves : goal.returns-in-Err-start-clause-leaves
@@ -29,6 +29,14 @@ pub returns-in-Err-start-clause-other_channels : goal.returns-in-Err-start-claus
 returns-in-Err-start-clause-other_channels g c =
     unstarted_channels g.F.Feeds.feeds g.D.Drains.channels c.args.flat.now (map port_text c.args.job.now.ports.items) (string_bytes c.args.job.now.trace) c.as_slice.result.now
     c.args.feeds.now c.start.new.feeds c.args.drains.now c.start.new.drains c.in-Err-start.fault c.in-Err-start.ensures
+
+pub returns-in-Err-start-clause-unwritten : goal.returns-in-Err-start-clause-unwritten
+returns-in-Err-start-clause-unwritten g c =
+    unstarted_unwritten g.F.Feeds.feeds g.D.Drains.channels c.args.flat.now (map port_text c.args.job.now.ports.items) (string_bytes c.args.job.now.trace)
+    (head_of c.args.flat.now (length c.args.cells.items) c.args.job.now.grow)
+    c.args.feeds.now c.start.new.feeds c.args.drains.now c.start.new.drains c.in-Err-start.fault
+    (subst (λ head. Starts g.F.Feeds.feeds g.D.Drains.channels c.args.flat.now (map port_text c.args.job.now.ports.items) (string_bytes c.args.job.now.trace) c.args.feeds.now c.start.new.feeds c.args.drains.now c.start.new.drains head (Err c.in-Err-start.fault))
+    (c.as_slice.ensures.value ∙ c.in-Ok.ensures.prepared.head_is ∙ ap (λ n. head_of c.args.flat.now n c.args.job.now.grow) (length-map c.args.cells.items g.A.Firing.cell)) c.in-Err-start.ensures)
 
 pub run-end-requires-clause-feeds : goal.run-end-requires-clause-feeds
 run-end-requires-clause-feeds g c κs within =

@@ -1,10 +1,11 @@
-use Rattle.std.proofs.Common.{map, subst}
+use Rattle.std.proofs.Common.{◌≡◌, ◌∙◌, length, map, string_bytes, subst, sym}
+use Rattle.std.proofs.lemmas.List.{length-map}
 use Rattle.std.specs.Arc.{arc_value}
 use Rattle.actor_cell.specs.Core.{seen}
 use Rattle.network_cells.specs.Cells.{AreCellsOf}
 use Rattle.network_cells.specs.Runnable.{CanRunWith}
-use Rattle.network_job.specs.Answering.{IsUnread}
-use Rattle.network_job.specs.Network.{in_names, words_of}
+use Rattle.network_job.specs.Answering.{IsUnread, IsUnwritten, OnUnwritten}
+use Rattle.network_job.specs.Network.{head_of, in_names, out_names, words_of}
 use Rattle.run_job.proofs.Cells.{can_run_all}
 use Rattle.run_job.proofs.Leaving.{source_leaves, when_unstarted, when_unread}
 use Rattle.run_job.proofs.image.run_cells.Goals as goal
@@ -30,6 +31,7 @@ returns g c =
     let are : AreCellsOf (map arc_value image.codes.items) image.flat.links.items job.burst job.grow cells =
     subst (λ links. AreCellsOf (map arc_value image.codes.items) links job.burst job.grow cells) c.as_slice-2.ensures.value
     (subst (λ codes. AreCellsOf (map arc_value codes) c.as_slice-2.result.now job.burst job.grow cells) c.as_slice.ensures.value c.in-Ok.ensures.cells) in
+    let many : length c.in-Ok.cells.items ≡ length image.codes.items = sym (length-map c.in-Ok.cells.items seen) ∙ are.one_each ∙ length-map image.codes.items arc_value in
     record {
       leaves = λ actors net inputs has is given. source_leaves image actors net has is job c.requires.within cells are
           (g.F.Feeds.feeds c.args.feeds.now) (g.F.Feeds.feeds c.run_network.new.feeds) (g.D.Drains.channels c.run_network.new.drains) c.run_network.result inputs c.run_network.ensures.leaves given;
@@ -40,7 +42,8 @@ returns g c =
       unstarted = when_unstarted g.F.Feeds.feeds g.D.Drains.channels c.args.feeds.now c.run_network.new.feeds c.args.drains.now c.run_network.new.drains c.run_network.result c.run_network.ensures.unstarted;
       unread = when_unread g.D.Drains.channels c.args.drains.now c.run_network.new.drains c.run_network.result
           (IsUnread image.flat.links.items (in_names image.flat) (words_of job) (g.F.Feeds.feeds c.args.feeds.now) (g.F.Feeds.feeds c.run_network.new.feeds)) c.run_network.ensures.unread;
-      unwritten = c.run_network.ensures.unwritten;
+      unwritten = subst (λ n. OnUnwritten c.run_network.result (IsUnwritten image.flat.links.items (in_names image.flat) (out_names image.flat) (words_of job) (string_bytes job.trace) (head_of image.flat n job.grow)
+          (g.F.Feeds.feeds c.args.feeds.now) (g.F.Feeds.feeds c.run_network.new.feeds) (g.D.Drains.channels c.args.drains.now) (g.D.Drains.channels c.run_network.new.drains))) many c.run_network.ensures.unwritten;
       faults = c.run_network.ensures.faults;
       report = c.run_network.ensures.report;
       only_feeds = c.run_network.ensures.other_feeds;
