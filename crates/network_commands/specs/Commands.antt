@@ -142,9 +142,10 @@ abbrev pub run_over : Command → Network State → List (List ℕ) → Setting 
 run_over cmd net inputs = setting_of net inputs (start_of net inputs) cmd.job
 
 -- No feed was opened but those of its inputs that have a file; and no channel was opened or written but that of the
--- report, the trace's, and those of its outputs that have a file.
+-- report, the trace's, and those of its outputs that have a file. What channels hold is told after it if it was before.
 pub record TouchesOnly (cmd : Command) (net : Network State) : Type 0 where
   pub feeds : OpensOnly net.links (port_names net.ins) (words_of cmd) cmd.feeds cmd.feeds_after
+  pub same_telling : cmd.channels_after.tells ≡ cmd.channels.tells
   pub same_open : (channel : ℕ) → channel ≢ 0
       → (IsChannelOf (port_names net.outs) (words_of cmd) channel → ⊥)
       → cmd.channels_after.is_open channel ≡ cmd.channels.is_open channel

@@ -156,6 +156,7 @@ module _ (job : Job) (library : loading.Library) (misses faults : loading.Counts
       record {
         feeds = subst (λ ls. OpensOnly ls (port_names net.ins) (asks.words_of job) feeds feeds_new) (sym links_are)
             (subst (λ ps. OpensOnly image.flat.links.items ps (asks.words_of job) feeds feeds_new) (sym ins_are) opens);
+        same_telling = only.same_telling ∙ here.same_telling;
         same_open = λ channel other not_of. only.same_open channel ∙ here.same_open channel not_of;
         same_held = λ tells channel other not_of. only.same_held (here.same_telling ∙ tells) channel other ∙ here.same_held tells channel not_of;
       }
