@@ -40,9 +40,9 @@ rvc run One.xdf --trace t In=in Out=out --budget 2
 rvc run One.xdf --trace t In=in --grow 600
 = instances 1/links 2/certified 1/firings 0/rounds 1/in In 0 tokens 0 rest 0/out Out tokens 0/quiet/ | rvc-trace 1 1 2/i 0 a Inc/r/q/ | [] | 0 Quiet
 rvc run One.xdf --trace t Out=out
-= instances 2/links 4/certified 2/firings 6/rounds 2/in In 0 tokens 3 rest 0/out Out tokens 3/out Other tokens 3/quiet/ | rvc-trace 1 2 4/i 0 a Inc/i 1 b Inc/r/f 0 0/f 0 0/f 0 0/f 1 0/f 1 0/f 1 0/r/q/ | [] [1, 2, 0] | 0 Quiet
+= instances 2/links 4/certified 2/firings 6/rounds 2/in In 0 tokens 3 rest 0/in In 1 tokens 3 rest 0/out Out tokens 3/out Other tokens 3/quiet/ | rvc-trace 1 2 4/i 0 a Inc/i 1 b Inc/r/f 0 0/f 0 0/f 0 0/f 1 0/f 1 0/f 1 0/r/q/ | [] [1, 2, 0] | 0 Quiet
 rvc run Both.xdf --trace t In=in Other=out
-= instances 2/links 4/certified 2/firings 6/rounds 4/in In 0 tokens 3 rest 0/out Out tokens 3/out Other tokens 3/quiet/ | rvc-trace 1 2 4/i 0 a Inc/i 1 b Inc/r/f 0 0/f 0 0/f 0 0/r/f 1 0/f 1 0/f 1 0/r/r/q/ | [1, 2, 0] | 0 Quiet
+= instances 2/links 4/certified 2/firings 6/rounds 4/in In 0 tokens 3 rest 0/in In 1 tokens 3 rest 0/out Out tokens 3/out Other tokens 3/quiet/ | rvc-trace 1 2 4/i 0 a Inc/i 1 b Inc/r/f 0 0/f 0 0/f 0 0/r/f 1 0/f 1 0/f 1 0/r/r/q/ | [1, 2, 0] | 0 Quiet
 rvc run Both.xdf --trace t Out=out In=in --round turn
 # Div.cal actor Div() uint(size=8) In ==> uint(size=8) Out : action In:[a] ==> Out:[100 / a] end end
 = instances 1/links 2/certified 1/firings 1/rounds 1/in In 0 tokens 3 rest 0/out Out tokens 1/trapped 0 0 DivideByZero/ | rvc-trace 1 1 2/i 0 Div Div/r/f 0 0/t 0 0 DivideByZero/ | [20] | 5 Trapped

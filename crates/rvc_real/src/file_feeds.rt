@@ -9,7 +9,7 @@ ghost use Rattle.rvc_real.specs.Open.{OpenState, feed_is_open, inputs_of};
 use crate::open_files::OpenFiles;
 use rvc_io::{Failed, Feeds};
 use std::alloc::Global;
-use std::fs::{self, OpenFile};
+use std::fs;
 use std::io::Read;
 use std::marker::Model;
 use std::rt::Files;
@@ -57,19 +57,8 @@ impl<R: Files> FileFeeds<R> {
         let Ok(file) = fs::open(&self.rt, name) else {
             return false;
         };
-        if is_folder(&file) {
-            return false;
-        }
         self.files.keep(feed, file);
         true
-    }
-}
-
-/// Whether what was opened is a folder, which has no bytes to pull.
-fn is_folder<F: OpenFile>(file: &F) -> bool {
-    match file.metadata() {
-        Ok(known) => known.is_dir(),
-        Err(_) => false,
     }
 }
 

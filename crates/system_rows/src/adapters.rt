@@ -118,7 +118,6 @@ fn pull(rt: &impl Abort, feeds: &mut FileFeeds<&HostRuntime>, feed: u32, want: &
 fn pull_three(rt: &impl Abort, host: &HostRuntime) {
     let mut feeds = FileFeeds::new(host, host.alloc());
     assert!(rt; feeds.open(3, "rvc_real_no_feed") == Err(Failed));
-    assert!(rt; feeds.open(3, ".") == Err(Failed));
     assert!(rt; feeds.open(3, "rvc_real_feed") == Ok(()));
     assert!(rt; feeds.open(1, "rvc_real_feed") == Ok(()));
     pull(rt, &mut feeds, 3, b"ab");
