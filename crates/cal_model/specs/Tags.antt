@@ -1,5 +1,5 @@
 -- What tags stand for in schedules and priorities (CAL Language Report, action tags, action schedules, priorities).
--- Trusted but for `is_seen`, `with_seen`, `seen_in` and `states_seen`: part of what a promise means.
+-- Trusted: part of what a promise means.
 use Rattle.std.specs.Prelude.{◌≡◌, ◌≢◌, ℕ, suc, Bool, true, false, not, ◌&&◌, ◌||◌, List, [], ◌∷◌, ◌++◌, map, Contains, if◌then◌else◌, Option, None, Some, slice_get}
 use Rattle.std.specs.Str.{bytes_eq}
 use Rattle.cal_model.specs.Actor.{Action, Move, Actor}

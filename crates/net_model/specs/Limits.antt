@@ -1,5 +1,5 @@
 -- The limits of what can be run.
--- Trusted but for `max_grow`: part of what a promise means.
+-- Trusted: part of what a promise means.
 use Rattle.std.specs.Prelude.{ℕ}
 
 abbrev pub max_instances : ℕ
