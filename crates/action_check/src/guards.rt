@@ -1,7 +1,6 @@
 //! Guards.
 #![tactic(auto, using(stmt_check::proofs::Said::said_none, stmt_check::proofs::Said::said_on, stmt_check::proofs::Said::said_next))]
 
-ghost use Rattle.std.specs.Prelude.{◌≡◌};
 ghost use Rattle.const_env.specs.Counting.{names_view};
 ghost use Rattle.cal_check.specs.Actions.{each_guard, guard_allowed};
 ghost use Rattle.cal_check.specs.Violations.{all_broken, said};

@@ -1,7 +1,7 @@
 //! Output expressions.
 #![tactic(auto, using(crate::proofs::Judged::breaks_on, crate::proofs::Judged::breaks_rate, stmt_check::proofs::Said::said_none, stmt_check::proofs::Said::said_on, stmt_check::proofs::Said::said_next))]
 
-ghost use Rattle.std.specs.Prelude.{◌≡◌, ◌≤◌, ℕ, length};
+ghost use Rattle.std.specs.Prelude.{◌≤◌, ℕ, length};
 ghost use Rattle.cal_ast.specs.View.{output_tree};
 ghost use Rattle.cal_model.specs.Sound.{max_ports};
 ghost use Rattle.cal_model.specs.View.{kind_view};

@@ -1,6 +1,6 @@
 //! The body of one firing.
 
-ghost use Rattle.std.specs.Prelude.{◌≡◌, ◌<◌, IfNone, IfSome, length};
+ghost use Rattle.std.specs.Prelude.{◌<◌, IfNone, IfSome, length};
 ghost use Rattle.action_machine.specs.Kept.{IsMadeFor};
 ghost use Rattle.actor_cell.specs.Acting.{IsAble, IsCutOff, IsDone};
 

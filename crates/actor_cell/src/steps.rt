@@ -1,6 +1,6 @@
 //! The steps of which the work of a cell is made: what it would do, one firing, and one turn of a burst.
 
-ghost use Rattle.std.specs.Prelude.{◌≡◌, ◌≤◌, ◌<◌, IfNone, IfSome, false, length};
+ghost use Rattle.std.specs.Prelude.{◌≡◌, ◌<◌, IfNone, IfSome, false, length};
 ghost use Rattle.net_model.specs.Cell.{AreRooms, FiresTo, HasRoom, LacksRoomOn, Looks, choice_of};
 ghost use Rattle.guard_select.specs.Selecting.{chosen_of};
 ghost use Rattle.actor_cell.specs.Acting.{HasEnded, HasRoomToSend, HasTurned, IsAsked, IsToFire, TrapsInside};

@@ -1,7 +1,6 @@
 //! What is inside functions.
 #![tactic(auto, using(crate::proofs::Causes::cause_in_first))]
 
-ghost use Rattle.std.specs.Prelude.{◌≡◌};
 ghost use Rattle.cal_ast.specs.View.{function_tree};
 ghost use Rattle.cal_check.specs.Actors.{funs_broken};
 ghost use Rattle.cal_check.specs.Routines.{fun_broken};

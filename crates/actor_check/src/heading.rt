@@ -1,6 +1,5 @@
 //! The header of an actor.
 
-ghost use Rattle.std.specs.Prelude.{◌≡◌};
 ghost use Rattle.const_env.specs.Counting.{names_view};
 ghost use Rattle.const_env.specs.Held.{names_in};
 ghost use Rattle.actor_check.specs.Members.{TellsHeader};

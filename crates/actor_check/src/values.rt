@@ -3,7 +3,6 @@
 ghost use Rattle.std.specs.Prelude.{◌≡◌, true};
 ghost use Rattle.cal_check.specs.Variables.{none_yet, valued};
 ghost use Rattle.seen_names.specs.Known.{fun_decls, names_differ};
-ghost use Rattle.variable_check.specs.Valuing.{Values};
 ghost use Rattle.variable_check.specs.Views.{var_decls};
 ghost use Rattle.given_values.specs.Given.{all_given, spot_of};
 ghost use Rattle.actor_check.specs.Checking.{Comes};

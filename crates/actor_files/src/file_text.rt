@@ -1,7 +1,6 @@
 //! The tree that a file's text spells.
 
-ghost use Rattle.std.specs.Prelude.{◌≡◌, ◌≤◌, IfErr, IfOk, length};
-ghost use Rattle.rvc_io.specs.Library.{max_file_bytes};
+ghost use Rattle.std.specs.Prelude.{◌≤◌, IfErr, IfOk, length};
 ghost use Rattle.cal_ast.specs.View.{file_tree};
 ghost use Rattle.cal_lexer.specs.Lexeme.{plain_tokens};
 ghost use Rattle.cal_lexer.specs.Lexes.{lexes};

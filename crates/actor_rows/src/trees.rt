@@ -1,6 +1,6 @@
 //! Expressions and statements, all at offset 0.
 
-ghost use Rattle.std.specs.Prelude.{◌≡◌, [], ◌∷◌, IfOk, map};
+ghost use Rattle.std.specs.Prelude.{◌≡◌, [], ◌∷◌, IfOk};
 ghost use Rattle.cal_ast.specs.Tree as tree;
 ghost use Rattle.cal_ast.specs.Tree.{listed};
 ghost use Rattle.cal_ast.specs.declared.expr.BinOp.TheVariants.{Add, Lt};

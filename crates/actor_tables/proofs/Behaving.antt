@@ -22,7 +22,7 @@ use Rattle.cal_model.specs.Eligible.{IsStateOf, eligible, next}
 use Rattle.cal_model.specs.Firing.{Fired, behaviour, body, body_of, effect_of_body, effect_of_exposed, outputs}
 use Rattle.cal_model.specs.Keeping.{GivesOrTraps}
 use Rattle.cal_model.specs.Laws.{BehaviourStoresTokens, BodiesGiveOrTrap, KeptAreTokens, LineIsOne, StartIsState}
-use Rattle.cal_model.specs.Selection.{Above, AreFalse, AreTrapping, AreTrue, Guards, Priorities, State, are_true, guards_say, has_its_tokens, is_exposed, kind_of_port, outranked, readiness, seen_by, start_of}
+use Rattle.cal_model.specs.Selection.{Above, AreFalse, AreTrapping, AreTrue, Guards, Priorities, State, are_true, guards_say, has_its_tokens, is_exposed, kind_of_port, outranked, readiness, seen_by}
 use Rattle.cal_model.specs.Selection as selection
 use Rattle.cal_model.specs.Sound.{Each, IsSound}
 use Rattle.cal_model.proofs.ActorStates.{first-sized}

@@ -12,7 +12,7 @@ use Rattle.cal_model.specs.Outcome.{Out, Gives, Traps, Lacks, Clashes}
 use Rattle.cal_model.specs.Expression.{Calls, eval}
 use Rattle.cal_model.specs.Actor.{Action, Actor}
 use Rattle.cal_model.specs.Firing.{Fired, body}
-use Rattle.cal_model.specs.Selection.{Guards, State, guards_say, has_its_tokens}
+use Rattle.cal_model.specs.Selection.{Guards, State, guards_say}
 use Rattle.cal_model.specs.Selection as selection
 use Rattle.cal_model.specs.Sound.{IsSound}
 use Rattle.lowered_actor.specs.Actor as coded

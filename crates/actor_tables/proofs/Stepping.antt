@@ -9,7 +9,7 @@ use Rattle.schedule_fsm.specs.Automaton.{Automaton, target}
 use Rattle.schedule_fsm.specs.declared.fsm.Step.{Step}
 use Rattle.schedule_fsm.specs.Leads.{Leads, StepLeads, IsFree, HasTwoTargets}
 use Rattle.cal_model.specs.Actor.{Action, Actor, Move}
-use Rattle.cal_model.specs.Eligible.{IsStateOf, fresh, has_initialize, is_empty, leads, next, states_of}
+use Rattle.cal_model.specs.Eligible.{fresh, has_initialize, is_empty, leads, next, states_of}
 use Rattle.cal_model.specs.Eligible as eligibility
 use Rattle.cal_model.specs.Sound.{Each, IsMove, IsTagged, LeadToOne}
 use Rattle.actor_tables.specs.Steps.{all_steps, fixed_from, fixed_steps, fixed_target, state_total, step_if, step_of}

@@ -1,9 +1,8 @@
 //! What one import brings.
 #![tactic(auto, using(cal_scope::proofs::Judged::breaks_on))]
 
-ghost use Rattle.std.specs.Prelude.{◌≡◌, ◌∷◌, [], OnOk, map, option_map, string_bytes};
+ghost use Rattle.std.specs.Prelude.{◌≡◌, ◌∷◌, [], OnOk, map, string_bytes};
 ghost use Rattle.cal_imports.specs.Asked.{optional_name};
-ghost use Rattle.rvc_base.specs.Rules.{declared_twice};
 ghost use Rattle.cal_scope.specs.Judging.{Judges};
 ghost use Rattle.cal_scope.specs.Meanings.{global_of, meaning_of};
 ghost use Rattle.cal_imports.specs.Brought.{one_brought, same_brought, with_all_brought, with_brought, with_last_brought, with_seen};

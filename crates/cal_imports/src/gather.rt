@@ -7,8 +7,8 @@ ghost use Rattle.cal_imports.specs.Answer.{Answers};
 ghost use Rattle.cal_imports.specs.Asked.{imports_tree};
 ghost use Rattle.cal_imports.specs.GraphView.{edge_of};
 ghost use Rattle.cal_imports.specs.ScopeView.{AnswersGathered, gathered_view, scope_view};
-ghost use Rattle.cal_imports.specs.View.{source, source_of, sources};
-ghost use Rattle.cal_imports.specs.Whole.{actor_gathered, file_node, import_edges, import_order, scope_of, source_gathered, units_gathered, with_file_nodes};
+ghost use Rattle.cal_imports.specs.View.{source, sources};
+ghost use Rattle.cal_imports.specs.Whole.{actor_gathered, import_edges, import_order, scope_of, source_gathered, units_gathered, with_file_nodes};
 
 use crate::asked_for::as_asked;
 use crate::class_text::dotted;

@@ -1,6 +1,6 @@
 //! Nodes and edges, by the names of the nodes.
 
-ghost use Rattle.std.specs.Prelude.{◌≡◌, [], OnErr, OnOk, is_some, map, option_map, string_bytes};
+ghost use Rattle.std.specs.Prelude.{◌≡◌, [], OnOk, is_some, map, option_map};
 ghost use Rattle.cal_imports.specs.GraphView.{node, node_of, node_with};
 ghost use Rattle.cal_imports.specs.Walk.{node_named, with_node};
 

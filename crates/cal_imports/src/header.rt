@@ -1,7 +1,6 @@
 //! Headers of actors with each name written out in full.
 #![tactic(auto, using(cal_scope::proofs::Judged::breaks_on))]
 
-ghost use Rattle.std.specs.Prelude.{◌≡◌};
 ghost use Rattle.cal_ast.specs.View.{optional_expr, param_tree, port_tree};
 ghost use Rattle.cal_scope.specs.Asked.{outermost, params_tree, port_trees, ports_tree};
 ghost use Rattle.cal_scope.specs.Expressions.{optional_resolved};

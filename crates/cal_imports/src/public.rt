@@ -1,7 +1,7 @@
 //! The call for an actor in a set of files.
 #![tactic(auto, using(crate::proofs::Answered::refused_on))]
 
-ghost use Rattle.std.specs.Prelude.{◌≡◌, IsSome};
+ghost use Rattle.std.specs.Prelude.{IsSome};
 ghost use Rattle.cal_imports.specs.Answer.{Answer, Answers};
 ghost use Rattle.cal_imports.specs.Resolved.{resolved, source_linked};
 ghost use Rattle.cal_imports.specs.ScopeView.{IsResolved, scope_view};

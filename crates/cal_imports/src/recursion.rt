@@ -1,10 +1,10 @@
 //! Whether functions and procedures call themselves.
 #![tactic(auto, using(crate::proofs::Answered::refused_on))]
 
-ghost use Rattle.std.specs.Prelude.{◌≡◌, ◌++◌, [], IfOk, OnOk, map, string_bytes};
+ghost use Rattle.std.specs.Prelude.{◌≡◌, IfOk, OnOk, map};
 ghost use Rattle.cal_ast.specs.View.{function_tree, member_tree, procedure_tree};
 ghost use Rattle.cal_scope.specs.Asked.{members_tree};
-ghost use Rattle.cal_imports.specs.Answer.{Answers, and_then};
+ghost use Rattle.cal_imports.specs.Answer.{Answers};
 ghost use Rattle.cal_imports.specs.GraphView.{edge_of, node_of};
 ghost use Rattle.cal_imports.specs.Recursion.{call_order, edge_to, routine_node, routines, with_outer_routines, with_routine, with_routines, without_recursion};
 ghost use Rattle.cal_imports.specs.ScopeView.{outer_fun, scope_view};

@@ -1,8 +1,7 @@
 //! The calls in statements and routines.
 
-ghost use Rattle.std.specs.Prelude.{◌≡◌, OnOk, string_bytes};
 ghost use Rattle.cal_ast.specs.Tree as tree;
-ghost use Rattle.cal_ast.specs.View.{body_tree, expr_tree, function_tree, ident_tree, port_tree, procedure_tree, stmt_tree, var_tree};
+ghost use Rattle.cal_ast.specs.View.{body_tree, expr_tree, function_tree, ident_tree, procedure_tree, stmt_tree, var_tree};
 ghost use Rattle.cal_scope.specs.Asked.{assign_tree, exprs_tree, foreach_tree, if_stmt_tree, ports_tree, stmts_tree, vars_tree};
 ghost use Rattle.cal_imports.specs.CallsView.{AddsCalls};
 

@@ -1,6 +1,6 @@
 //! Types with their sizes written out, in one cycle.
 
-ghost use Rattle.std.specs.Prelude.{◌≡◌, map};
+ghost use Rattle.std.specs.Prelude.{map};
 ghost use Rattle.cal_ast.specs.Tree as tree;
 ghost use Rattle.cal_ast.specs.Tree.{listed};
 ghost use Rattle.cal_ast.specs.View.{expr_tree, ident_tree, type_arg_tree, type_tree};

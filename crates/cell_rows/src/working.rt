@@ -1,6 +1,6 @@
 //! Cells that fire.
 
-ghost use Rattle.std.specs.Prelude.{◌≡◌, ◌≤◌};
+ghost use Rattle.std.specs.Prelude.{◌≤◌};
 
 use actor_cell::Cell;
 use net_model::{BurstEnd, Firing, Look, Tried};

@@ -1,6 +1,6 @@
 //! Files are checked, and port words refused.
 
-ghost use Rattle.std.specs.Prelude.{◌≡◌, ◌≤◌, ℕ, true, List, map, string_bytes};
+ghost use Rattle.std.specs.Prelude.{◌≡◌, ◌≤◌, ℕ, true, List, string_bytes};
 ghost use Rattle.rvc_io.specs.Feeds.{Inputs};
 ghost use Rattle.rvc_io.specs.Told.{Told};
 ghost use Rattle.actor_files.specs.Loading.{Counts};

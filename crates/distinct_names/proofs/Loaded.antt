@@ -2,7 +2,7 @@
 use Rattle.std.proofs.Common.{Bool, ℕ, suc, List, [], ◌∷◌, ◌++◌}
 use Rattle.cal_imports.specs.Sources.{Source}
 use Rattle.actor_files.specs.Loading as actor_loading
-use Rattle.actor_files.specs.Loading.{IsLoaded, Library}
+use Rattle.actor_files.specs.Loading.{Library}
 use Rattle.actor_files.specs.Reads as actor_reads
 use Rattle.source_network.specs.Files as network
 use Rattle.source_network.specs.Files.{Asked, Content, Says, is_network, says_network, says_source, sources_from, sources_in}

@@ -1,6 +1,6 @@
 //! Actors whose ports are told apart and within their limit.
 
-ghost use Rattle.std.specs.Prelude.{◌≡◌, map};
+ghost use Rattle.std.specs.Prelude.{◌≡◌};
 ghost use Rattle.fnl_flatten.specs.View.{head_of, heads_of};
 ghost use Rattle.flatten_rows.specs.Tested.{are_heads_fine, is_head_fine};
 

@@ -1,6 +1,6 @@
 //! Parts gone through depth first.
 
-ghost use Rattle.std.specs.Prelude.{◌≡◌, ◌≤◌, ◌-◌, ◌<◌, ◌^◌, IfSome, length, map};
+ghost use Rattle.std.specs.Prelude.{◌≤◌, ◌-◌, ◌<◌, IfSome, length, map};
 ghost use Rattle.fnl_tree.specs.View.{leaf_of, net_of, part_of};
 ghost use Rattle.flatten_rows.specs.Walks.{Goes};
 

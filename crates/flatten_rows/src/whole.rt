@@ -1,6 +1,6 @@
 //! Whether a tree may be flattened.
 
-ghost use Rattle.std.specs.Prelude.{◌≡◌, true, length};
+ghost use Rattle.std.specs.Prelude.{◌≡◌, true};
 ghost use Rattle.fnl_tree.specs.Sound.{IsSound};
 ghost use Rattle.fnl_tree.specs.View.{tree_of};
 ghost use Rattle.fnl_flatten.specs.View.{heads_of};

@@ -22,7 +22,7 @@ use Rattle.fnl_tree.specs.Tree.{Inner, InnerNet, InnerLeaf, Own}
 use Rattle.fnl_tree.specs.Sound.{AreDistinct, IsNetSound, IsSound, max_buffer_size}
 use Rattle.fnl_bind.specs.Library.{Entry, network_of, is_among, ports_of, instance_id, instance_class, instance_at}
 use Rattle.fnl_bind.specs.Scopes.{name_broken, keyed_ports, keyed_instances, named_twice, keyed_decls, ports_broken, unknown_names, circles, scope_broken}
-use Rattle.fnl_bind.specs.Values.{end_judged, ends_judged, ends_of, or_no, size_of_value, size_given, size_of_kind, size_judged, sizes_judged, largest, wire_of, wires_of, max_size_asked}
+use Rattle.fnl_bind.specs.Values.{end_judged, ends_judged, ends_of, or_no, size_given, size_of_kind, size_judged, sizes_judged, largest, wire_of, wires_of, max_size_asked}
 use Rattle.fnl_bind.specs.Networks.{Place, StandsNet, standing_as, standing, own_found, found_behind, net_under, leaf_under, net_with, names_at}
 use Rattle.fnl_bind.specs.Values as values
 use Rattle.fnl_bind.specs.Library as library

@@ -1,6 +1,6 @@
 //! Where a connection begins and ends.
 
-ghost use Rattle.std.specs.Prelude.{◌≡◌, Some, map, slice_get};
+ghost use Rattle.std.specs.Prelude.{◌≡◌, Some, map};
 ghost use Rattle.fnl_tree.specs.View.{inner_of, net_of, part_of, tree_of, wire_of};
 ghost use Rattle.fnl_flatten.specs.Joints as joints;
 ghost use Rattle.fnl_flatten.specs.Named.{HasFewEnds, HasFewPorts, NameAlike};

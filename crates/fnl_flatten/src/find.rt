@@ -1,6 +1,6 @@
 //! Networks and actors by their numbers.
 
-ghost use Rattle.std.specs.Prelude.{◌≡◌, IfSome, length, map, option_map, slice_get};
+ghost use Rattle.std.specs.Prelude.{◌≡◌, IfSome, map, option_map, slice_get};
 ghost use Rattle.fnl_tree.specs.Sound.{IsSound};
 ghost use Rattle.fnl_tree.specs.View.{net_of, tree_of};
 ghost use Rattle.fnl_flatten.specs.Named.{HasFewEnds, HasFewPorts};

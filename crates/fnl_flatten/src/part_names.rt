@@ -1,6 +1,6 @@
 //! The instances of a network by their names.
 
-ghost use Rattle.std.specs.Prelude.{◌≡◌, ℕ, List, [], ◌∷◌, ◌++◌, IfOk, OnOk, map, option_map, IfSome};
+ghost use Rattle.std.specs.Prelude.{◌≡◌, List, ◌∷◌, ◌++◌, IfOk, OnOk, map, option_map};
 ghost use Rattle.fnl_tree.specs.Tree.{Part as PartSpec};
 ghost use Rattle.fnl_tree.specs.View.{inner_of, part_of};
 ghost use Rattle.fnl_flatten.specs.Joints.{part_named};

@@ -1,6 +1,6 @@
 //! Which joint writes to which.
 
-ghost use Rattle.std.specs.Prelude.{◌≡◌, [], ◌∷◌, ◌++◌, None, OnOk, OnErr};
+ghost use Rattle.std.specs.Prelude.{◌≡◌, [], ◌∷◌, ◌++◌, None, OnOk};
 ghost use Rattle.fnl_flatten.specs.Arrows.{writer_of};
 
 use crate::joint::Joint;

@@ -10,7 +10,7 @@ use Rattle.fnl_markup.specs.Tags.{Attribute, attribute, Tag, opens, closes}
 use Rattle.fnl_markup.specs.State.{State, Next, Going, Fault}
 use Rattle.fnl_markup.specs.Entities.{meaning, longer}
 use Rattle.fnl_markup.specs.Step as steps
-use Rattle.fnl_markup.specs.Step.{step, step_at, last_name, other_names, is_nil}
+use Rattle.fnl_markup.specs.Step.{step, step_at, last_name, is_nil}
 use Rattle.fnl_grammar.specs.Markup.{AreBlanks, no_blanks, one_blank_more, IsSpace, the_space, IsName, first_of_name, next_of_name, HoldsNoEnd, the_comment, AreMisc, no_misc, one_comment_more, more_space, IsReference, less_than, greater_than, ampersand, quotation_mark, apostrophe, nothing_quoted, one_byte_more, one_reference_more, IsAttribute, the_attribute, AreAttributes, no_attributes, one_attribute_more, the_start_tag, an_empty_element, no_content, MayBeMark, the_mark, MayBeDeclaration, the_declaration, the_prolog}
 use Rattle.fnl_grammar.proofs.Places.{Place, Entity, p_less, p_first_less, p_comment, p_comment_dash, p_comment_dashes}
 use Rattle.fnl_grammar.proofs.ReadsMarkup.{Tagged}

@@ -1,6 +1,6 @@
 //! How many ports a network has.
 
-ghost use Rattle.std.specs.Prelude.{◌≡◌, ◌≤◌, length, map};
+ghost use Rattle.std.specs.Prelude.{◌≡◌, length, map};
 ghost use Rattle.fnl_bind.specs.Library.{ports_of};
 ghost use Rattle.fnl_bind.specs.Scopes.{ports_broken};
 ghost use Rattle.fnl_frames.specs.Views.{net_of, port_of};

@@ -1,20 +1,19 @@
 -- What expressions give over the constants of a network.
-use Rattle.std.proofs.Common.{◌≡◌, ℕ, Bool, true, false, List, [], ◌∷◌, map, refl, sym, ap, subst, ◌∙◌, arith, Err, Ok}
+use Rattle.std.proofs.Common.{◌≡◌, ℕ, Bool, true, false, List, [], ◌∷◌, map, refl, sym, ap, subst, ◌∙◌, Err, Ok}
 use Rattle.std.specs.Prelude.{Option, None, Some, if◌then◌else◌}
 use Rattle.std.specs.Str.{bytes_eq}
 use Rattle.std.specs.declared.result.Result.{Result}
 use Rattle.rvc_base.specs.Turns.{max_turns}
-use Rattle.rvc_base.specs.Rules.{constant_traps, not_constant}
+use Rattle.rvc_base.specs.Rules.{not_constant}
 use Rattle.cal_ast.specs.Places.{begins}
 use Rattle.cal_ast.specs.Tree.{Tree}
 use Rattle.cal_model.specs.Value.{Kind, Value, HasKind}
-use Rattle.cal_model.specs.View.{fun_view, value_view}
+use Rattle.cal_model.specs.View.{value_view}
 use Rattle.cal_model.specs.Outcome.{Out, Gives, Traps, Lacks, Clashes}
-use Rattle.cal_model.specs.Env.{Env, find}
-use Rattle.cal_model.specs.Actor.{Fun}
+use Rattle.cal_model.specs.Env.{find}
 use Rattle.cal_model.specs.Expression.{eval}
 use Rattle.cal_model.specs.Call.{calls_of}
-use Rattle.cal_model.specs.Keeping.{GivesOnly, StandFor, StandsFor, IsEnvOf, IsOfItsKinds}
+use Rattle.cal_model.specs.Keeping.{GivesOnly, StandFor, StandsFor, IsOfItsKinds}
 use Rattle.cal_model.specs.Kinding.{Judged, Fine, Broken, and_so, Known, Names, known_as, kind, constant, constants}
 use Rattle.cal_model.specs.Laws.{ConstantIsValue}
 use Rattle.cal_model.specs.Sound.{Each}
@@ -31,7 +30,7 @@ use Rattle.cal_check.specs.Constants.{has_kind}
 use Rattle.typed_values.proofs.Kept.{test_passes}
 use Rattle.fnl_bind.specs.Values.{value_of_kind, value_judged}
 use Rattle.fnl_values.specs.Judging.{outcome_judged}
-use Rattle.fnl_values.specs.Steady.{IsConstant, IsSteady, names_of}
+use Rattle.fnl_values.specs.Steady.{IsConstant, IsSteady}
 use Rattle.cal_model.specs.Kinding as kinding
 
 -- ---- constants among names

@@ -1,11 +1,10 @@
 -- Declarations, one after another.
 use Rattle.std.proofs.Common.{◌≡◌, ℕ, Bool, true, false, List, [], ◌∷◌, ◌++◌, refl, sym, ap, subst, ◌∙◌, arith, Ok, Err}
-use Rattle.std.specs.Prelude.{Option, None, Some, if◌then◌else◌}
+use Rattle.std.specs.Prelude.{Some, if◌then◌else◌}
 use Rattle.std.specs.declared.result.Result.{Result}
 use Rattle.rvc_base.specs.declared.refusal.Rule.{Rule}
 use Rattle.rvc_base.specs.declared.refusal.Front.{Front}
 use Rattle.rvc_base.specs.declared.refusal.Front.TheVariants as front
-use Rattle.cal_ast.specs.Tree.{Tree}
 use Rattle.cal_model.specs.Value.{Shape, Value, HasKind, kind_of_type}
 use Rattle.cal_model.specs.Actor.{Held}
 use Rattle.cal_model.specs.declared.value.Value.{Value as DeclaredValue}
@@ -17,7 +16,7 @@ use Rattle.const_env.specs.declared.fault.KindFault.{KindFault}
 use Rattle.const_env.specs.declared.fault.KindFault.TheVariants as fault
 use Rattle.cal_check.specs.Constants.{early_type}
 use Rattle.cal_check.specs.Violations.{Violation, said, violation}
-use Rattle.cal_check.specs.Variables.{Spot, Found, found_in, Come, Given, VarDecl, Valued, come, value_of, param_broken, held_if, is_none, value_or, seen, with_var, with_type, with_come, valued}
+use Rattle.cal_check.specs.Variables.{Spot, found_in, Given, VarDecl, Valued, come, value_of, param_broken, held_if, is_none, value_or, seen, with_var, with_type, valued}
 use Rattle.fnl_values.proofs.Faults.{cause_in_first, cause_in_others}
 use Rattle.fnl_values.specs.Causes.{Refuses}
 use Rattle.given_values.specs.Causes.{IsCause}

@@ -1,6 +1,6 @@
 -- Instances, sizes and connections, one after another.
 use Rattle.std.proofs.Common.{◌≡◌, ℕ, Bool, true, false, List, [], ◌∷◌, ◌++◌, length, refl, sym, ap, subst, ◌∙◌, arith, append_assoc, append-nil}
-use Rattle.std.specs.Prelude.{Option, None, Some, max, not}
+use Rattle.std.specs.Prelude.{Option, Some, max, not}
 use Rattle.rvc_base.specs.Turns.{max_turns}
 use Rattle.cal_ast.specs.Places.{begins}
 use Rattle.cal_ast.specs.Tree.{Tree}
@@ -15,7 +15,7 @@ use Rattle.const_env.specs.declared.fault.KindFault.{KindFault}
 use Rattle.const_env.specs.declared.fault.KindFault.TheVariants as fault
 use Rattle.cal_check.specs.Violations.{all_fine, and_all}
 use Rattle.cal_check.specs.Variables.{Given}
-use Rattle.fnl_read.specs.Net.{Port, a_port, Parameter, Instance, Size, a_size}
+use Rattle.fnl_read.specs.Net.{Port, a_port, Parameter, Instance, a_size}
 use Rattle.fnl_tree.specs.Tree.{Own}
 use Rattle.fnl_bind.specs.Library.{is_input, ports_of, instance_parameters}
 use Rattle.fnl_bind.specs.Values.{all_given, end_judged, ends_judged, given_as, largest, or_no, parameter_judged, size_given, size_judged, size_of_kind, size_of_value, value_in}

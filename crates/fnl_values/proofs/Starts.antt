@@ -1,14 +1,13 @@
 -- What declarations start with.
-use Rattle.std.proofs.Common.{◌≡◌, ℕ, Bool, true, false, List, [], refl, sym, ap, subst, ◌∙◌, arith, Err}
-use Rattle.std.specs.Prelude.{Contains, Option, None, Some, ◌==◌, if◌then◌else◌}
+use Rattle.std.proofs.Common.{◌≡◌, ℕ, Bool, true, false, [], refl, sym, ap, subst, ◌∙◌, arith, Err}
+use Rattle.std.specs.Prelude.{Contains, None, Some, ◌==◌, if◌then◌else◌}
 use Rattle.rvc_base.specs.Rules.{unknown_name, not_constant}
 use Rattle.rvc_base.specs.Turns.{max_turns}
 use Rattle.rvc_base.specs.declared.refusal.Rule.{Rule}
 use Rattle.cal_ast.specs.Places.{begins}
 use Rattle.cal_ast.specs.Tree as tree
 use Rattle.cal_ast.specs.Tree.{Tree}
-use Rattle.cal_model.specs.Value.{Kind, Shape, Value, HasKind, IsType, kind_of_type, stored}
-use Rattle.cal_model.specs.View.{kind_view}
+use Rattle.cal_model.specs.Value.{Kind, Shape, Value, HasKind, kind_of_type, stored}
 use Rattle.cal_model.specs.Keeping.{GivesOnly}
 use Rattle.cal_model.specs.Outcome.{Out, Gives, Traps, Lacks, Clashes}
 use Rattle.cal_model.specs.Kinding.{Judged, Fine, Broken, Names, kind, one_kind, constant}
@@ -18,7 +17,7 @@ use Rattle.const_env.specs.Held.{Kept, names_in}
 use Rattle.const_env.specs.Judging.{Breaks}
 use Rattle.const_env.specs.declared.fault.KindFault.{KindFault}
 use Rattle.const_env.specs.declared.fault.KindFault.TheVariants as fault
-use Rattle.cal_check.specs.Constants.{constant_place, early_kind, has_kind, not_yet, stored_kind, value_given}
+use Rattle.cal_check.specs.Constants.{constant_place, early_kind, not_yet, stored_kind, value_given}
 use Rattle.cal_check.specs.Violations.{violation}
 use Rattle.cal_check.specs.Variables.{Come, come, come_of, come_if}
 use Rattle.typed_values.proofs.Kept.{test_passes}

@@ -1,13 +1,13 @@
 -- What calls that evaluate parts of a network answer.
 -- Not trusted: no promise is read with it.
-use Rattle.std.specs.Prelude.{◌≡◌, ℕ, Bool, true, false, List, [], ◌∷◌, ◌++◌, map, Option, None, Some, Vec, if◌then◌else◌}
+use Rattle.std.specs.Prelude.{◌≡◌, ℕ, true, false, List, [], ◌++◌, map, Option, None, Some, Vec, if◌then◌else◌}
 use Rattle.std.specs.declared.alloc.Global.{Global}
 use Rattle.std.specs.declared.result.Result.{Result}
 use Rattle.std.specs.declared.result.Result.TheVariants.{Ok, Err}
 use Rattle.rvc_base.specs.Rules.{constant_traps, not_constant, wrong_parameter}
 use Rattle.rvc_base.specs.declared.refusal.Front.{Front}
 use Rattle.cal_ast.specs.Tree.{Tree}
-use Rattle.cal_model.specs.Value.{Kind, Shape, Value, kind_of_type}
+use Rattle.cal_model.specs.Value.{Kind, Shape, Value}
 use Rattle.cal_model.specs.Outcome.{Out, Gives, Traps, Lacks, Clashes}
 use Rattle.cal_model.specs.Actor.{Held}
 use Rattle.cal_model.specs.Kinding.{Judged, Fine, Broken, Known, Names}

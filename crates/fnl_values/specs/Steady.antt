@@ -1,6 +1,6 @@
 -- Names of a network while it is evaluated: each is a constant of its kind, and there are no functions.
 -- Not trusted: no promise is read with it.
-use Rattle.std.specs.Prelude.{◌≡◌, List, [], ◌∷◌, Option, None, Some}
+use Rattle.std.specs.Prelude.{◌≡◌, List, [], Some}
 use Rattle.cal_model.specs.Value.{HasKind, Value}
 use Rattle.cal_model.specs.Kinding.{Known, Names}
 use Rattle.cal_model.specs.Sound.{Each}

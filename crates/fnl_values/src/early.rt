@@ -1,6 +1,6 @@
 //! Types and kinds that see only what is declared before them.
 
-ghost use Rattle.std.specs.Prelude.{◌≡◌, IfOk};
+ghost use Rattle.std.specs.Prelude.{IfOk};
 ghost use Rattle.cal_ast.specs.View.{expr_tree, type_tree};
 ghost use Rattle.cal_model.specs.Value.{IsType};
 ghost use Rattle.cal_model.specs.View.{kind_view, shape_view};

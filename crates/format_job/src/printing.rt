@@ -1,6 +1,6 @@
 //! The canonical text of a file.
 
-ghost use Rattle.std.specs.Prelude.{◌≡◌, ◌≤◌, ◌++◌, ℕ, List, [], IfOk, IfErr, IsOk, OnOk, length, map};
+ghost use Rattle.std.specs.Prelude.{◌≡◌, ◌≤◌, ℕ, [], IfOk, IfErr, IsOk, OnOk, length, map};
 ghost use Rattle.std.specs.Result.{IsErrOf};
 ghost use Rattle.rvc_io.specs.Told.{Told};
 ghost use Rattle.rvc_io.specs.Count.{HasRisen};

@@ -1,6 +1,6 @@
 //! The text of the file is read.
 
-ghost use Rattle.std.specs.Prelude.{◌≡◌, ◌≤◌, ℕ, IfErr, IfOk};
+ghost use Rattle.std.specs.Prelude.{◌≡◌, ◌≤◌, IfErr, IfOk};
 ghost use Rattle.std.specs.Result.{IsErrOf};
 ghost use Rattle.rvc_base.specs.declared.refusal.Refusal.{Refusal as Denial};
 ghost use Rattle.rvc_io.specs.Count.{HasRisen};

@@ -1,6 +1,6 @@
 //! The call of the verb.
 
-ghost use Rattle.std.specs.Prelude.{◌≡◌, ℕ, true, map, string_bytes};
+ghost use Rattle.std.specs.Prelude.{◌≡◌, true, map, string_bytes};
 ghost use Rattle.rvc_io.specs.Channels.{WriteFails, WritesOnly};
 ghost use Rattle.rvc_io.specs.Count.{HasRisen};
 ghost use Rattle.rvc_base.specs.declared.refusal.Refusal.{Refusal as Denial};

@@ -1,6 +1,6 @@
 //! The choice of the action to fire.
 
-ghost use Rattle.std.specs.Prelude.{◌≡◌, ◌<◌, length};
+ghost use Rattle.std.specs.Prelude.{◌≡◌, ◌<◌};
 ghost use Rattle.action_machine.specs.Kept.{IsMadeFor};
 ghost use Rattle.lowered_actor.specs.Meaning.{choice};
 ghost use Rattle.guard_select.specs.Selecting.{state_of, chosen_of, KeepsState};

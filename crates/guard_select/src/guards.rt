@@ -1,6 +1,6 @@
 //! What the guards of an action say.
 
-ghost use Rattle.std.specs.Prelude.{◌≡◌, ◌<◌, true, length, take};
+ghost use Rattle.std.specs.Prelude.{◌≡◌, ◌<◌, true, length};
 ghost use Rattle.action_machine.specs.Kept.{IsMadeFor};
 ghost use Rattle.lowered_actor.specs.Meaning.{has_its_tokens, is_eligible, readiness};
 ghost use Rattle.guard_select.specs.Selecting.{state_of, guards_of, KeepsState};

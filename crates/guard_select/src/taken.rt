@@ -1,6 +1,6 @@
 //! The tokens that an action takes.
 
-ghost use Rattle.std.specs.Prelude.{◌≡◌, ℕ};
+ghost use Rattle.std.specs.Prelude.{◌≡◌};
 ghost use Rattle.lowered_actor.specs.Actor.{number_on};
 ghost use Rattle.guard_select.specs.Selecting.{first_of};
 

@@ -1,6 +1,6 @@
 //! Which instructions may stand in a body.
 
-ghost use Rattle.std.specs.Prelude.{◌≡◌, ℕ, ◌+◌, ◌*◌, ◌<◌, ◌≤◌, true, IsTrue};
+ghost use Rattle.std.specs.Prelude.{◌≡◌, ℕ, ◌+◌, ◌*◌, ◌<◌, true, IsTrue};
 ghost use Rattle.lowered_actor.specs.Actor.{actor_of, number_on};
 ghost use Rattle.lowered_actor.specs.Straight.{is_saved, may_store};
 ghost use Rattle.kept_facts.specs.Fitting.{MayStand, MayStoreEach};

@@ -28,7 +28,7 @@ use Rattle.actor_check.specs.Checked.{IsChecked, IsComplete, IsRefused}
 use Rattle.actor_check.specs.Sources as check
 use Rattle.actor_check.specs.Sources.{source_in}
 use Rattle.source_network.specs.Actors as net
-use Rattle.source_network.specs.Actors.{IsActorOf, given_of, owner_of}
+use Rattle.source_network.specs.Actors.{given_of, owner_of}
 use Rattle.leaf_actors.specs.Leaves.{HasActor, in_actor, in_scope}
 use Rattle.leaf_actors.specs.Steps.{IsAnswered, IsRefusedAt}
 

@@ -1,6 +1,6 @@
 //! The actors that were found so far.
 
-ghost use Rattle.std.specs.Prelude.{◌≡◌, ◌<◌, [], IfErr, OnOk, length};
+ghost use Rattle.std.specs.Prelude.{◌≡◌, ◌<◌, [], OnOk, length};
 ghost use Rattle.cal_imports.specs.View.{sources};
 ghost use Rattle.cal_model.specs.View.{actor_of};
 ghost use Rattle.fnl_tree.specs.View.{leaf_of};

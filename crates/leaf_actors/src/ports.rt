@@ -1,7 +1,6 @@
 //! The ports of the actors at leaves.
 
-ghost use Rattle.std.specs.Prelude.{◌≡◌, ◌<◌, IfOk, length, map};
-ghost use Rattle.cal_model.specs.Rates.{give, need};
+ghost use Rattle.std.specs.Prelude.{◌≡◌, ◌<◌, IfOk, map};
 ghost use Rattle.cal_model.specs.Sound.{Each, IsSound};
 ghost use Rattle.cal_model.specs.View.{actor_of, port_view};
 ghost use Rattle.fnl_flatten.specs.View.{head_of as told_head, head_port_of, heads_of};

@@ -1,10 +1,6 @@
 //! Files in memory, with the names that were asked for.
 
-ghost use Rattle.std.specs.Prelude.{◌≡◌, ◌≢◌, ◌≤◌, ℕ, List, []};
-ghost use Rattle.rvc_io.specs.Count.{HasRisen};
-ghost use Rattle.rvc_io.specs.Library.{IsTooLong};
 ghost use Rattle.rvc_io.specs.MemLibrary.{bytes_of, told};
-ghost use Rattle.rvc_io.specs.Told.{IsLacking, IsTold};
 
 use rvc_io::{Library, MemLibrary, ReadAnswer};
 use std::alloc::Global;

@@ -1,7 +1,6 @@
 //! For each state the actions that may be candidates there, so that selection tries no others.
 
-ghost use Rattle.std.specs.Prelude.{◌≡◌, ℕ, ◌<◌, length, All, IfOk, OnOk};
-ghost use Rattle.schedule_fsm.specs.Automaton.{Automaton};
+ghost use Rattle.std.specs.Prelude.{◌≡◌, ◌<◌, All, IfOk};
 ghost use Rattle.lowered_actor.specs.Candidates.{eligible_among, AreRows};
 
 use schedule_fsm::Fsm;

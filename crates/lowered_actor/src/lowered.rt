@@ -1,7 +1,6 @@
 //! A lowered actor.
 
-ghost use Rattle.std.specs.Prelude.{◌≡◌, ℕ, ◌<◌, IfOk, Some, IsSome, All, length, slice_get};
-ghost use Rattle.schedule_fsm.specs.Automaton.{target};
+ghost use Rattle.std.specs.Prelude.{◌≡◌, ◌<◌, IfOk, Some, All, length, slice_get};
 ghost use Rattle.lowered_actor.specs.Actor.{action_of, actor_of};
 ghost use Rattle.lowered_actor.specs.Facts.{FitTogether, RunRight, IsLowered};
 ghost use Rattle.lowered_actor.specs.Candidates.{eligible_among};

@@ -3,10 +3,10 @@
 //! It is meant for actors that are written in code by hand, as tests do. A straight line has no jump, loop or call,
 //! and no lists: whether it keeps the facts can be seen from each instruction alone.
 
-ghost use Rattle.std.specs.Prelude.{◌≡◌, ◌<◌, ◌≤◌, ◌+◌, true, IsTrue, length, drop};
+ghost use Rattle.std.specs.Prelude.{◌≡◌, ◌<◌, ◌+◌, true, IsTrue};
 ghost use Rattle.lowered_actor.specs.Actor.{action_of, actor_of, number_on};
 ghost use Rattle.lowered_actor.specs.Facts.{Fits, FitTogether, RunRight};
-ghost use Rattle.lowered_actor.specs.Straight.{are_straight, are_straight_guards, body_at, ends_line, is_line, is_saved, is_straight, is_straight_firing, is_straight_guard, may_stand, may_store, stores, stores_each, stores_sent};
+ghost use Rattle.lowered_actor.specs.Straight.{are_straight, are_straight_guards, body_at, ends_line, is_line, is_saved, is_straight, may_stand, may_store, stores, stores_each, stores_sent};
 
 use crate::parts::{ActionCode, Parts, StateCell};
 use code_ir::{Instr, laws};

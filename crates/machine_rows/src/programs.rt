@@ -1,6 +1,6 @@
 //! Programs that are admitted and run, and what they come to.
 
-ghost use Rattle.std.specs.Prelude.{ℕ, ℤ, List, [], if◌then◌else◌, ◌==◌, ◌<◌, ◌^◌, length};
+ghost use Rattle.std.specs.Prelude.{[], if◌then◌else◌, ◌==◌, ◌<◌, ◌^◌, length};
 ghost use Rattle.action_machine.specs.Kept.{IsMadeFor};
 
 use action_machine::{Cells, Outcome, Run, cells};

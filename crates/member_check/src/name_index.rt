@@ -1,6 +1,6 @@
 //! Names with their numbers.
 
-ghost use Rattle.std.specs.Prelude.{◌≡◌, [], IfOk, OnErr, OnOk, length, map, not, string_bytes, true};
+ghost use Rattle.std.specs.Prelude.{◌≡◌, [], IfOk, OnOk, length, map, not, string_bytes, true};
 ghost use Rattle.cal_model.specs.Tags.{is_seen, number_of_name, with_seen};
 
 use indexmap::IndexSet;

@@ -8,7 +8,7 @@ ghost use Rattle.cal_ast.specs.View.{member_tree};
 ghost use Rattle.cal_model.specs.Actor.{Actor};
 ghost use Rattle.cal_model.specs.Sound.{max_actions};
 ghost use Rattle.cal_model.specs.Tags.{each_above, pairs_of};
-ghost use Rattle.cal_check.specs.Schedules.{chains_broken, chains_pairs, first_priority, pairs_in, priorities_broken, tags_broken, tags_listed};
+ghost use Rattle.cal_check.specs.Schedules.{chains_broken, chains_pairs, first_priority, pairs_in, priorities_broken, tags_listed};
 ghost use Rattle.priority_order.specs.Closed.{IsInRange};
 ghost use Rattle.member_check.specs.Judging.{BreaksPriorities, Checks, IsCycleAt, Refuses};
 ghost use Rattle.member_check.specs.Parts.{action_views, actor_with, chains_tree, members_tree, tags_tree};

@@ -1,6 +1,6 @@
 //! How often patterns and outputs are repeated.
 
-ghost use Rattle.std.specs.Prelude.{◌≡◌, Some};
+ghost use Rattle.std.specs.Prelude.{Some};
 ghost use Rattle.cal_check.specs.Actions.{rate_judged, repeat_of};
 ghost use Rattle.member_check.specs.Judging.{Judges};
 

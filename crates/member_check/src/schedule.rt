@@ -1,6 +1,6 @@
 //! The schedule of an actor: its states, and where it leads.
 
-ghost use Rattle.std.specs.Prelude.{◌≡◌, ◌≤◌, ◌<◌, ◌++◌, All, IfErr, IfOk, List, OnOk, Some, [], false, length, map, not, slice_get, string_bytes, true};
+ghost use Rattle.std.specs.Prelude.{◌≡◌, ◌≤◌, ◌<◌, ◌++◌, All, IfErr, IfOk, OnOk, Some, [], false, length, map, not, slice_get, string_bytes, true};
 ghost use Rattle.rvc_base.specs.Rules.{ambiguous_transition};
 ghost use Rattle.cal_ast.specs.View.{move_tree, schedule_tree};
 ghost use Rattle.cal_model.specs.Actor.{Actor};

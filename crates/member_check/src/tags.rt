@@ -1,6 +1,6 @@
 //! Tags, and the actions that they stand for.
 
-ghost use Rattle.std.specs.Prelude.{◌≡◌, ◌≤◌, ◌<◌, All, IfOk, length, map, string_bytes};
+ghost use Rattle.std.specs.Prelude.{◌≡◌, ◌≤◌, ◌<◌, IfOk, length, map, string_bytes};
 ghost use Rattle.cal_ast.specs.View.{tag_tree};
 ghost use Rattle.cal_model.specs.Sound.{max_actions};
 ghost use Rattle.cal_model.specs.Tags.{is_prefix_tag, may_be_meant, stands_from};

@@ -1,6 +1,6 @@
 //! How many tokens the queues at the ports of leaves are made for, found in one pass over the links.
 
-ghost use Rattle.std.specs.Prelude.{◌≡◌, ◌<◌, IfOk, length, map, replicate, vec_items, vec_len};
+ghost use Rattle.std.specs.Prelude.{◌≡◌, ◌<◌, IfOk, map, replicate, vec_items};
 ghost use Rattle.std.specs.Arc.{arc_value};
 ghost use Rattle.network_cells.specs.Rooms.{end_at, is_inner, queue_of};
 ghost use Rattle.network_cells.specs.Tables.{AreRoomsOf, filled, first_row, ports_of, widened, widened_row};

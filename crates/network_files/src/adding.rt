@@ -1,6 +1,6 @@
 //! What a text says is added.
 
-ghost use Rattle.std.specs.Prelude.{◌≡◌, ◌≤◌, ◌+◌, IfErr, OnOk, None, false, is_some, length, true};
+ghost use Rattle.std.specs.Prelude.{◌≡◌, ◌≤◌, ◌+◌, IfErr, OnOk, None, false, length, true};
 ghost use Rattle.rvc_io.specs.Library.{max_file_bytes};
 ghost use Rattle.cal_ast.specs.View.{file_tree};
 ghost use Rattle.cal_imports.specs.Sources.{source_named};

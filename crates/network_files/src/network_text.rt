@@ -1,6 +1,6 @@
 //! The network that a file's text spells.
 
-ghost use Rattle.std.specs.Prelude.{◌≡◌, ◌≤◌, IfErr, IfOk, length};
+ghost use Rattle.std.specs.Prelude.{◌≤◌, IfErr, IfOk, length};
 ghost use Rattle.rvc_io.specs.Library.{max_file_bytes};
 ghost use Rattle.fnl_frames.specs.Views.{net_of};
 ghost use Rattle.fnl_grammar.specs.Laws.{IsNetworkFile};

@@ -1,7 +1,6 @@
 //! What is asked for.
 
 ghost use Rattle.std.specs.Prelude.{◌≡◌, ◌∷◌, [], ◌++◌, IfOk, OnOk, map};
-ghost use Rattle.cal_ast.specs.View.{import_tree};
 ghost use Rattle.cal_imports.specs.Whole.{import_edges};
 ghost use Rattle.actor_files.specs.SoFar.{imports_tree};
 ghost use Rattle.fnl_frames.specs.Views.{instance_of};

@@ -1,7 +1,6 @@
 //! A request is looked at: its file is read, unless it was.
 
 ghost use Rattle.std.specs.Prelude.{◌≡◌, ◌≤◌, ℕ, List, IfErr, IfOk, false, length, true};
-ghost use Rattle.rvc_base.specs.declared.refusal.Refusal.{Refusal as Denial};
 ghost use Rattle.cal_imports.specs.View.{sources};
 ghost use Rattle.cal_scope.specs.Names.{is_among};
 ghost use Rattle.actor_files.specs.Loading.{max_bytes, max_files};

@@ -1,6 +1,6 @@
 //! What stands in a trace before its first event.
 
-ghost use Rattle.std.specs.Prelude.{◌≡◌, ◌≤◌, ◌+◌, ◌++◌, ℕ, IfOk, OnOk, length, map, string_bytes};
+ghost use Rattle.std.specs.Prelude.{◌≡◌, ◌≤◌, ◌+◌, ◌++◌, IfOk, OnOk, length, map, string_bytes};
 ghost use Rattle.network_job.specs.Network.{head_of, instance_named, instances_named};
 
 use arrayvec::ArrayVec;

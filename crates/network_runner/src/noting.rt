@@ -1,6 +1,6 @@
 //! The lines of a round.
 
-ghost use Rattle.std.specs.Prelude.{◌≡◌, true, IfSome, OnErr, length, map};
+ghost use Rattle.std.specs.Prelude.{◌≡◌, true, IfSome, OnErr, length};
 ghost use Rattle.rvc_io.specs.Channels.{WriteFails, WritesOnly};
 ghost use Rattle.trace_text.specs.Text.{IsWhole};
 ghost use Rattle.round_runner.specs.Rounds.{end_line};

@@ -1,6 +1,6 @@
 //! The channels of a network's trace and outputs are opened.
 
-ghost use Rattle.std.specs.Prelude.{◌≡◌, ◌≢◌, ◌≤◌, ◌<◌, ◌+◌, ◌++◌, ℕ, false, List, ◌∷◌, IfErr, IfOk, OnErr, OnOk, length, map, option_map, string_bytes};
+ghost use Rattle.std.specs.Prelude.{◌≡◌, ◌≢◌, ◌≤◌, ◌<◌, ◌+◌, ℕ, false, List, ◌∷◌, IfErr, OnErr, OnOk, length, map, option_map, string_bytes};
 ghost use Rattle.rvc_io.specs.Channels.{Channels};
 ghost use Rattle.rvc_words.specs.Words.{port_text};
 ghost use Rattle.port_words.specs.Matching.{names_of};

@@ -1,6 +1,6 @@
 //! The feeds of a network's inputs are opened.
 
-ghost use Rattle.std.specs.Prelude.{◌≡◌, ◌≤◌, ◌<◌, ◌+◌, ◌++◌, ℕ, false, List, ◌∷◌, IfErr, IfOk, OnErr, OnOk, length, map, option_map, slice_get};
+ghost use Rattle.std.specs.Prelude.{◌≡◌, ◌≤◌, ◌<◌, ◌+◌, ℕ, false, List, ◌∷◌, IfErr, IfOk, OnErr, OnOk, length, map, option_map, slice_get};
 ghost use Rattle.rvc_io.specs.Feeds.{Inputs};
 ghost use Rattle.rvc_words.specs.Words.{port_text};
 ghost use Rattle.net_model.specs.declared.wiring.Link.{Link as LinkOf};

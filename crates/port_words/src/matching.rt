@@ -1,6 +1,6 @@
 //! Which ports the port words name.
 
-ghost use Rattle.std.specs.Prelude.{◌≡◌, ◌<◌, ◌+◌, ◌++◌, ℕ, IfErr, OnOk, length, map};
+ghost use Rattle.std.specs.Prelude.{◌≡◌, ◌<◌, ◌+◌, ◌++◌, IfErr, OnOk, length, map};
 ghost use Rattle.rvc_words.specs.Words.{port_text};
 ghost use Rattle.port_words.specs.Matching.{AreMatched, IsWrongWord, is_named, is_port, names_of};
 

@@ -1,9 +1,7 @@
 //! What is tested and made for a replay before anything is opened.
 
-ghost use Rattle.std.specs.Prelude.{◌≡◌, ◌++◌, [], IfErr, IfOk, OnOk, map, string_bytes};
-ghost use Rattle.port_words.specs.Matching.{AreMatched, IsWrongWord};
-ghost use Rattle.network_job.specs.Network.{in_names, words_of};
-ghost use Rattle.replay_job.specs.Steps.{IsForbidden, IsPermitted, IsPrepared, IsStopped};
+ghost use Rattle.std.specs.Prelude.{[], IfErr, IfOk, OnOk, map, string_bytes};
+ghost use Rattle.replay_job.specs.Steps.{IsPermitted, IsPrepared, IsStopped};
 
 use crate::naming::names_of_instances;
 use crate::outcome::NotReplayed;

@@ -5,7 +5,6 @@ use Rattle.rvc_io.specs.Feeds.{Inputs}
 use Rattle.rvc_io.specs.MemFeeds.{FeedsState, inputs_of}
 use Rattle.net_model.specs.declared.wiring.End.{End}
 use Rattle.net_model.specs.declared.wiring.End.TheVariants.{Leaf as AtLeaf, Net as AtNet}
-use Rattle.net_model.specs.declared.wiring.Link.{Link}
 use Rattle.net_model.specs.declared.wiring.Wiring.{Wiring}
 use Rattle.net_model.specs.Network.{is_outside}
 use Rattle.round_runner.specs.Running.{count_inputs}

@@ -1,6 +1,6 @@
 //! Feeds in memory for a trace and for a network with few inputs.
 
-ghost use Rattle.std.specs.Prelude.{◌≡◌, IfOk, IfSome};
+ghost use Rattle.std.specs.Prelude.{IfOk, IfSome};
 ghost use Rattle.rvc_io.specs.MemFeeds.{inputs_of};
 ghost use Rattle.replay_rows.specs.Open.{AreFirstOpen, AreOpenFor};
 

@@ -1,6 +1,6 @@
 //! A trace that is replayed over cells that can be run.
 
-ghost use Rattle.std.specs.Prelude.{◌≡◌, map};
+ghost use Rattle.std.specs.Prelude.{map};
 ghost use Rattle.actor_cell.specs.Core.{seen};
 ghost use Rattle.network_runner.specs.Asking.{CanRun};
 ghost use Rattle.replay_rows.specs.Open.{AreOpenFor};

@@ -1,6 +1,6 @@
 //! Traces that are replayed over small networks.
 
-ghost use Rattle.std.specs.Prelude.{◌≡◌, IfOk, map};
+ghost use Rattle.std.specs.Prelude.{IfOk, map};
 ghost use Rattle.actor_cell.specs.Core.{seen};
 ghost use Rattle.network_runner.specs.Asking.{CanRun};
 ghost use Rattle.rvc_io.specs.MemFeeds.{inputs_of};

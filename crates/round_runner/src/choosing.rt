@@ -1,6 +1,6 @@
 //! Which instances a round picks.
 
-ghost use Rattle.std.specs.Prelude.{◌≡◌, ◌+◌, ◌≤◌, ◌<◌, ◌^◌, Bool, true, length, replicate};
+ghost use Rattle.std.specs.Prelude.{◌≡◌, ◌+◌, ◌≤◌, ◌<◌, ◌^◌, true, length};
 ghost use Rattle.net_model.specs.Paced.{count_picked, none_of};
 ghost use Rattle.round_runner.specs.Choosing.{marked};
 

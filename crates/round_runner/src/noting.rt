@@ -1,6 +1,6 @@
 //! Event lines on their way to the trace's channel.
 
-ghost use Rattle.std.specs.Prelude.{◌≡◌, ◌≤◌, true, OnErr, length, map};
+ghost use Rattle.std.specs.Prelude.{◌≡◌, true, OnErr, length};
 ghost use Rattle.rvc_io.specs.Channels.{WriteFails, WritesOnly};
 ghost use Rattle.trace_text.specs.Text.{line_text, IsWhole};
 ghost use Rattle.trace_text.specs.declared.line.Line.TheVariants.{Fire as FireLine};

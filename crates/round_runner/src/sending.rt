@@ -1,6 +1,6 @@
 //! Tokens on their way to the channel of an output.
 
-ghost use Rattle.std.specs.Prelude.{◌≡◌, ◌≤◌, true, OnErr, IfOk, length, slice_get};
+ghost use Rattle.std.specs.Prelude.{◌≡◌, true, OnErr, IfOk, length, slice_get};
 ghost use Rattle.rvc_base.specs.Storing.{IsSize};
 ghost use Rattle.rvc_io.specs.Channels.{WriteFails, WritesOnly};
 ghost use Rattle.net_state.specs.Moving.{IsFromCell};

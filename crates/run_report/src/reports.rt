@@ -1,6 +1,6 @@
 //! The reports of verbs.
 
-ghost use Rattle.std.specs.Prelude.{◌≡◌, ◌++◌, [], true};
+ghost use Rattle.std.specs.Prelude.{◌≡◌, true};
 ghost use Rattle.run_report.specs.About.{about};
 ghost use Rattle.run_report.specs.Puts.{Puts};
 ghost use Rattle.run_report.specs.Report.{certified_line, last_line, report, run_lines, size_lines};

@@ -1,6 +1,6 @@
 //! Cells that are ready to be run.
 
-ghost use Rattle.std.specs.Prelude.{◌≡◌, ◌≤◌, IfOk, IfSome, length, map};
+ghost use Rattle.std.specs.Prelude.{◌≤◌, IfOk, IfSome, length, map};
 ghost use Rattle.std.specs.Arc.{arc_value};
 ghost use Rattle.actor_cell.specs.Core.{seen};
 ghost use Rattle.network_runner.specs.Asking.{CanRun};

@@ -11,7 +11,6 @@ use Rattle.cal_model.specs.Selection.{State}
 use Rattle.net_model.specs.Network.{Leaf as NetLeaf, Network}
 use Rattle.net_model.specs.declared.wiring.Link.{Link}
 use Rattle.fnl_bind.specs.Library.{Entry, network_of}
-use Rattle.fnl_bind.specs.Trees.{bound}
 use Rattle.fnl_bind.specs.Trees as binding
 use Rattle.fnl_flatten.specs.Flat.{IsFlat}
 use Rattle.fnl_flatten.specs.Flattened.{IsRefusal, PassesLimit}

@@ -1,7 +1,6 @@
 //! A network that was compiled.
 
 ghost use Rattle.std.specs.Prelude.{◌≡◌, ◌<◌, Some, length, slice_get};
-ghost use Rattle.std.specs.Arc.{arc_value};
 ghost use Rattle.rvc_engine.specs.Answering.{AnswersAs};
 
 use determinacy_cert::CertFault;

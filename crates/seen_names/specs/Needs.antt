@@ -2,7 +2,7 @@
 -- the bounds of generators, and the functions that are called there.
 -- Trusted but for `AddsTo`, `AddsNeeds`, `with_both`, `with_three`, `with_comp` and the lists of parts as
 -- trees: part of what a promise means.
-use Rattle.std.specs.Prelude.{◌≡◌, ℕ, Bool, true, false, ◌||◌, List, [], ◌∷◌, OnOk, length, map, if◌then◌else◌}
+use Rattle.std.specs.Prelude.{◌≡◌, ℕ, Bool, true, false, List, [], ◌∷◌, OnOk, map, if◌then◌else◌}
 use Rattle.std.specs.declared.result.Result.{Result}
 use Rattle.rvc_base.specs.declared.memory.Memory.{Memory}
 use Rattle.cal_ast.specs.Tree as tree

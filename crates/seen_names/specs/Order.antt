@@ -1,6 +1,6 @@
 -- An order of the functions that are called where something must be constant, and of the names that these use.
 -- Trusted but for `Extends`, `Closes`, `all_seen`, `names_met`, `laid_by`, `laid_at`, `laid_named` and `laid`: part of what a promise means.
-use Rattle.std.specs.Prelude.{◌≡◌, ◌<◌, ◌&&◌, ℕ, Bool, true, false, List, [], ◌∷◌, map, slice_get, Option, None, Some, if◌then◌else◌}
+use Rattle.std.specs.Prelude.{◌≡◌, ◌<◌, ◌&&◌, ℕ, Bool, true, false, List, [], ◌∷◌, slice_get, Option, None, Some, if◌then◌else◌}
 use Rattle.cal_ast.specs.Tree.{Tree}
 use Rattle.cal_model.specs.Actor.{Fun}
 use Rattle.cal_model.specs.Kinding.{Judged, Fine, Broken, Names}

@@ -10,7 +10,7 @@ use Rattle.cal_imports.specs.Whole.{import_edges}
 use Rattle.actor_files.specs.FileNames.{file_of}
 use Rattle.actor_files.specs.FileText.{IsText}
 use Rattle.actor_files.specs.Loading as loading
-use Rattle.actor_files.specs.Loading.{IsLoaded, Library, max_bytes, max_files}
+use Rattle.actor_files.specs.Loading.{Library, max_bytes, max_files}
 use Rattle.actor_files.specs.Reads as reading
 use Rattle.actor_files.specs.Reads.{Request, import_request, import_requests, next_request, requests_from, sources_of}
 use Rattle.fnl_bind.specs.Library.{Entry}

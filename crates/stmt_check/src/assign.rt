@@ -1,7 +1,7 @@
 //! Assignments.
 #![tactic(auto, using(crate::proofs::Judged::breaks_on, crate::proofs::Said::said_none, crate::proofs::Said::said_on, crate::proofs::Said::said_behind))]
 
-ghost use Rattle.std.specs.Prelude.{◌≡◌, ◌++◌, map, string_bytes};
+ghost use Rattle.std.specs.Prelude.{◌++◌, map, string_bytes};
 ghost use Rattle.cal_ast.specs.Tree.{listed};
 ghost use Rattle.cal_ast.specs.View.{expr_tree};
 ghost use Rattle.cal_model.specs.Kinding.{kinds, meant_by};

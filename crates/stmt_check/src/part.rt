@@ -4,8 +4,8 @@
 ghost use Rattle.std.specs.Prelude.{◌≡◌, ◌≤◌, List, length};
 ghost use Rattle.cal_ast.specs.Places.{begins};
 ghost use Rattle.cal_ast.specs.View.{expr_tree, type_tree};
-ghost use Rattle.cal_model.specs.Value.{BoolKind, NumKind};
-ghost use Rattle.cal_model.specs.View.{kind_view, shape_view};
+ghost use Rattle.cal_model.specs.Value.{NumKind};
+ghost use Rattle.cal_model.specs.View.{kind_view};
 ghost use Rattle.const_env.specs.Counting.{names_view};
 ghost use Rattle.const_env.specs.Judging.{Judges};
 ghost use Rattle.cal_check.specs.Constants.{stored_kind};

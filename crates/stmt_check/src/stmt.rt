@@ -1,7 +1,7 @@
 //! Statements, in one cycle. Each call passes over what isn't constant if it is told so.
 #![tactic(auto, using(crate::proofs::Said::said_none, crate::proofs::Said::said_on, crate::proofs::Said::said_behind, crate::proofs::Said::said_next))]
 
-ghost use Rattle.std.specs.Prelude.{◌≡◌, ◌++◌, map, string_bytes};
+ghost use Rattle.std.specs.Prelude.{◌++◌, map, string_bytes};
 ghost use Rattle.cal_ast.specs.Tree.{listed};
 ghost use Rattle.cal_ast.specs.View.{body_tree, expr_tree, stmt_tree, type_tree, var_tree};
 ghost use Rattle.cal_model.specs.Kinding.{counter, with_known};

@@ -1,6 +1,5 @@
 //! The names that expressions and types use, in one cycle.
 
-ghost use Rattle.std.specs.Prelude.{◌≡◌};
 ghost use Rattle.cal_ast.specs.Tree as tree;
 ghost use Rattle.cal_ast.specs.View.{expr_tree, gen_tree, optional_expr, type_arg_tree, type_tree};
 ghost use Rattle.used_names.specs.Naming.{AddsNames, AddsTo, exprs_tree, gens_tree, type_args_tree, with_both, with_three};

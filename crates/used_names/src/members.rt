@@ -1,6 +1,5 @@
 //! The names that members and actors use.
 
-ghost use Rattle.std.specs.Prelude.{◌≡◌};
 ghost use Rattle.cal_ast.specs.View.{action_tree, actor_tree, member_tree, output_tree, param_tree};
 ghost use Rattle.used_names.specs.Naming.{AddsNames, members_tree, outputs_tree, params_tree, patterns_tree};
 

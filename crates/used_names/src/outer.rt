@@ -1,6 +1,5 @@
 //! Declarations of other files.
 
-ghost use Rattle.std.specs.Prelude.{◌≡◌};
 ghost use Rattle.used_names.specs.Naming.{AddsNames};
 ghost use Rattle.used_names.specs.Using.{outer_view};
 

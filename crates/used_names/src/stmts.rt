@@ -1,6 +1,5 @@
 //! The names that statements, variables, functions and procedures use.
 
-ghost use Rattle.std.specs.Prelude.{◌≡◌, string_bytes};
 ghost use Rattle.cal_ast.specs.Tree as tree;
 ghost use Rattle.cal_ast.specs.View.{body_tree, expr_tree, function_tree, ident_tree, procedure_tree, stmt_tree, var_tree};
 ghost use Rattle.used_names.specs.Naming.{AddsNames, assign_tree, exprs_tree, foreach_tree, if_stmt_tree, ports_tree, stmts_tree, vars_tree};

@@ -1,6 +1,6 @@
 //! What an actor uses of other files, directly or indirectly.
 
-ghost use Rattle.std.specs.Prelude.{◌≡◌, ◌++◌, ℕ, [], List, IfOk, OnOk, map};
+ghost use Rattle.std.specs.Prelude.{◌≡◌, ◌++◌, [], List, IfOk, OnOk, map};
 ghost use Rattle.cal_ast.specs.View.{actor_tree};
 ghost use Rattle.cal_check.specs.Actors.{Outer, Source};
 ghost use Rattle.used_names.specs.Using.{IsFound, IsSettled, IsSourceOf, Keeps, keeps, outer_view, round_left, round_names, visited_left, visited_names, with_outers};

@@ -1,4 +1,4 @@
-use Rattle.std.proofs.Common.{◌≡◌, [], map, subst, ◌∙◌}
+use Rattle.std.proofs.Common.{◌≡◌, [], map, subst}
 use Rattle.cal_model.specs.View.{proc_view}
 use Rattle.const_env.specs.Counting.{names_view}
 use Rattle.given_values.specs.Causes.{IsCause}

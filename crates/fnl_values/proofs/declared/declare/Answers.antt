@@ -5,7 +5,7 @@ use Rattle.cal_check.specs.Constants.{early_type}
 use Rattle.cal_check.specs.Variables.{come, held_if, value_of}
 use Rattle.cal_model.specs.Kinding.{Fine}
 use Rattle.cal_model.specs.View.{shape_view, value_view}
-use Rattle.const_env.specs.Held.{globals_of, names_in}
+use Rattle.const_env.specs.Held.{globals_of}
 use Rattle.const_env.specs.Judging.{Breaks}
 use Rattle.fnl_bind.specs.Library.{var_decl}
 use Rattle.fnl_frames.specs.Views.{decl_of}

@@ -1,4 +1,4 @@
-use Rattle.std.proofs.Common.{◌≡◌, subst}
+use Rattle.std.proofs.Common.{subst}
 use Rattle.fnl_values.proofs.Faults.{found_of}
 use Rattle.fnl_values.specs.Causes.{Refuses}
 use Rattle.fnl_values.proofs.fault.in_file.Goals as goal

@@ -1,4 +1,4 @@
-use Rattle.std.proofs.Common.{◌≡◌, ℕ, Err, sym, ap, subst, ◌∙◌, rules}
+use Rattle.std.proofs.Common.{◌≡◌, Err, sym, ap, subst, ◌∙◌, rules}
 use Rattle.cal_ast.specs.Places.{begins}
 use Rattle.cal_ast.specs.View.{expr_tree}
 use Rattle.cal_model.specs.Kinding.{and_so, constant}

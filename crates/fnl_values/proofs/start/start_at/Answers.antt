@@ -6,7 +6,7 @@ use Rattle.cal_check.specs.Constants.{early_kind}
 use Rattle.cal_check.specs.Variables.{come}
 use Rattle.cal_model.specs.Kinding.{Fine}
 use Rattle.cal_model.specs.Value.{HasKind, kind_of_type, stored}
-use Rattle.cal_model.specs.View.{kind_view, shape_view, value_view}
+use Rattle.cal_model.specs.View.{shape_view, value_view}
 use Rattle.cal_model.proofs.KindValues.{stored-has-kind}
 use Rattle.const_env.specs.Held.{names_in}
 use Rattle.fnl_values.proofs.Starts.{start_fault, start_gives}

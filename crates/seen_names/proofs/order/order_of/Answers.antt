@@ -1,4 +1,4 @@
-use Rattle.std.proofs.Common.{◌≡◌, true, ap, subst, sym, ◌∙◌, rules}
+use Rattle.std.proofs.Common.{◌≡◌, true, subst, rules}
 use Rattle.seen_names.specs.Known.{fun_decls}
 use Rattle.seen_names.specs.Needs.{needs_of}
 use Rattle.seen_names.specs.Order.{Extends, all_seen}

@@ -1,6 +1,5 @@
 use Rattle.seen_names.specs.Known.{fun_decls}
-use Rattle.seen_names.specs.Order.{Extends}
-use Rattle.seen_names.proofs.Visiting.{extends_same, extends_then}
+use Rattle.seen_names.proofs.Visiting.{extends_then}
 use Rattle.seen_names.proofs.order.visit.Goals as goal
 
 pub returns-in_default-clause-extends : goal.returns-in_default-clause-extends
