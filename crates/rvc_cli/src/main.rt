@@ -1,6 +1,9 @@
 //! The program `rvc`: its words, the files of the system, and the top call.
 #![tactic(auto)]
 
+#[cfg(test)]
+mod rows;
+
 use rvc_io::OpenGate;
 use rvc_real::{FileDrains, FileFeeds, FolderLibrary};
 use rvc_top::rvc;

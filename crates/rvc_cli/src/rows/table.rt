@@ -6,7 +6,7 @@
 //! of a call, and the read of a file, the call to the feeds and the call to the channels that fails. ` < ` stands before
 //! the trace that is under the name `t`, in which `/` ends each line.
 
-use crate::running::hold_left;
+use crate::rows::running::hold_left;
 use run_objects::{Row, cut};
 use std::alloc::Global;
 use std::process::Abort;

@@ -1,6 +1,6 @@
 //! Traces that are replayed, and what each is told to be.
 
-use crate::table::{STEPS, hold};
+use crate::rows::table::{STEPS, hold};
 
 #[test]
 fn traces_are_told_from_those_of_no_run(rt: HostRuntime) {

@@ -1,8 +1,8 @@
 //! The smallest source of each rule, checked: what breaks it, and the place that the report names. docs/RULES.md has
 //! the same sources.
 
-use crate::running::hold_left;
-use crate::table::hold;
+use crate::rows::running::hold_left;
+use crate::rows::table::hold;
 use run_objects::Row;
 
 #[test]

@@ -1,6 +1,6 @@
 //! Runs: their outputs, traces, reports and statuses, what faults leave, and networks that are generated.
 
-use crate::table::{STEPS, hold};
+use crate::rows::table::{STEPS, hold};
 
 #[test]
 fn runs_leave_their_trace_and_output(rt: HostRuntime) {

@@ -1,7 +1,7 @@
 //! Sources with what the check of them reports: the numbers of the network that they mean, or the rule that they break and
 //! where.
 
-use crate::table::hold;
+use crate::rows::table::hold;
 
 #[test]
 fn sources_are_checked(rt: HostRuntime) {

@@ -1,6 +1,6 @@
 //! Commands of all verbs: what is no job, what is refused, and what checks, prints and certifies.
 
-use crate::table::{STEPS, hold};
+use crate::rows::table::{STEPS, hold};
 
 #[test]
 fn words_that_are_no_job_are_usage(rt: HostRuntime) {
