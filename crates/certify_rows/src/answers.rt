@@ -1,10 +1,10 @@
 //! One way from the texts of two guards to the answer as text.
 
-use crate::{Sort, Takes, example, sort_of};
 use cal_ast::{Body, Expr, File, Member, VarDecl};
 use cal_lexer::lex;
 use cal_parser::parse_file;
 use determinacy_cert::{CertFault, certify};
+use guarded_actors::{Sort, Takes, example, sort_of};
 use rvc_base::Front;
 use std::alloc::Global;
 use std::test::Fail;

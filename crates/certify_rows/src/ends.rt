@@ -2,8 +2,8 @@
 //! numbers below 0, the least number of the language is left, and nothing more may be taken away; and so with the
 //! greatest.
 
-use crate::Takes;
 use crate::answers::answer;
+use guarded_actors::Takes;
 use rvc_base::Num;
 use std::alloc::Global;
 use std::test::Fail;

@@ -1,7 +1,7 @@
 //! Guards by themselves.
 
-use crate::Takes;
 use crate::answers::answer;
+use guarded_actors::Takes;
 use std::test::Fail;
 
 /// What the action takes, its guard, and the answer. Another action without a guard is below it, and takes the same.

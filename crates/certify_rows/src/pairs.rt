@@ -1,7 +1,7 @@
 //! Pairs of actions.
 
-use crate::Takes;
 use crate::answers::answer;
+use guarded_actors::Takes;
 use std::test::Fail;
 
 /// Two guards of actions that take the same token, and whether they exclude each other.

@@ -8,10 +8,10 @@ use Rattle.cal_ast.specs.declared.expr.BinOp.{BinOp}
 use Rattle.cal_ast.specs.declared.expr.BinOp.TheVariants.{Or, And, Eq, Ne, Lt, Le, Gt, Ge}
 use Rattle.cal_ast.specs.Tree as tree
 use Rattle.cal_ast.specs.Tree.{Tree}
-use Rattle.certify_rows.specs.declared.actors.Takes.{Takes}
-use Rattle.certify_rows.specs.declared.actors.Takes.TheVariants.{One, Two, Other, Four}
-use Rattle.certify_rows.specs.declared.sorting.Sort.{Sort}
-use Rattle.certify_rows.specs.declared.sorting.Sort.TheVariants.{Number, Truth, Unfit}
+use Rattle.guarded_actors.specs.declared.actors.Takes.{Takes}
+use Rattle.guarded_actors.specs.declared.actors.Takes.TheVariants.{One, Two, Other, Four}
+use Rattle.guarded_actors.specs.declared.sorting.Sort.{Sort}
+use Rattle.guarded_actors.specs.declared.sorting.Sort.TheVariants.{Number, Truth, Unfit}
 
 abbrev pub token : Bool → Sort
 token true = Number

@@ -6,8 +6,8 @@ use Rattle.cal_ast.specs.Tree as tree
 use Rattle.cal_ast.specs.Tree.{Tree}
 use Rattle.cal_model.specs.Value.{Single, Num}
 use Rattle.cal_model.specs.Actor.{Port, Held, Fun, Pattern, Action, Actor}
-use Rattle.certify_rows.specs.declared.actors.Takes.{Takes}
-use Rattle.certify_rows.specs.declared.actors.Takes.TheVariants.{One, Two, Other, Four}
+use Rattle.guarded_actors.specs.declared.actors.Takes.{Takes}
+use Rattle.guarded_actors.specs.declared.actors.Takes.TheVariants.{One, Two, Other, Four}
 
 -- A:[v], A:[v, d], B:[v], or A:[t] repeat 4
 abbrev pub taken : Takes → Pattern

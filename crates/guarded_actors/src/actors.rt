@@ -4,9 +4,9 @@ ghost use Rattle.std.specs.Prelude.{◌≡◌, IfOk, map, string_bytes};
 ghost use Rattle.cal_ast.specs.View.{expr_tree};
 ghost use Rattle.cal_model.specs.Sound.{IsSound};
 ghost use Rattle.cal_model.specs.View.{action_view, actor_of, fun_view, pattern_view, port_view, var_view};
-ghost use Rattle.certify_rows.specs.Examples.{acting, always, example, inlet, inlets, ranks, state, taken};
-ghost use Rattle.certify_rows.specs.Sorts.{sort};
-ghost use Rattle.certify_rows.specs.declared.sorting.Sort.TheVariants.{Truth};
+ghost use Rattle.guarded_actors.specs.Examples.{acting, always, example, inlet, inlets, ranks, state, taken};
+ghost use Rattle.guarded_actors.specs.Sorts.{sort};
+ghost use Rattle.guarded_actors.specs.declared.sorting.Sort.TheVariants.{Truth};
 
 use cal_ast::{Expr, ExprForm};
 use cal_model::{Bound, BoundAction, BoundFun, BoundPattern, BoundVar, Port, Shape, Value};

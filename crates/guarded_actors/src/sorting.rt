@@ -3,7 +3,7 @@
 ghost use Rattle.std.specs.Prelude.{◌≡◌, map};
 ghost use Rattle.cal_ast.specs.Tree.{listed};
 ghost use Rattle.cal_ast.specs.View.{expr_tree};
-ghost use Rattle.certify_rows.specs.Sorts.{alike, both, branches, called, is_list, is_nil, item, named, of_numbers, of_truths, prefixed, sort, token};
+ghost use Rattle.guarded_actors.specs.Sorts.{alike, both, branches, called, is_list, is_nil, item, named, of_numbers, of_truths, prefixed, sort, token};
 
 use crate::actors::Takes;
 use cal_ast::{BinOp, Expr, ExprForm, PrefixOp};

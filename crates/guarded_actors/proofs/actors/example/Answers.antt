@@ -1,9 +1,9 @@
 use Rattle.std.proofs.Common.{sym, subst}
 use Rattle.cal_ast.specs.View.{expr_tree}
 use Rattle.cal_model.specs.Sound.{IsSound}
-use Rattle.certify_rows.proofs.Sorted.{is_guard}
-use Rattle.certify_rows.proofs.SoundExamples.{example_is_sound}
-use Rattle.certify_rows.proofs.actors.example.Goals as goal
+use Rattle.guarded_actors.proofs.Sorted.{is_guard}
+use Rattle.guarded_actors.proofs.SoundExamples.{example_is_sound}
+use Rattle.guarded_actors.proofs.actors.example.Goals as goal
 
 pub returns-clause-sound : goal.returns-clause-sound
 returns-clause-sound c =

@@ -12,12 +12,12 @@ use Rattle.cal_ast.specs.Tree.{Tree}
 use Rattle.cal_model.specs.Value.{Kind, NumKind, BoolKind, ListKind}
 use Rattle.cal_model.specs.Kinding.{Names, Fine, and_so, kind, prefix_kind, binary_kind, item_kind, branch_kind}
 use Rattle.cal_model.specs.Sound.{IsPlain, HidesNoCall, names_of, with_patterns}
-use Rattle.certify_rows.specs.declared.actors.Takes.{Takes}
-use Rattle.certify_rows.specs.declared.actors.Takes.TheVariants.{One, Two, Other, Four}
-use Rattle.certify_rows.specs.declared.sorting.Sort.{Sort}
-use Rattle.certify_rows.specs.declared.sorting.Sort.TheVariants.{Number, Truth, Unfit}
-use Rattle.certify_rows.specs.Examples.{taken, of_actions}
-use Rattle.certify_rows.specs.Sorts.{both, branches, is_list, is_nil, item, of_numbers, of_truths, prefixed, is_token, sort, token}
+use Rattle.guarded_actors.specs.declared.actors.Takes.{Takes}
+use Rattle.guarded_actors.specs.declared.actors.Takes.TheVariants.{One, Two, Other, Four}
+use Rattle.guarded_actors.specs.declared.sorting.Sort.{Sort}
+use Rattle.guarded_actors.specs.declared.sorting.Sort.TheVariants.{Number, Truth, Unfit}
+use Rattle.guarded_actors.specs.Examples.{taken, of_actions}
+use Rattle.guarded_actors.specs.Sorts.{both, branches, is_list, is_nil, item, of_numbers, of_truths, prefixed, is_token, sort, token}
 
 -- the names that the guard of an action sees
 abbrev pub scope : Takes → Names

@@ -8,10 +8,10 @@ use Rattle.cal_model.specs.Value.{BoolKind}
 use Rattle.cal_model.specs.Actor.{Action}
 use Rattle.cal_model.specs.Rates.{need, give, taken_on}
 use Rattle.cal_model.specs.Sound.{IsSound, IsAction, ActionHidesNoCall, AreDistinct, AreTagged, IsRepeat, Each, names_in_patterns}
-use Rattle.certify_rows.specs.declared.actors.Takes.{Takes}
-use Rattle.certify_rows.specs.declared.actors.Takes.TheVariants.{One, Two, Other, Four}
-use Rattle.certify_rows.specs.Examples.{acting, example, inlets, of_actions, ranks, taken}
-use Rattle.certify_rows.proofs.Sorted.{IsPart}
+use Rattle.guarded_actors.specs.declared.actors.Takes.{Takes}
+use Rattle.guarded_actors.specs.declared.actors.Takes.TheVariants.{One, Two, Other, Four}
+use Rattle.guarded_actors.specs.Examples.{acting, example, inlets, of_actions, ranks, taken}
+use Rattle.guarded_actors.proofs.Sorted.{IsPart}
 
 -- ---- lists of few elements
 
