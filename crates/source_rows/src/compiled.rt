@@ -173,23 +173,23 @@ actor Deep() uint(size=8) In ==> uint(size=8) Out :
 = fires 0, sends 0, traps in 0 by TurnLimit, 1 left";
 
 #[test]
-fn actions_fire(rt: HostRuntime) -> Result<(), Fail> {
-    hold(&rt, rt.alloc(), ACTIONS)
+fn actions_fire(rt: HostRuntime) {
+    hold(&rt, rt.alloc(), ACTIONS);
 }
 
 #[test]
-fn guards_call_functions(rt: HostRuntime) -> Result<(), Fail> {
-    hold(&rt, rt.alloc(), CALLS)
+fn guards_call_functions(rt: HostRuntime) {
+    hold(&rt, rt.alloc(), CALLS);
 }
 
 #[test]
-fn any_list_is_indexed(rt: HostRuntime) -> Result<(), Fail> {
-    hold(&rt, rt.alloc(), LISTS)
+fn any_list_is_indexed(rt: HostRuntime) {
+    hold(&rt, rt.alloc(), LISTS);
 }
 
 #[test]
-fn turns_run_out(rt: HostRuntime) -> Result<(), Fail> {
-    hold(&rt, rt.alloc(), TURNS)
+fn turns_run_out(rt: HostRuntime) {
+    hold(&rt, rt.alloc(), TURNS);
 }
 
 #[test]
@@ -280,6 +280,6 @@ actor Whole() uint(size=8) In ==> uint(size=8) Out :
 = fires 0, sends 1 3 3 4, waits, 0 left";
 
 #[test]
-fn lists_are_stored_in_lists(rt: HostRuntime) -> Result<(), Fail> {
-    hold(&rt, rt.alloc(), STORES)
+fn lists_are_stored_in_lists(rt: HostRuntime) {
+    hold(&rt, rt.alloc(), STORES);
 }

@@ -4,7 +4,6 @@ use built_actors::code_of;
 use cell_texts::fire;
 use std::alloc::Global;
 use std::process::Abort;
-use std::test::Fail;
 
 /// What comes before a mark, and what comes behind it.
 fn cut<'a>(text: &'a str, mark: &str) -> (&'a str, &'a str) {
@@ -12,30 +11,28 @@ fn cut<'a>(text: &'a str, mark: &str) -> (&'a str, &'a str) {
 }
 
 /// What the cell of a source's actor does with tokens; those of two ports have a semicolon between them.
-fn answer(alloc: Global, source: &str, tokens: &str) -> Result<String, Fail> {
-    let Some(code) = code_of(alloc, source)? else {
-        return Ok(String::from_str(alloc, "is refused")?);
-    };
-    Ok(fire(alloc, code, tokens)?)
+fn answer(rt: &impl Abort, alloc: Global, source: &str, tokens: &str) -> String {
+    match code_of(alloc, source).expect(rt, "an actor") {
+        None => String::from_str(alloc, "is refused").expect(rt, "a text"),
+        Some(code) => fire(alloc, code, tokens).expect(rt, "a text"),
+    }
 }
 
 /// Stops unless the cell of a row does what is told.
-fn hold_row(rt: &impl Abort, alloc: Global, row: &str) -> Result<(), Fail> {
+fn hold_row(rt: &impl Abort, alloc: Global, row: &str) {
     let (_, row) = cut(row, "\n");
     let (source, rest) = cut(row, "\n> ");
     let (tokens, want) = cut(rest, "\n= ");
-    let found = answer(alloc, source, tokens)?;
+    let found = answer(rt, alloc, source, tokens);
     assert!(rt; found.as_str() == want, "{source}: {found}");
-    Ok(())
 }
 
 /// Stops unless all cells do what is told. A table is one text: each row begins with `# ` and what it shows, and has a
 /// source, a line `> ` with the tokens, and a line `= ` with what comes of them.
-pub(crate) fn hold(rt: &impl Abort, alloc: Global, table: &str) -> Result<(), Fail> {
+pub(crate) fn hold(rt: &impl Abort, alloc: Global, table: &str) {
     for row in table.split("\n# ") {
         if !row.is_empty() {
-            hold_row(rt, alloc, row)?;
+            hold_row(rt, alloc, row);
         }
     }
-    Ok(())
 }
