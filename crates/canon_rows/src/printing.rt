@@ -5,10 +5,9 @@ use cal_ast::File;
 use cal_lexer::lex;
 use cal_parser::parse_file;
 use cal_print::print_file;
-use rvc_base::Front;
-use std::alloc::Global;
+use rvc_base::{Front, Memory};
+use std::alloc::{AllocError, Global};
 use std::process::Abort;
-use std::test::Fail;
 
 /// What stands before and behind the text of a row, in the source and in its canonical text.
 #[derive(Clone, Copy)]
@@ -29,19 +28,19 @@ fn parsed(alloc: Global, text: &[u8]) -> Result<File, Front> {
 }
 
 /// The canonical text of a text.
-fn canon(alloc: Global, text: &[u8]) -> Result<Vec<u8>, Fail> {
-    let tree = parsed(alloc, text)?;
-    Ok(print_file(alloc, &tree)?)
+fn canon(rt: &impl Abort, alloc: Global, text: &[u8]) -> Vec<u8> {
+    let tree = parsed(alloc, text).expect(rt, "a tree");
+    print_file(alloc, &tree).expect(rt, "a text")
 }
 
 /// The tree of a text as Debug prints it.
-fn shown(alloc: Global, text: &[u8]) -> Result<String, Fail> {
-    let tree = parsed(alloc, text)?;
-    Ok(format!(in alloc; "{tree:?}")?)
+fn shown(rt: &impl Abort, alloc: Global, text: &[u8]) -> String {
+    let tree = parsed(alloc, text).expect(rt, "a tree");
+    format!(in alloc; "{tree:?}").expect(rt, "a text")
 }
 
 /// The bytes of a tree that is shown, without its offsets.
-fn without_offsets(alloc: Global, shown: &[u8]) -> Result<Vec<u8>, Fail> {
+fn without_offsets(alloc: Global, shown: &[u8]) -> Result<Vec<u8>, Memory> {
     let mut kept = Vec::new(alloc);
     let mut in_offset = false;
     for &byte in shown {
@@ -54,61 +53,57 @@ fn without_offsets(alloc: Global, shown: &[u8]) -> Result<Vec<u8>, Fail> {
 }
 
 /// The tree of a text, ignoring offsets.
-fn tree(alloc: Global, text: &[u8]) -> Result<Vec<u8>, Fail> {
-    let shown = shown(alloc, text)?;
-    without_offsets(alloc, shown.as_bytes())
+fn tree(rt: &impl Abort, alloc: Global, text: &[u8]) -> Vec<u8> {
+    let shown = shown(rt, alloc, text);
+    without_offsets(alloc, shown.as_bytes()).expect(rt, "a text")
 }
 
 /// Whether two texts spell the same tree, ignoring offsets.
-fn same_tree(alloc: Global, text: &[u8], other: &[u8]) -> Result<bool, Fail> {
-    let first = tree(alloc, text)?;
-    Ok(first.as_slice() == tree(alloc, other)?.as_slice())
+fn same_tree(rt: &impl Abort, alloc: Global, text: &[u8], other: &[u8]) -> bool {
+    tree(rt, alloc, text).as_slice() == tree(rt, alloc, other).as_slice()
 }
 
 /// Whether the canonical text of `source` is `expected`, which is the canonical text of itself and spells the same
 /// tree.
-fn has_canon(alloc: Global, source: &[u8], expected: &[u8]) -> Result<bool, Fail> {
-    Ok(
-        canon(alloc, source)?.as_slice() == expected
-            && canon(alloc, expected)?.as_slice() == expected
-            && same_tree(alloc, source, expected)?,
-    )
+fn has_canon(rt: &impl Abort, alloc: Global, source: &[u8], expected: &[u8]) -> bool {
+    canon(rt, alloc, source).as_slice() == expected
+        && canon(rt, alloc, expected).as_slice() == expected
+        && same_tree(rt, alloc, source, expected)
 }
 
 /// A text within what stands before and behind it.
-fn within(alloc: Global, before: &str, text: &str, behind: &str) -> Result<String, Fail> {
-    Ok(format!(in alloc; "{before}{text}{behind}")?)
+fn within(alloc: Global, before: &str, text: &str, behind: &str) -> Result<String, AllocError> {
+    format!(in alloc; "{before}{text}{behind}")
 }
 
 /// Stops unless a text has its canonical text.
-fn hold_row(rt: &impl Abort, alloc: Global, frame: &Frame, row: &str) -> Result<(), Fail> {
+fn hold_row(rt: &impl Abort, alloc: Global, frame: &Frame, row: &str) {
     let (text, expected) = answered(row);
-    let source = within(alloc, frame.before, text, frame.behind)?;
-    let canon = within(alloc, frame.canon_before, expected, frame.canon_behind)?;
-    let holds = has_canon(alloc, source.as_bytes(), canon.as_bytes())?;
+    let source = within(alloc, frame.before, text, frame.behind).expect(rt, "a text");
+    let canon = within(alloc, frame.canon_before, expected, frame.canon_behind);
+    let canon = canon.expect(rt, "a text");
+    let holds = has_canon(rt, alloc, source.as_bytes(), canon.as_bytes());
     assert!(rt; holds, "{text}");
-    Ok(())
 }
 
 /// Stops at the first text of a table that has another canonical text.
-fn hold(rt: &impl Abort, alloc: Global, frame: &Frame, table: &str) -> Result<(), Fail> {
+fn hold(rt: &impl Abort, alloc: Global, frame: &Frame, table: &str) {
     for row in table.split("\n# ") {
         if !row.is_empty() {
-            hold_row(rt, alloc, frame, row)?;
+            hold_row(rt, alloc, frame, row);
         }
     }
-    Ok(())
 }
 
 #[test]
-fn files(rt: HostRuntime) -> Result<(), Fail> {
+fn files(rt: HostRuntime) {
     let frame = Frame {
         before: "",
         behind: "",
         canon_before: "",
         canon_behind: "",
     };
-    hold(&rt, rt.alloc(), &frame, FILES)
+    hold(&rt, rt.alloc(), &frame, FILES);
 }
 
 /// Whole files.
@@ -131,14 +126,14 @@ const FILES: &str = "
 = package p ;\nactor A ( int K = 1 + 2 , bool b ) int X , int Y ==> int Z , bool W : end\n";
 
 #[test]
-fn expressions(rt: HostRuntime) -> Result<(), Fail> {
+fn expressions(rt: HostRuntime) {
     let frame = Frame {
         before: "unit U : int X = ",
         behind: "; end",
         canon_before: "unit U : int X = ",
         canon_behind: " ;\nend\n",
     };
-    hold(&rt, rt.alloc(), &frame, EXPRS)
+    hold(&rt, rt.alloc(), &frame, EXPRS);
 }
 
 /// Starts of a constant: literals, calls and lists, operators, parentheses.
@@ -257,14 +252,14 @@ const EXPRS: &str = "
 = ( if a then b else c end\n) [ i ]";
 
 #[test]
-fn statements(rt: HostRuntime) -> Result<(), Fail> {
+fn statements(rt: HostRuntime) {
     let frame = Frame {
         before: "actor A() ==> : procedure p() begin ",
         behind: " end end",
         canon_before: "actor A ( ) ==> : procedure p ( ) begin ",
         canon_behind: "end\nend\n",
     };
-    hold(&rt, rt.alloc(), &frame, STMTS)
+    hold(&rt, rt.alloc(), &frame, STMTS);
 }
 
 /// Statements of a procedure.
@@ -293,14 +288,14 @@ const STMTS: &str = "
 = begin var int x := 1 , bool b do p ( ) ;\nend\n";
 
 #[test]
-fn members(rt: HostRuntime) -> Result<(), Fail> {
+fn members(rt: HostRuntime) {
     let frame = Frame {
         before: "actor A() ==> : ",
         behind: " end",
         canon_before: "actor A ( ) ==> : ",
         canon_behind: "end\n",
     };
-    hold(&rt, rt.alloc(), &frame, MEMBERS)
+    hold(&rt, rt.alloc(), &frame, MEMBERS);
 }
 
 /// Members of an actor: functions and procedures, actions, schedules and priorities.

@@ -5,7 +5,7 @@ use crate::rows::{Asked, hold};
 use cal_model::{Value, Values};
 use const_eval::{Env, is_counted};
 use std::alloc::{AllocError, Global};
-use std::test::Fail;
+use std::process::Abort;
 
 /// Whether one of two names is there.
 fn has_either(env: &Env) -> bool {
@@ -18,32 +18,31 @@ fn has_both(env: &Env) -> bool {
 }
 
 /// Whether names are there once they are added, and not before.
-fn become_known(env: &mut Env, a: Global) -> Result<bool, Fail> {
+fn become_known(rt: &impl Abort, env: &mut Env, a: Global) -> bool {
     if has_either(env) {
-        return Ok(false);
+        return false;
     }
-    add_words(env, a, "a f()=1")?;
-    Ok(has_both(env))
+    add_words(rt, env, a, "a f()=1");
+    has_both(env)
 }
 
-fn are_known(a: Global) -> Result<bool, Fail> {
+fn are_known(rt: &impl Abort, a: Global) -> bool {
     let mut env = Env::new(a);
-    become_known(&mut env, a)
+    become_known(rt, &mut env, a)
 }
 
 #[test]
-fn names_that_are_there(rt: HostRuntime) -> Result<(), Fail> {
-    assert!(rt; are_known(rt.alloc())?);
-    Ok(())
+fn names_that_are_there(rt: HostRuntime) {
+    assert!(rt; are_known(&rt, rt.alloc()));
 }
 
 #[test]
-fn a_function_of_a_constant(rt: HostRuntime) -> Result<(), Fail> {
-    hold(&rt, rt.alloc(), "a f(x)=x+1", Asked::Value, "\n# f(a)\n= 3")
+fn a_function_of_a_constant(rt: HostRuntime) {
+    hold(&rt, rt.alloc(), "a f(x)=x+1", Asked::Value, "\n# f(a)\n= 3");
 }
 
 #[test]
-fn locals_and_results_are_stored(rt: HostRuntime) -> Result<(), Fail> {
+fn locals_and_results_are_stored(rt: HostRuntime) {
     // 200 is -56, -56 + 100 is 44, and 44 modulo 16 is 12
     hold(
         &rt,
@@ -51,18 +50,18 @@ fn locals_and_results_are_stored(rt: HostRuntime) -> Result<(), Fail> {
         "g(x)=y+z",
         Asked::Value,
         "\n# g(200)\n= 12",
-    )
+    );
 }
 
 #[test]
-fn a_function_without_arguments(rt: HostRuntime) -> Result<(), Fail> {
+fn a_function_without_arguments(rt: HostRuntime) {
     hold(
         &rt,
         rt.alloc(),
         "seven()=7",
         Asked::Value,
         "\n# seven()\n= 7",
-    )
+    );
 }
 
 /// Whether the length of each list in a value is counted.
@@ -76,10 +75,9 @@ fn list_of_a_list(a: Global) -> Result<Value, AllocError> {
 }
 
 #[test]
-fn short_lists_are_counted(rt: HostRuntime) -> Result<(), Fail> {
+fn short_lists_are_counted(rt: HostRuntime) {
     let a = rt.alloc();
     assert!(rt; counts(Value::Num(-1)));
     assert!(rt; counts(Value::List(Values { items: Vec::new(a) })));
-    assert!(rt; counts(list_of_a_list(a)?));
-    Ok(())
+    assert!(rt; counts(list_of_a_list(a).expect(&rt, "a list")));
 }

@@ -1,11 +1,10 @@
 //! The kinds of expressions over constants and functions, or the first rule that one breaks, with its place.
 
 use crate::rows::{Asked, hold};
-use std::test::Fail;
 
 #[test]
-fn kinds(rt: HostRuntime) -> Result<(), Fail> {
-    hold(&rt, rt.alloc(), "n l", Asked::Kind, KINDS)
+fn kinds(rt: HostRuntime) {
+    hold(&rt, rt.alloc(), "n l", Asked::Kind, KINDS);
 }
 
 /// Expressions over the constants `n` and `l`.
@@ -106,8 +105,8 @@ const KINDS: &str = "
 = Z4 at 9";
 
 #[test]
-fn calls(rt: HostRuntime) -> Result<(), Fail> {
-    hold(&rt, rt.alloc(), "f(x)=true", Asked::Kind, CALLS)
+fn calls(rt: HostRuntime) {
+    hold(&rt, rt.alloc(), "f(x)=true", Asked::Kind, CALLS);
 }
 
 /// Expressions over the function `f` of a number.
@@ -124,8 +123,8 @@ const CALLS: &str = "
 = S1 at 8";
 
 #[test]
-fn generators_hide_constants(rt: HostRuntime) -> Result<(), Fail> {
-    hold(&rt, rt.alloc(), "f()=n n", Asked::Kind, HIDDEN)
+fn generators_hide_constants(rt: HostRuntime) {
+    hold(&rt, rt.alloc(), "f()=n n", Asked::Kind, HIDDEN);
 }
 
 /// Generators over the constant `n`, which the function `f` gives too.

@@ -11,7 +11,7 @@ use cal_model::{BoundFun, BoundLocal, Shape, Value, Values};
 use const_eval::{Env, is_counted};
 use rvc_base::Scalar;
 use std::alloc::{AllocError, Global};
-use std::test::Fail;
+use std::process::Abort;
 
 const INT: Scalar = Scalar::Int(32);
 
@@ -44,11 +44,10 @@ fn number(a: Global, kind: Scalar) -> Result<Vec<BoundLocal>, AllocError>
     Ok(formals)
 }
 
-/// The locals `y`, which is a number `x` and 100, and `z`, of eight bits.
-fn locals(a: Global) -> Result<Vec<BoundLocal>, Fail>
+/// The locals `y`, which starts so, and `z`, of eight bits.
+fn locals(a: Global, start: Expr) -> Result<Vec<BoundLocal>, AllocError>
     ensures { IfOk result (λ xs. are_sized (map local_view xs.items) ≡ true) }
 {
-    let start = expression(a, "x + 100")?;
     let y = local(a, "y", Scalar::Int(8), Some(start))?;
     let mut locals = Vec::new(a);
     locals.push(y)?;
@@ -58,58 +57,57 @@ fn locals(a: Global) -> Result<Vec<BoundLocal>, Fail>
 
 /// A function.
 fn function(
+    rt: &impl Abort,
     a: Global,
     name: &str,
     formals: Vec<BoundLocal>,
     locals: Vec<BoundLocal>,
     gives: Scalar,
     body: &str,
-) -> Result<BoundFun, Fail>
+) -> BoundFun
     requires formals { are_sized (map local_view formals.items) ≡ true }
     requires locals { are_sized (map local_view locals.items) ≡ true }
     requires gives { is_size gives ≡ true }
-    ensures { IfOk result (λ fun. is_sized_fun (fun_view fun) ≡ true) }
+    ensures { is_sized_fun (fun_view result) ≡ true }
 {
-    Ok(BoundFun {
-        name: String::from_str(a, name)?,
+    BoundFun {
+        name: String::from_str(a, name).expect(rt, "a name"),
         formals,
         locals,
         result: gives,
-        body: expression(a, body)?,
-    })
+        body: expression(rt, a, body),
+    }
 }
 
 /// Adds a function of a name that no function has.
-fn add(env: &mut Env, fun: BoundFun) -> Result<(), Fail>
+fn add(rt: &impl Abort, env: &mut Env, fun: BoundFun)
     requires { is_sized_fun (fun_view fun) ≡ true }
 {
-    if env.has_fun(fun.name.as_str()) {
-        return Err(Fail::from("a second function of a name"));
-    }
-    env.add_fun(fun)?;
-    Ok(())
+    assert!(rt; !env.has_fun(fun.name.as_str()));
+    env.add_fun(fun).expect(rt, "a function");
 }
 
 /// Adds a function without arguments.
-fn add_constant(env: &mut Env, a: Global, name: &str, body: &str) -> Result<(), Fail> {
-    let fun = function(a, name, none(a), none(a), INT, body)?;
-    add(env, fun)
+fn add_constant(rt: &impl Abort, env: &mut Env, a: Global, name: &str, body: &str) {
+    let fun = function(rt, a, name, none(a), none(a), INT, body);
+    add(rt, env, fun);
 }
 
 /// Adds a function `f` of a number `x`.
-fn add_of_number(env: &mut Env, a: Global, gives: Scalar, body: &str) -> Result<(), Fail>
+fn add_of_number(rt: &impl Abort, env: &mut Env, a: Global, gives: Scalar, body: &str)
     requires { is_size gives ≡ true }
 {
-    let fun = function(a, "f", number(a, INT)?, none(a), gives, body)?;
-    add(env, fun)
+    let formals = number(a, INT).expect(rt, "a formal");
+    let fun = function(rt, a, "f", formals, none(a), gives, body);
+    add(rt, env, fun);
 }
 
-/// Adds a function `g` of a number of eight bits, with locals.
-fn add_with_locals(env: &mut Env, a: Global) -> Result<(), Fail> {
-    let formals = number(a, Scalar::Int(8))?;
-    let locals = locals(a)?;
-    let fun = function(a, "g", formals, locals, Scalar::Uint(4), "y + z")?;
-    add(env, fun)
+/// Adds a function `g` of a number `x` of eight bits, with locals of which the first is `x` and 100.
+fn add_with_locals(rt: &impl Abort, env: &mut Env, a: Global) {
+    let formals = number(a, Scalar::Int(8)).expect(rt, "a formal");
+    let locals = locals(a, expression(rt, a, "x + 100")).expect(rt, "locals");
+    let fun = function(rt, a, "g", formals, locals, Scalar::Uint(4), "y + z");
+    add(rt, env, fun);
 }
 
 /// A list of one value.
@@ -128,35 +126,32 @@ fn truths(a: Global) -> Result<Value, AllocError> {
 }
 
 /// Adds a list.
-fn add_list(env: &mut Env, name: &str, list: Value) -> Result<(), Fail> {
-    if is_counted(&list) {
-        env.add_value(name, list)?;
-    }
-    Ok(())
+fn add_list(rt: &impl Abort, env: &mut Env, name: &str, list: Value) {
+    assert!(rt; is_counted(&list));
+    env.add_value(name, list).expect(rt, "a value");
 }
 
 /// Adds what a word stands for.
-fn add_word(env: &mut Env, a: Global, word: &str) -> Result<(), Fail> {
+fn add_word(rt: &impl Abort, env: &mut Env, a: Global, word: &str) {
     match word {
         // the number 2
-        "a" | "n" => Ok(env.add_value(word, Value::Num(2))?),
+        "a" | "n" => env.add_value(word, Value::Num(2)).expect(rt, "a value"),
         // true and false
-        "l" => add_list(env, word, truths(a)?),
+        "l" => add_list(rt, env, word, truths(a).expect(rt, "a list")),
         // functions
-        "f(x)=true" => add_of_number(env, a, Scalar::Bool, "true"),
-        "f(x)=x+1" => add_of_number(env, a, INT, "x + 1"),
-        "f()=n" => add_constant(env, a, "f", "n"),
-        "f()=1" => add_constant(env, a, "f", "1"),
-        "seven()=7" => add_constant(env, a, "seven", "7"),
-        "g(x)=y+z" => add_with_locals(env, a),
-        _ => Err(Fail::from("no such name")),
+        "f(x)=true" => add_of_number(rt, env, a, Scalar::Bool, "true"),
+        "f(x)=x+1" => add_of_number(rt, env, a, INT, "x + 1"),
+        "f()=n" => add_constant(rt, env, a, "f", "n"),
+        "f()=1" => add_constant(rt, env, a, "f", "1"),
+        "seven()=7" => add_constant(rt, env, a, "seven", "7"),
+        "g(x)=y+z" => add_with_locals(rt, env, a),
+        _ => rt.panic("no such name"),
     }
 }
 
 /// Adds what each of these words stands for.
-pub(crate) fn add_words(env: &mut Env, a: Global, words: &str) -> Result<(), Fail> {
+pub(crate) fn add_words(rt: &impl Abort, env: &mut Env, a: Global, words: &str) {
     for word in words.split_whitespace() {
-        add_word(env, a, word)?;
+        add_word(rt, env, a, word);
     }
-    Ok(())
 }

@@ -10,7 +10,6 @@ use const_eval::{ConstFault, Env, KindFault, eval_const, kind_const};
 use rvc_base::Front;
 use std::alloc::{AllocError, Global};
 use std::process::Abort;
-use std::test::Fail;
 
 /// What is asked of an expression.
 #[derive(Clone, Copy)]
@@ -106,17 +105,15 @@ fn file_with(alloc: Global, text: &str) -> Result<File, Front> {
 }
 
 /// The expression of a file.
-fn expression_in(alloc: Global, file: &File) -> Result<Expr, Fail> {
-    match start_of(file) {
-        Some(e) => Ok(e.copy(alloc)?),
-        None => Err(Fail::from("no expression")),
-    }
+fn expression_in(rt: &impl Abort, alloc: Global, file: &File) -> Expr {
+    let found = start_of(file).expect(rt, "an expression");
+    found.copy(alloc).expect(rt, "a copy")
 }
 
 /// The expression that a text spells.
-pub(crate) fn expression(alloc: Global, text: &str) -> Result<Expr, Fail> {
-    let file = file_with(alloc, text)?;
-    expression_in(alloc, &file)
+pub(crate) fn expression(rt: &impl Abort, alloc: Global, text: &str) -> Expr {
+    let file = file_with(alloc, text).expect(rt, "a file");
+    expression_in(rt, alloc, &file)
 }
 
 /// The answer for the expression of a file.
@@ -139,34 +136,20 @@ fn answer(alloc: Global, env: &Env, asked: Asked, text: &str) -> Result<String, 
 }
 
 /// Stops unless an expression has its answer.
-fn hold_row(
-    rt: &impl Abort,
-    alloc: Global,
-    env: &Env,
-    asked: Asked,
-    row: &str,
-) -> Result<(), AllocError> {
+fn hold_row(rt: &impl Abort, alloc: Global, env: &Env, asked: Asked, row: &str) {
     let (text, want) = answered(row);
-    let found = answer(alloc, env, asked, text)?;
+    let found = answer(alloc, env, asked, text).expect(rt, "an answer");
     let holds = found.as_str() == want;
     assert!(rt; holds, "{text} gives {found}");
-    Ok(())
 }
 
 /// Stops at the first expression of a table whose answer over an environment is another.
-fn hold_over(
-    rt: &impl Abort,
-    alloc: Global,
-    env: &Env,
-    asked: Asked,
-    table: &str,
-) -> Result<(), AllocError> {
+fn hold_over(rt: &impl Abort, alloc: Global, env: &Env, asked: Asked, table: &str) {
     for row in table.split("\n# ") {
         if !row.is_empty() {
-            hold_row(rt, alloc, env, asked, row)?;
+            hold_row(rt, alloc, env, asked, row);
         }
     }
-    Ok(())
 }
 
 /// The same over an environment to which the names are added that these words stand for.
@@ -177,20 +160,13 @@ fn hold_with(
     words: &str,
     asked: Asked,
     table: &str,
-) -> Result<(), Fail> {
-    add_words(env, alloc, words)?;
-    hold_over(rt, alloc, env, asked, table)?;
-    Ok(())
+) {
+    add_words(rt, env, alloc, words);
+    hold_over(rt, alloc, env, asked, table);
 }
 
 /// The same over the names that these words stand for.
-pub(crate) fn hold(
-    rt: &impl Abort,
-    alloc: Global,
-    words: &str,
-    asked: Asked,
-    table: &str,
-) -> Result<(), Fail> {
+pub(crate) fn hold(rt: &impl Abort, alloc: Global, words: &str, asked: Asked, table: &str) {
     let mut env = Env::new(alloc);
-    hold_with(rt, alloc, &mut env, words, asked, table)
+    hold_with(rt, alloc, &mut env, words, asked, table);
 }

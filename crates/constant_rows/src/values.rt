@@ -1,11 +1,10 @@
 //! What expressions give over constants.
 
 use crate::rows::{Asked, hold};
-use std::test::Fail;
 
 #[test]
-fn values(rt: HostRuntime) -> Result<(), Fail> {
-    hold(&rt, rt.alloc(), "n l", Asked::Value, VALUES)
+fn values(rt: HostRuntime) {
+    hold(&rt, rt.alloc(), "n l", Asked::Value, VALUES);
 }
 
 /// Expressions with their values, or why they have none.

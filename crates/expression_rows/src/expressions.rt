@@ -4,10 +4,9 @@ use crate::table::{answered, cut};
 use cal_ast::{Body, Expr, ExprForm, File, Member, Stmt, StmtForm, TypeArg, TypeExpr};
 use cal_lexer::{Token, lex};
 use cal_parser::{MAX_HEIGHT, parse_file};
-use rvc_base::Front;
-use std::alloc::Global;
+use rvc_base::{Front, Memory};
+use std::alloc::{AllocError, Global};
 use std::process::Abort;
-use std::test::Fail;
 
 /// What a text is read as.
 #[derive(Clone, Copy)]
@@ -30,7 +29,7 @@ struct Frame {
 }
 
 /// Adds a text so many times.
-fn add_times(text: &mut Vec<u8>, part: &[u8], times: u32) -> Result<(), Fail> {
+fn add_times(text: &mut Vec<u8>, part: &[u8], times: u32) -> Result<(), Memory> {
     for _ in 0..times {
         text.extend_from_slice(part)?;
     }
@@ -38,7 +37,7 @@ fn add_times(text: &mut Vec<u8>, part: &[u8], times: u32) -> Result<(), Fail> {
 }
 
 /// The text of so many parts of a frame, up to where a text begins in it.
-fn before(alloc: Global, frame: &Frame, depth: u32) -> Result<Vec<u8>, Fail> {
+fn before(alloc: Global, frame: &Frame, depth: u32) -> Result<Vec<u8>, Memory> {
     let mut out = Vec::new(alloc);
     out.extend_from_slice(frame.before)?;
     add_times(&mut out, frame.opens, depth)?;
@@ -46,7 +45,7 @@ fn before(alloc: Global, frame: &Frame, depth: u32) -> Result<Vec<u8>, Fail> {
 }
 
 /// A text, and what stands behind it in so many parts of a frame.
-fn rest(alloc: Global, frame: &Frame, text: &[u8], depth: u32) -> Result<Vec<u8>, Fail> {
+fn rest(alloc: Global, frame: &Frame, text: &[u8], depth: u32) -> Result<Vec<u8>, Memory> {
     let mut out = Vec::new(alloc);
     out.extend_from_slice(text)?;
     add_times(&mut out, frame.closes, depth)?;
@@ -55,20 +54,20 @@ fn rest(alloc: Global, frame: &Frame, text: &[u8], depth: u32) -> Result<Vec<u8>
 }
 
 /// The tokens of a text.
-fn tokens_of(alloc: Global, text: &[u8]) -> Result<Vec<Token>, Fail> {
+fn tokens_of(alloc: Global, text: &[u8]) -> Result<Vec<Token>, Front> {
     if text.len() >= 1 << 32 {
-        return Err(Front::Memory.into());
+        return Err(Front::Memory);
     }
-    Ok(lex(alloc, 1, text)?)
+    lex(alloc, 1, text)
 }
 
 /// The tokens of two texts. Places are counted from where the second begins.
-fn tokens_of_both(alloc: Global, before: &[u8], rest: &[u8]) -> Result<Vec<Token>, Fail> {
-    let mut tokens = tokens_of(alloc, before)?;
-    for token in tokens_of(alloc, rest)? {
-        tokens.push(token)?;
+fn tokens_of_both(rt: &impl Abort, alloc: Global, before: &[u8], rest: &[u8]) -> Vec<Token> {
+    let mut tokens = tokens_of(alloc, before).expect(rt, "tokens");
+    for token in tokens_of(alloc, rest).expect(rt, "tokens") {
+        tokens.push(token).expect(rt, "a token");
     }
-    Ok(tokens)
+    tokens
 }
 
 /// What reading the tokens of a text of this length gives.
@@ -79,19 +78,14 @@ fn parsed(alloc: Global, tokens: &[Token], size: usize) -> Result<File, Front> {
     parse_file(alloc, 1, tokens, size as u32)
 }
 
-/// What is read of a text, which may be so high, or the rule that it breaks and the place.
-fn answer(
+/// What is asked of a file that was read, or the rule that is broken and the place.
+fn told(
     alloc: Global,
     asked: Asked,
-    frame: &Frame,
-    text: &[u8],
-    room: u32,
-) -> Result<String, Fail> {
-    let depth = MAX_HEIGHT.saturating_sub(room);
-    let before = before(alloc, frame, depth)?;
-    let rest = rest(alloc, frame, text, depth)?;
-    let tokens = tokens_of_both(alloc, &before, &rest)?;
-    match parsed(alloc, &tokens, rest.len()) {
+    found: Result<File, Front>,
+    depth: u32,
+) -> Result<String, AllocError> {
+    match found {
         Ok(file) => match first_member(&file) {
             Some(member) => shown(alloc, asked, member, depth),
             None => another(alloc),
@@ -99,10 +93,27 @@ fn answer(
         Err(Front::Refused(refusal)) => {
             let rule = refusal.rule;
             let at = refusal.place.offset;
-            Ok(format!(in alloc; "{rule} at {at}")?)
+            format!(in alloc; "{rule} at {at}")
         }
-        Err(Front::Memory) => Err(Front::Memory.into()),
+        Err(Front::Memory) => String::from_str(alloc, "out of memory"),
     }
+}
+
+/// What is read of a text, which may be so high, or the rule that it breaks and the place.
+fn answer(
+    rt: &impl Abort,
+    alloc: Global,
+    asked: Asked,
+    frame: &Frame,
+    text: &[u8],
+    room: u32,
+) -> String {
+    let depth = MAX_HEIGHT.saturating_sub(room);
+    let before = before(alloc, frame, depth).expect(rt, "a text");
+    let rest = rest(alloc, frame, text, depth).expect(rt, "a text");
+    let tokens = tokens_of_both(rt, alloc, &before, &rest);
+    let found = parsed(alloc, &tokens, rest.len());
+    told(alloc, asked, found, depth).expect(rt, "an answer")
 }
 
 /// The first member of an actor.
@@ -114,7 +125,7 @@ fn first_member(file: &File) -> Option<&Member> {
 }
 
 /// What is asked of a member, as `Debug` prints it.
-fn shown(alloc: Global, asked: Asked, member: &Member, depth: u32) -> Result<String, Fail> {
+fn shown(alloc: Global, asked: Asked, member: &Member, depth: u32) -> Result<String, AllocError> {
     match asked {
         Asked::Expr => match start(member) {
             Some(outer) => shown_expr(alloc, outer, depth),
@@ -130,27 +141,27 @@ fn shown(alloc: Global, asked: Asked, member: &Member, depth: u32) -> Result<Str
 }
 
 /// What is answered of a file without what is asked of it, which no row expects.
-fn another(alloc: Global) -> Result<String, Fail> {
-    Ok(String::from_str(alloc, "another file")?)
+fn another(alloc: Global) -> Result<String, AllocError> {
+    String::from_str(alloc, "another file")
 }
 
-fn shown_expr(alloc: Global, outer: &Expr, depth: u32) -> Result<String, Fail> {
+fn shown_expr(alloc: Global, outer: &Expr, depth: u32) -> Result<String, AllocError> {
     match in_lists(outer, depth) {
-        Some(found) => Ok(format!(in alloc; "{found:?}")?),
+        Some(found) => format!(in alloc; "{found:?}"),
         None => another(alloc),
     }
 }
 
-fn shown_type(alloc: Global, outer: &TypeExpr, depth: u32) -> Result<String, Fail> {
+fn shown_type(alloc: Global, outer: &TypeExpr, depth: u32) -> Result<String, AllocError> {
     match in_types(outer, depth) {
-        Some(found) => Ok(format!(in alloc; "{found:?}")?),
+        Some(found) => format!(in alloc; "{found:?}"),
         None => another(alloc),
     }
 }
 
-fn shown_count(alloc: Global, count: Option<usize>) -> Result<String, Fail> {
+fn shown_count(alloc: Global, count: Option<usize>) -> Result<String, AllocError> {
     match count {
-        Some(found) => Ok(format!(in alloc; "{found}")?),
+        Some(found) => format!(in alloc; "{found}"),
         None => another(alloc),
     }
 }
@@ -226,39 +237,25 @@ fn in_types(outer: &TypeExpr, depth: u32) -> Option<&TypeExpr> {
 }
 
 /// Stops unless a text, read up to a height, has its answer.
-fn holds(
-    rt: &impl Abort,
-    alloc: Global,
-    asked: Asked,
-    frame: &Frame,
-    row: &str,
-) -> Result<(), Fail> {
+fn holds(rt: &impl Abort, alloc: Global, asked: Asked, frame: &Frame, row: &str) {
     let (read, expected) = answered(row);
     let (room, text) = cut(read, " ");
     let room = room.parse().unwrap_or(0);
-    let found = answer(alloc, asked, frame, text.as_bytes(), room)?;
+    let found = answer(rt, alloc, asked, frame, text.as_bytes(), room);
     assert_eq!(rt; found.as_str(), expected);
-    Ok(())
 }
 
 /// Stops unless each text of a table has its answer. Each stands behind the height up to which it is read.
-fn hold(
-    rt: &impl Abort,
-    alloc: Global,
-    asked: Asked,
-    frame: &Frame,
-    table: &str,
-) -> Result<(), Fail> {
+fn hold(rt: &impl Abort, alloc: Global, asked: Asked, frame: &Frame, table: &str) {
     for row in table.split("\n# ") {
         if !row.is_empty() {
-            holds(rt, alloc, asked, frame, row)?;
+            holds(rt, alloc, asked, frame, row);
         }
     }
-    Ok(())
 }
 
 #[test]
-fn expressions(rt: HostRuntime) -> Result<(), Fail> {
+fn expressions(rt: HostRuntime) {
     // a constant, in lists of one
     let frame = Frame {
         before: b"actor A() ==> : int X = ",
@@ -266,7 +263,7 @@ fn expressions(rt: HostRuntime) -> Result<(), Fail> {
         closes: b"]",
         behind: b"; end",
     };
-    hold(&rt, rt.alloc(), Asked::Expr, &frame, EXPRESSIONS)
+    hold(&rt, rt.alloc(), Asked::Expr, &frame, EXPRESSIONS);
 }
 
 /// Operators that group to the left, pairs that are dropped or kept, primaries.
@@ -295,7 +292,7 @@ const EXPRESSIONS: &str = "
 = Expr { form: Comp { item: Expr { form: Number(1), at: 1 }, gens: [Gen { shape: TypeExpr { name: Ident { text: \"int\", at: 9 }, args: [], at: 9 }, name: Ident { text: \"i\", at: 13 }, from: Expr { form: Number(2), at: 18 }, to: Expr { form: Number(3), at: 23 }, at: 5 }] }, at: 0 }";
 
 #[test]
-fn expressions_that_break_off(rt: HostRuntime) -> Result<(), Fail> {
+fn expressions_that_break_off(rt: HostRuntime) {
     // a constant, in lists of one, where the file ends with the text
     let frame = Frame {
         before: b"actor A() ==> : int X = ",
@@ -303,7 +300,7 @@ fn expressions_that_break_off(rt: HostRuntime) -> Result<(), Fail> {
         closes: b"",
         behind: b"",
     };
-    hold(&rt, rt.alloc(), Asked::Expr, &frame, BROKEN_OFF)
+    hold(&rt, rt.alloc(), Asked::Expr, &frame, BROKEN_OFF);
 }
 
 /// Expressions that are not there to their end.
@@ -314,7 +311,7 @@ const BROKEN_OFF: &str = "
 = G1 at 0";
 
 #[test]
-fn types(rt: HostRuntime) -> Result<(), Fail> {
+fn types(rt: HostRuntime) {
     // the type of a variable, in types
     let frame = Frame {
         before: b"actor A() ==> : ",
@@ -322,7 +319,7 @@ fn types(rt: HostRuntime) -> Result<(), Fail> {
         closes: b")",
         behind: b" x; end",
     };
-    hold(&rt, rt.alloc(), Asked::Type, &frame, TYPES)
+    hold(&rt, rt.alloc(), Asked::Type, &frame, TYPES);
 }
 
 /// Types with arguments.
@@ -337,7 +334,7 @@ const TYPES: &str = "
 = G2 at 11";
 
 #[test]
-fn lists_of_some(rt: HostRuntime) -> Result<(), Fail> {
+fn lists_of_some(rt: HostRuntime) {
     // the guards of an action
     let frame = Frame {
         before: b"actor A() ==> : action ==> guard ",
@@ -345,7 +342,7 @@ fn lists_of_some(rt: HostRuntime) -> Result<(), Fail> {
         closes: b"",
         behind: b" end end",
     };
-    hold(&rt, rt.alloc(), Asked::Exprs, &frame, LISTS)
+    hold(&rt, rt.alloc(), Asked::Exprs, &frame, LISTS);
 }
 
 /// Lists that have a part.
@@ -356,7 +353,7 @@ const LISTS: &str = "
 = G1 at 0";
 
 #[test]
-fn lists_of_any(rt: HostRuntime) -> Result<(), Fail> {
+fn lists_of_any(rt: HostRuntime) {
     // the arguments of a call
     let frame = Frame {
         before: b"actor A() ==> : procedure p() begin q(",
@@ -364,7 +361,7 @@ fn lists_of_any(rt: HostRuntime) -> Result<(), Fail> {
         closes: b"",
         behind: b"; end end",
     };
-    hold(&rt, rt.alloc(), Asked::Args, &frame, ARGUMENTS)
+    hold(&rt, rt.alloc(), Asked::Args, &frame, ARGUMENTS);
 }
 
 /// Lists that may have none.

@@ -4,8 +4,8 @@ use cal_ast::File;
 use cal_lexer::lex;
 use cal_parser::parse_file;
 use rvc_base::Front;
-use std::alloc::Global;
-use std::test::Fail;
+use std::alloc::{AllocError, Global};
+use std::process::Abort;
 
 /// The file that a text spells.
 fn parsed(alloc: Global, text: &[u8]) -> Result<File, Front> {
@@ -17,32 +17,31 @@ fn parsed(alloc: Global, text: &[u8]) -> Result<File, Front> {
 }
 
 /// A file as `Debug` prints it.
-fn shown(alloc: Global, file: &File) -> Result<String, Fail> {
-    Ok(format!(in alloc; "{file:?}")?)
+fn shown(alloc: Global, file: &File) -> Result<String, AllocError> {
+    format!(in alloc; "{file:?}")
 }
 
 /// The copy of a file as `Debug` prints it.
-fn copy_shown(alloc: Global, file: &File) -> Result<String, Fail> {
+fn copy_shown(alloc: Global, file: &File) -> Result<String, AllocError> {
     let copied = file.copy(alloc)?;
     shown(alloc, &copied)
 }
 
 /// Whether the copy of a file is equal to it.
-fn is_copied(alloc: Global, file: &File) -> Result<bool, Fail> {
+fn is_copied(alloc: Global, file: &File) -> Result<bool, AllocError> {
     let whole = shown(alloc, file)?;
     Ok(whole.as_str() == copy_shown(alloc, file)?.as_str())
 }
 
 /// Whether the copy of the file that a text spells is equal to it.
-fn has_copy(alloc: Global, text: &str) -> Result<bool, Fail> {
-    let file = parsed(alloc, text.as_bytes())?;
-    is_copied(alloc, &file)
+fn has_copy(rt: &impl Abort, alloc: Global, text: &str) -> bool {
+    let file = parsed(alloc, text.as_bytes()).expect(rt, "a file");
+    is_copied(alloc, &file).expect(rt, "a copy")
 }
 
 #[test]
-fn a_copied_actor_is_equal(rt: HostRuntime) -> Result<(), Fail> {
-    assert!(rt; has_copy(rt.alloc(), ACTOR)?);
-    Ok(())
+fn a_copied_actor_is_equal(rt: HostRuntime) {
+    assert!(rt; has_copy(&rt, rt.alloc(), ACTOR));
 }
 
 /// An actor with each kind of member, statement and expression.
@@ -86,9 +85,8 @@ actor A(int(size=8, type:int) K, int L = 1) int(size=8) In, int B ==> int(size=8
 end";
 
 #[test]
-fn a_copied_unit_is_equal(rt: HostRuntime) -> Result<(), Fail> {
-    assert!(rt; has_copy(rt.alloc(), UNIT)?);
-    Ok(())
+fn a_copied_unit_is_equal(rt: HostRuntime) {
+    assert!(rt; has_copy(&rt, rt.alloc(), UNIT));
 }
 
 /// A unit with a variable.

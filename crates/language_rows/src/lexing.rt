@@ -2,10 +2,9 @@
 
 use crate::table::cut;
 use cal_lexer::{MAX_NAME, Word, is_name, lex};
-use rvc_base::Front;
-use std::alloc::Global;
+use rvc_base::{Front, Memory};
+use std::alloc::{AllocError, Global};
 use std::process::Abort;
-use std::test::Fail;
 
 /// What is asked of a text's tokens.
 #[derive(Clone, Copy)]
@@ -15,9 +14,9 @@ enum Asked {
 }
 
 /// The tokens of a text, each as `Debug` prints it, or the fault of the text, with a blank before each.
-fn answer(alloc: Global, asked: Asked, text: &[u8]) -> Result<String, Fail> {
+fn answer(alloc: Global, asked: Asked, text: &[u8]) -> Result<String, AllocError> {
     if text.len() >= 1 << 32 {
-        return Err(Front::Memory.into());
+        return String::from_str(alloc, " too long");
     }
     let mut out = String::new(alloc);
     match lex(alloc, 7, text) {
@@ -42,32 +41,24 @@ fn answer(alloc: Global, asked: Asked, text: &[u8]) -> Result<String, Fail> {
 }
 
 /// Stops unless a text has its answer.
-fn holds(
-    rt: &impl Abort,
-    alloc: Global,
-    asked: Asked,
-    text: &[u8],
-    expected: &str,
-) -> Result<(), Fail> {
-    let found = answer(alloc, asked, text)?;
+fn holds(rt: &impl Abort, alloc: Global, asked: Asked, text: &[u8], expected: &str) {
+    let found = answer(alloc, asked, text).expect(rt, "an answer");
     assert_eq!(rt; found.as_str(), expected);
-    Ok(())
 }
 
 /// Stops unless each text of a table has its answer.
-fn hold(rt: &impl Abort, alloc: Global, asked: Asked, table: &str) -> Result<(), Fail> {
+fn hold(rt: &impl Abort, alloc: Global, asked: Asked, table: &str) {
     for row in table.split("\n# ") {
         if !row.is_empty() {
             let (text, expected) = cut(row, "\n=");
-            holds(rt, alloc, asked, text.as_bytes(), expected)?;
+            holds(rt, alloc, asked, text.as_bytes(), expected);
         }
     }
-    Ok(())
 }
 
 #[test]
-fn tokens(rt: HostRuntime) -> Result<(), Fail> {
-    hold(&rt, rt.alloc(), Asked::Places, TOKENS)
+fn tokens(rt: HostRuntime) {
+    hold(&rt, rt.alloc(), Asked::Places, TOKENS);
 }
 
 /// Numbers, dots, and the longest token that stands at a place.
@@ -80,8 +71,8 @@ const TOKENS: &str = "
 = Number(340282366920938463463374607431768211455)@0";
 
 #[test]
-fn kinds(rt: HostRuntime) -> Result<(), Fail> {
-    hold(&rt, rt.alloc(), Asked::Kinds, KINDS)
+fn kinds(rt: HostRuntime) {
+    hold(&rt, rt.alloc(), Asked::Kinds, KINDS);
 }
 
 /// The longest token that stands at a place, and every reserved word and symbol.
@@ -102,8 +93,8 @@ const KINDS: &str = "
 = LongDoubleArrow LongArrow Assign DotDot LessEqual GreaterEqual NotEqual ShiftLeft ShiftRight AndAnd OrOr LeftParen RightParen LeftBracket RightBracket Comma Semicolon Colon Dot Plus Minus Star Slash Equal Less Greater Ampersand Bar Caret Tilde";
 
 #[test]
-fn faults(rt: HostRuntime) -> Result<(), Fail> {
-    hold(&rt, rt.alloc(), Asked::Places, FAULTS)
+fn faults(rt: HostRuntime) {
+    hold(&rt, rt.alloc(), Asked::Places, FAULTS);
 }
 
 /// Each rule that a text may break.
@@ -128,16 +119,16 @@ const FAULTS: &str = "
 = L2 at 0";
 
 #[test]
-fn a_byte_above_ascii(rt: HostRuntime) -> Result<(), Fail> {
+fn a_byte_above_ascii(rt: HostRuntime) {
     // in comments, and outside
     let text = b"x/**/y // \xFF */\n/* // \" ! */z // end";
     let tokens = " Name(\"x\")@0 Name(\"y\")@5 Name(\"z\")@27";
-    holds(&rt, rt.alloc(), Asked::Places, text, tokens)?;
-    holds(&rt, rt.alloc(), Asked::Places, b"\xFF", " L1 at 0")
+    holds(&rt, rt.alloc(), Asked::Places, text, tokens);
+    holds(&rt, rt.alloc(), Asked::Places, b"\xFF", " L1 at 0");
 }
 
 /// `actor` and a name of so many bytes.
-fn with_name(alloc: Global, size: usize) -> Result<Vec<u8>, Fail> {
+fn with_name(alloc: Global, size: usize) -> Result<Vec<u8>, Memory> {
     let name = vec![in alloc; b'a'; size]?;
     let mut text = Vec::new(alloc);
     text.extend_from_slice(b"actor ")?;
@@ -146,29 +137,29 @@ fn with_name(alloc: Global, size: usize) -> Result<Vec<u8>, Fail> {
 }
 
 /// How many bytes the answer for such a text has, of which the answer is too long to be written here.
-fn answer_len(alloc: Global, text: &[u8]) -> Result<usize, Fail> {
+fn answer_len(alloc: Global, text: &[u8]) -> Result<usize, AllocError> {
     Ok(answer(alloc, Asked::Places, text)?.len())
 }
 
 /// Stops unless a name of so many bytes has an answer of so many bytes.
-fn has_length(rt: &impl Abort, alloc: Global, size: usize, expected: usize) -> Result<(), Fail> {
-    let text = with_name(alloc, size)?;
-    assert_eq!(rt; answer_len(alloc, &text)?, expected);
-    Ok(())
+fn has_length(rt: &impl Abort, alloc: Global, size: usize, expected: usize) {
+    let text = with_name(alloc, size).expect(rt, "a text");
+    let found = answer_len(alloc, &text).expect(rt, "an answer");
+    assert_eq!(rt; found, expected);
 }
 
 #[test]
-fn long_names(rt: HostRuntime) -> Result<(), Fail> {
+fn long_names(rt: HostRuntime) {
     // ` Actor@0 Name("a..a")@6`, and ` Z11 at 6`
-    has_length(&rt, rt.alloc(), MAX_NAME, MAX_NAME + 19)?;
-    has_length(&rt, rt.alloc(), MAX_NAME + 1, 9)
+    has_length(&rt, rt.alloc(), MAX_NAME, MAX_NAME + 19);
+    has_length(&rt, rt.alloc(), MAX_NAME + 1, 9);
 }
 
 #[test]
-fn a_million_spaces(rt: HostRuntime) -> Result<(), Fail> {
-    let text = vec![in rt.alloc(); b' '; 1048576]?;
-    assert_eq!(rt; answer_len(rt.alloc(), &text)?, 0);
-    Ok(())
+fn a_million_spaces(rt: HostRuntime) {
+    let text = vec![in rt.alloc(); b' '; 1048576].expect(&rt, "a text");
+    let found = answer_len(rt.alloc(), &text).expect(&rt, "an answer");
+    assert_eq!(rt; found, 0);
 }
 
 #[test]

@@ -4,10 +4,9 @@ use crate::table::answered;
 use cal_ast::{Body, File};
 use cal_lexer::lex;
 use cal_parser::parse_file;
-use rvc_base::Front;
-use std::alloc::Global;
+use rvc_base::{Front, Memory};
+use std::alloc::{AllocError, Global};
 use std::process::Abort;
-use std::test::Fail;
 
 /// What is asked of the file that a text spells.
 #[derive(Clone, Copy)]
@@ -28,60 +27,52 @@ fn parsed(alloc: Global, text: &[u8]) -> Result<File, Front> {
 }
 
 /// What is asked of a text, or the rule that it breaks and the place.
-fn answer(alloc: Global, asked: Asked, text: &[u8]) -> Result<String, Fail> {
+fn answer(alloc: Global, asked: Asked, text: &[u8]) -> Result<String, AllocError> {
     match parsed(alloc, text) {
         Ok(file) => shown(alloc, asked, &file),
         Err(Front::Refused(refusal)) => {
             let rule = refusal.rule;
             let at = refusal.place.offset;
-            Ok(format!(in alloc; "{rule} at {at}")?)
+            format!(in alloc; "{rule} at {at}")
         }
-        Err(Front::Memory) => Err(Front::Memory.into()),
+        Err(Front::Memory) => String::from_str(alloc, "out of memory"),
     }
 }
 
 /// What is asked of a file, as `Debug` prints it.
-fn shown(alloc: Global, asked: Asked, file: &File) -> Result<String, Fail> {
+fn shown(alloc: Global, asked: Asked, file: &File) -> Result<String, AllocError> {
     match asked {
-        Asked::File => Ok(format!(in alloc; "{file:?}")?),
+        Asked::File => format!(in alloc; "{file:?}"),
         Asked::Members => match &file.body {
             Body::Actor(actor) => {
                 let members = &actor.members;
-                Ok(format!(in alloc; "{members:?}")?)
+                format!(in alloc; "{members:?}")
             }
-            Body::Unit(_) => Ok(String::from_str(alloc, "a unit")?),
+            Body::Unit(_) => String::from_str(alloc, "a unit"),
         },
-        Asked::Outcome => Ok(String::from_str(alloc, "read")?),
+        Asked::Outcome => String::from_str(alloc, "read"),
     }
 }
 
 /// Stops unless a text has its answer.
-fn holds(
-    rt: &impl Abort,
-    alloc: Global,
-    asked: Asked,
-    text: &[u8],
-    expected: &str,
-) -> Result<(), Fail> {
-    let found = answer(alloc, asked, text)?;
+fn holds(rt: &impl Abort, alloc: Global, asked: Asked, text: &[u8], expected: &str) {
+    let found = answer(alloc, asked, text).expect(rt, "an answer");
     assert_eq!(rt; found.as_str(), expected);
-    Ok(())
 }
 
 /// Stops unless each text of a table has its answer.
-fn hold(rt: &impl Abort, alloc: Global, asked: Asked, table: &str) -> Result<(), Fail> {
+fn hold(rt: &impl Abort, alloc: Global, asked: Asked, table: &str) {
     for row in table.split("\n# ") {
         if !row.is_empty() {
             let (text, expected) = answered(row);
-            holds(rt, alloc, asked, text.as_bytes(), expected)?;
+            holds(rt, alloc, asked, text.as_bytes(), expected);
         }
     }
-    Ok(())
 }
 
 #[test]
-fn files(rt: HostRuntime) -> Result<(), Fail> {
-    hold(&rt, rt.alloc(), Asked::File, FILES)
+fn files(rt: HostRuntime) {
+    hold(&rt, rt.alloc(), Asked::File, FILES);
 }
 
 /// Packages, imports, parameters and ports, and where a file begins.
@@ -94,8 +85,8 @@ const FILES: &str = "
 = File { package: None, imports: [], body: Actor(Actor { name: Ident { text: \"A\", at: 8 }, params: [], ins: [], outs: [], members: [], at: 2 }), at: 2 }";
 
 #[test]
-fn members(rt: HostRuntime) -> Result<(), Fail> {
-    hold(&rt, rt.alloc(), Asked::Members, MEMBERS)
+fn members(rt: HostRuntime) {
+    hold(&rt, rt.alloc(), Asked::Members, MEMBERS);
 }
 
 /// Variables, functions, procedures, actions, schedules and priorities.
@@ -118,8 +109,8 @@ const MEMBERS: &str = "
 = [Priority(Priority { chains: [[Tag { parts: [Ident { text: \"a\", at: 25 }], at: 25 }, Tag { parts: [Ident { text: \"b\", at: 29 }, Ident { text: \"c\", at: 31 }], at: 29 }, Tag { parts: [Ident { text: \"d\", at: 35 }], at: 35 }]], at: 16 })]";
 
 #[test]
-fn what_cannot_follow(rt: HostRuntime) -> Result<(), Fail> {
-    hold(&rt, rt.alloc(), Asked::Outcome, REFUSED)
+fn what_cannot_follow(rt: HostRuntime) {
+    hold(&rt, rt.alloc(), Asked::Outcome, REFUSED);
 }
 
 /// Where no file goes on.
@@ -150,7 +141,7 @@ const INC: &[u8] =
     b"actor Inc() uint(size=8) In ==> uint(size=8) Out : action In:[a] ==> Out:[a + 1] end end";
 
 /// How many fronts of a text break the grammar, one after another from the empty one.
-fn broken_fronts(alloc: Global, text: &[u8]) -> Result<usize, Fail> {
+fn broken_fronts(alloc: Global, text: &[u8]) -> Result<usize, AllocError> {
     for size in 0..text.len() {
         if !answer(alloc, Asked::Outcome, &text[..size])?.starts_with("G1 at ") {
             return Ok(size);
@@ -160,13 +151,13 @@ fn broken_fronts(alloc: Global, text: &[u8]) -> Result<usize, Fail> {
 }
 
 #[test]
-fn each_front_of_a_file_breaks_off(rt: HostRuntime) -> Result<(), Fail> {
-    assert_eq!(rt; broken_fronts(rt.alloc(), INC)?, INC.len());
-    Ok(())
+fn each_front_of_a_file_breaks_off(rt: HostRuntime) {
+    let broken = broken_fronts(rt.alloc(), INC).expect(&rt, "an answer");
+    assert_eq!(rt; broken, INC.len());
 }
 
 /// A unit with a constant, which stands in so many pairs of parentheses.
-fn in_pairs(alloc: Global, inner: &[u8], pairs: usize) -> Result<Vec<u8>, Fail> {
+fn in_pairs(alloc: Global, inner: &[u8], pairs: usize) -> Result<Vec<u8>, Memory> {
     let opens = vec![in alloc; b'('; pairs]?;
     let closes = vec![in alloc; b')'; pairs]?;
     let mut text = Vec::new(alloc);
@@ -179,36 +170,30 @@ fn in_pairs(alloc: Global, inner: &[u8], pairs: usize) -> Result<Vec<u8>, Fail> 
 }
 
 /// Stops unless a constant that stands in so many pairs of parentheses has this answer.
-fn holds_in_pairs(
-    rt: &impl Abort,
-    alloc: Global,
-    inner: &[u8],
-    pairs: usize,
-    expected: &str,
-) -> Result<(), Fail> {
-    let text = in_pairs(alloc, inner, pairs)?;
-    holds(rt, alloc, Asked::Outcome, &text, expected)
+fn holds_in_pairs(rt: &impl Abort, alloc: Global, inner: &[u8], pairs: usize, expected: &str) {
+    let text = in_pairs(alloc, inner, pairs).expect(rt, "a text");
+    holds(rt, alloc, Asked::Outcome, &text, expected);
 }
 
 #[test]
-fn pairs_of_parentheses(rt: HostRuntime) -> Result<(), Fail> {
-    holds_in_pairs(&rt, rt.alloc(), b"1", 255, "read")?;
-    holds_in_pairs(&rt, rt.alloc(), b"1", 256, "G2 at 529")
+fn pairs_of_parentheses(rt: HostRuntime) {
+    holds_in_pairs(&rt, rt.alloc(), b"1", 255, "read");
+    holds_in_pairs(&rt, rt.alloc(), b"1", 256, "G2 at 529");
 }
 
 #[test]
-fn half_a_million_dropped_pairs(rt: HostRuntime) -> Result<(), Fail> {
-    holds_in_pairs(&rt, rt.alloc(), b"a+b", 500000, "read")
+fn half_a_million_dropped_pairs(rt: HostRuntime) {
+    holds_in_pairs(&rt, rt.alloc(), b"a+b", 500000, "read");
 }
 
 #[test]
-fn a_long_sum_and_what_cannot_follow_it(rt: HostRuntime) -> Result<(), Fail> {
-    let text = long_sum(rt.alloc())?;
-    holds(&rt, rt.alloc(), Asked::Outcome, &text, "G1 at 821")
+fn a_long_sum_and_what_cannot_follow_it(rt: HostRuntime) {
+    let text = long_sum(rt.alloc()).expect(&rt, "a text");
+    holds(&rt, rt.alloc(), Asked::Outcome, &text, "G1 at 821");
 }
 
 /// A unit with a sum of 201 numbers, and a semicolon too many.
-fn long_sum(alloc: Global) -> Result<Vec<u8>, Fail> {
+fn long_sum(alloc: Global) -> Result<Vec<u8>, Memory> {
     let mut text = Vec::new(alloc);
     text.extend_from_slice(b"unit U : int X = 1")?;
     for _ in 0..200 {
@@ -219,13 +204,12 @@ fn long_sum(alloc: Global) -> Result<Vec<u8>, Fail> {
 }
 
 #[test]
-fn whole_sources(rt: HostRuntime) -> Result<(), Fail> {
+fn whole_sources(rt: HostRuntime) {
     for text in SOURCES.split("\n# ") {
         if !text.is_empty() {
-            holds(&rt, rt.alloc(), Asked::Outcome, text.as_bytes(), "read")?;
+            holds(&rt, rt.alloc(), Asked::Outcome, text.as_bytes(), "read");
         }
     }
-    Ok(())
 }
 
 /// Actors of every kind, each behind `# `.

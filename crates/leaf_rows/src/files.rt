@@ -6,12 +6,12 @@ ghost use Rattle.distinct_names.specs.Names.{AreSpelled};
 
 use actor_files::tree_of;
 use cal_imports::FileSet;
+use rvc_base::Memory;
 use rvc_io::MAX_FILE_BYTES;
 use std::alloc::Global;
-use std::test::Fail;
 
 /// Adds a file, if its text spells one and no file has its class.
-fn add_file(a: Global, set: &mut FileSet, class: &str, text: &[u8]) -> Result<(), Fail>
+fn add_file(a: Global, set: &mut FileSet, class: &str, text: &[u8]) -> Result<(), Memory>
     requires { AreSpelled (sources set.old) }
     ensures { OnOk result (AreSpelled (sources set.new)) }
 {
@@ -26,7 +26,7 @@ fn add_file(a: Global, set: &mut FileSet, class: &str, text: &[u8]) -> Result<()
 }
 
 /// The set of these files, each a class and a text.
-pub(crate) fn set_of(a: Global, files: &[(&str, &str)]) -> Result<FileSet, Fail>
+pub(crate) fn set_of(a: Global, files: &[(&str, &str)]) -> Result<FileSet, Memory>
     ensures { IfOk result (λ set. AreSpelled (sources set)) }
 {
     let mut set = FileSet::new(a)?;

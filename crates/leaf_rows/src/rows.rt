@@ -4,9 +4,8 @@ use crate::files::set_of;
 use cal_model::Value;
 use fnl_tree::{Leaf, LeafValue};
 use leaf_actors::{LeafActors, check_leaves};
-use rvc_base::{Front, Place};
+use rvc_base::{Front, Memory, Place};
 use std::alloc::Global;
-use std::test::Fail;
 
 /// An actor with a parameter, and one that imports a constant and has no parameter.
 const FILES: &[(&str, &str)] = &[
@@ -59,7 +58,7 @@ const ROWS: &[(&[Given], &str)] = &[
 ];
 
 /// The leaf of a number.
-fn leaf_of(a: Global, given: Given, number: u32) -> Result<Leaf, Fail> {
+fn leaf_of(a: Global, given: Given, number: u32) -> Result<Leaf, Memory> {
     let mut bindings = Vec::new(a);
     for &(name, value) in given.1 {
         let place = Place {
@@ -85,7 +84,7 @@ fn leaf_of(a: Global, given: Given, number: u32) -> Result<Leaf, Fail> {
 }
 
 /// What is answered of these leaves, as text.
-fn shown(a: Global, answer: Result<LeafActors, Front>) -> Result<String, Fail> {
+fn shown(a: Global, answer: Result<LeafActors, Front>) -> Result<String, Memory> {
     match answer {
         Ok(found) => {
             let mut text = String::new(a);
@@ -102,7 +101,7 @@ fn shown(a: Global, answer: Result<LeafActors, Front>) -> Result<String, Fail> {
 }
 
 /// What is answered of leaves.
-fn answer(a: Global, given: &[Given]) -> Result<String, Fail> {
+fn answer(a: Global, given: &[Given]) -> Result<String, Memory> {
     let set = set_of(a, FILES)?;
     let mut leaves = Vec::new(a);
     for one in given {
@@ -118,12 +117,11 @@ fn answer(a: Global, given: &[Given]) -> Result<String, Fail> {
 }
 
 #[test]
-fn leaves_have_their_actors(rt: HostRuntime) -> Result<(), Fail> {
+fn leaves_have_their_actors(rt: HostRuntime) {
     let a = rt.alloc();
     for &(given, want) in ROWS {
-        let found = answer(a, given)?;
+        let found = answer(a, given).expect(&rt, "an answer");
         let holds = found.as_str() == want;
         assert!(rt; holds, "{want} is {found}");
     }
-    Ok(())
 }

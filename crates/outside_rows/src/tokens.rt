@@ -10,7 +10,6 @@ use rvc_base::{MAX_SIZE, Num, Scalar};
 use rvc_io::{Feeds, MemFeeds, names_are_distinct};
 use std::alloc::{AllocError, Global};
 use std::process::Abort;
-use std::test::Fail;
 
 /// The type of the tokens, the call that fails, the most bytes that a call moves, the bytes of the file,
 /// and what comes at four calls.
@@ -130,27 +129,26 @@ fn comes<R: Abort>(rt: &R, tokens: &mut TokenFeed, feeds: &mut MemFeeds, want: N
 }
 
 /// A feed gives what a row says.
-fn hold_row<R: Abort>(rt: &R, alloc: Global, row: &Row) -> Result<(), Fail> {
+fn hold_row<R: Abort>(rt: &R, alloc: Global, row: &Row) {
     let &(kind, failing, step, bytes, want) = row;
     assert!(rt; step > 0 && is_sized(kind));
-    let files = one_file(alloc, bytes)?;
+    let files = one_file(alloc, bytes).expect(rt, "a file");
     assert!(rt; names_are_distinct(&files));
-    let mut feeds = MemFeeds::new(alloc, files, vec![in alloc; failing]?, step, 1)?;
-    feeds.open(0, "in")?;
-    let mut tokens = TokenFeed::new(alloc, kind)?;
+    let failing = vec![in alloc; failing].expect(rt, "a list");
+    let mut feeds = MemFeeds::new(alloc, files, failing, step, 1).expect(rt, "feeds");
+    feeds.open(0, "in").expect(rt, "a feed");
+    let mut tokens = TokenFeed::new(alloc, kind).expect(rt, "tokens");
     comes(rt, &mut tokens, &mut feeds, want[0]);
     comes(rt, &mut tokens, &mut feeds, want[1]);
     comes(rt, &mut tokens, &mut feeds, want[2]);
     comes(rt, &mut tokens, &mut feeds, want[3]);
-    Ok(())
 }
 
 #[test]
-fn bytes_come_as_tokens(rt: HostRuntime) -> Result<(), Fail> {
+fn bytes_come_as_tokens(rt: HostRuntime) {
     for row in ROWS {
-        hold_row(&rt, rt.alloc(), row)?;
+        hold_row(&rt, rt.alloc(), row);
     }
-    Ok(())
 }
 
 /// A type, a number, and the bytes that are written of it.

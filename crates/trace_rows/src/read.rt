@@ -2,9 +2,8 @@
 
 use arrayvec::ArrayVec;
 use rvc_base::Trap;
-use std::alloc::Global;
+use std::alloc::{AllocError, Global};
 use std::process::Abort;
-use std::test::Fail;
 use trace_text::{Line, LineReader, Step2, write_front, write_line};
 
 /// A text, cut at the first of a mark.
@@ -27,30 +26,28 @@ fn line_of(text: &str) -> Option<Line> {
 }
 
 /// That line as `Debug` prints it.
-fn told(alloc: Global, text: &str) -> Result<String, Fail> {
+fn told(alloc: Global, text: &str) -> Result<String, AllocError> {
     match line_of(text) {
-        Some(line) => Ok(format!(in alloc; "{line:?}")?),
-        None => Ok(String::from_str(alloc, "no line")?),
+        Some(line) => format!(in alloc; "{line:?}"),
+        None => String::from_str(alloc, "no line"),
     }
 }
 
 /// Stops unless the text of a row is that of its line.
-fn hold_line(rt: &impl Abort, alloc: Global, row: &str) -> Result<(), Fail> {
+fn hold_line(rt: &impl Abort, alloc: Global, row: &str) {
     let (text, want) = cut(row, "\n= ");
-    let found = told(alloc, text)?;
+    let found = told(alloc, text).expect(rt, "a text");
     let holds = found.as_str() == want;
     assert!(rt; holds, "{text} tells {found}");
-    Ok(())
 }
 
 #[test]
-fn lines_of_the_table(rt: HostRuntime) -> Result<(), Fail> {
+fn lines_of_the_table(rt: HostRuntime) {
     for row in LINES.split("\n# ") {
         if !row.is_empty() {
-            hold_line(&rt, rt.alloc(), row)?;
+            hold_line(&rt, rt.alloc(), row);
         }
     }
-    Ok(())
 }
 
 /// Texts without their line feed, and their lines.

@@ -3,7 +3,6 @@
 use rvc_words::{Job, PortWord, WordFault, read_words};
 use std::alloc::{AllocError, Global};
 use std::process::Abort;
-use std::test::Fail;
 
 /// The name and the file of each port word.
 fn ports_text(alloc: Global, ports: &[PortWord]) -> Result<String, AllocError> {
@@ -28,11 +27,11 @@ fn job_text(alloc: Global, job: &Job) -> Result<String, AllocError> {
 }
 
 /// What words ask for, or the cause why they ask for nothing.
-fn asked(alloc: Global, words: &[String]) -> Result<String, Fail> {
+fn asked(alloc: Global, words: &[String]) -> Result<String, AllocError> {
     match read_words(alloc, words) {
-        Ok(job) => Ok(job_text(alloc, &job)?),
-        Err(WordFault::Usage(cause)) => Ok(String::from_str(alloc, cause.name())?),
-        Err(fault) => Err(fault)?,
+        Ok(job) => job_text(alloc, &job),
+        Err(WordFault::Usage(cause)) => String::from_str(alloc, cause.name()),
+        Err(WordFault::Memory) => String::from_str(alloc, "out of memory"),
     }
 }
 
@@ -46,25 +45,23 @@ fn words(alloc: Global, line: &str) -> Result<Vec<String>, AllocError> {
 }
 
 /// Stops unless a line has its answer.
-fn hold_row(rt: &impl Abort, alloc: Global, row: &str) -> Result<(), Fail> {
+fn hold_row(rt: &impl Abort, alloc: Global, row: &str) {
     let (line, expected) = row.split_once(" = ").unwrap_or((row, ""));
-    let words = words(alloc, line)?;
-    let found = asked(alloc, &words)?;
+    let words = words(alloc, line).expect(rt, "words");
+    let found = asked(alloc, &words).expect(rt, "a text");
     assert!(rt; found.as_str() == expected, "{line}: {found}");
-    Ok(())
 }
 
 /// Stops at the first line that has another answer.
-fn hold(rt: &impl Abort, alloc: Global, table: &str) -> Result<(), Fail> {
+fn hold(rt: &impl Abort, alloc: Global, table: &str) {
     for row in table.lines() {
-        hold_row(rt, alloc, row)?;
+        hold_row(rt, alloc, row);
     }
-    Ok(())
 }
 
 #[test]
-fn jobs(rt: HostRuntime) -> Result<(), Fail> {
-    hold(&rt, rt.alloc(), JOBS)
+fn jobs(rt: HostRuntime) {
+    hold(&rt, rt.alloc(), JOBS);
 }
 
 /// Lines with their jobs: the verb, the top, the ports, the trace, the workers, the round, the burst, the budget and
@@ -78,8 +75,8 @@ rvc fmt a/b/A1.cal = Fmt a/b/A1.cal () 1 All 64 100000000 0
 rvc gen 1000 --trace t --budget 1000000000000 = Gen 1000 (t) 1 All 64 1000000000000 0";
 
 #[test]
-fn usage(rt: HostRuntime) -> Result<(), Fail> {
-    hold(&rt, rt.alloc(), USAGE)
+fn usage(rt: HostRuntime) {
+    hold(&rt, rt.alloc(), USAGE);
 }
 
 /// Lines that ask for nothing, with the cause that the program prints. The first one is empty.
