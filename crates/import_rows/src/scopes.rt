@@ -2,14 +2,13 @@
 
 use cal_ast::{Actor, Body, File, Function, Ident, Member, UnitFile, VarDecl};
 use cal_imports::{FileSet, Scope, resolve};
-use rvc_base::Front;
+use rvc_base::{Front, Memory};
 use scope_texts::{cut, file_of, printed};
 use std::alloc::Global;
 use std::process::Abort;
-use std::test::Fail;
 
 /// The set of these files, if each is one. They stand with `\nfile ` between as `CLASS TEXT`, and are numbered from 1.
-fn set_of(a: Global, files: &str) -> Result<Option<FileSet>, Fail> {
+fn set_of(a: Global, files: &str) -> Result<Option<FileSet>, Memory> {
     let mut set = FileSet::new(a)?;
     let mut number = 1;
     for named in files.split("\nfile ") {
@@ -26,18 +25,18 @@ fn set_of(a: Global, files: &str) -> Result<Option<FileSet>, Fail> {
 }
 
 /// What a file with this body prints as.
-fn body_printed(a: Global, body: Body) -> Result<String, Fail> {
+fn body_printed(a: Global, body: Body) -> Result<String, Memory> {
     let file = File {
         package: None,
         imports: Vec::new(a),
         body,
         at: 0,
     };
-    printed(a, &file)
+    Ok(printed(a, &file)?)
 }
 
 /// What a member prints as: what stands between `unit U : ` and ` end` in a unit that has it alone.
-fn member_printed(a: Global, member: Member) -> Result<String, Fail> {
+fn member_printed(a: Global, member: Member) -> Result<String, Memory> {
     let mut members = Vec::new(a);
     members.push(member)?;
     let name = Ident {
@@ -57,7 +56,7 @@ fn member_printed(a: Global, member: Member) -> Result<String, Fail> {
 }
 
 /// Adds a declaration of another file to a text.
-fn show_outer(text: &mut String, name: &str, file: u32, printed: &str) -> Result<(), Fail> {
+fn show_outer(text: &mut String, name: &str, file: u32, printed: &str) -> Result<(), Memory> {
     text.push_str("; ")?;
     text.push_str(name)?;
     text.push_str(" in ")?;
@@ -68,7 +67,7 @@ fn show_outer(text: &mut String, name: &str, file: u32, printed: &str) -> Result
 }
 
 /// A scope as text: the actor, then each variable and each function of other files.
-fn scope_shown(a: Global, scope: &Scope) -> Result<String, Fail> {
+fn scope_shown(a: Global, scope: &Scope) -> Result<String, Memory> {
     let whole = body_printed(a, Body::Actor(scope.actor.copy(a)?))?;
     let mut text = String::from_str(a, whole.as_str().trim_end())?;
     for v in &scope.vars {
@@ -83,7 +82,7 @@ fn scope_shown(a: Global, scope: &Scope) -> Result<String, Fail> {
 }
 
 /// The answer for files, of which the first is the one that is asked for.
-fn answer(a: Global, files: &str) -> Result<String, Fail> {
+fn answer(a: Global, files: &str) -> Result<String, Memory> {
     let Some(set) = set_of(a, files)? else {
         return Ok(String::from_str(a, "no files")?);
     };
@@ -102,29 +101,27 @@ fn answer(a: Global, files: &str) -> Result<String, Fail> {
 }
 
 /// Stops unless the files of a row have their answer.
-fn hold_row(rt: &impl Abort, a: Global, row: &str, behind: &str) -> Result<(), Fail> {
+fn hold_row(rt: &impl Abort, a: Global, row: &str, behind: &str) {
     let (want, files) = cut(row, "\nfile ");
-    let found = answer(a, files)?;
-    let whole = format!(in a; "{want}{behind}")?;
+    let found = answer(a, files).expect(rt, "a text");
+    let whole = format!(in a; "{want}{behind}").expect(rt, "a text");
     let holds = found.as_str() == whole.as_str();
     assert!(rt; holds, "{want} is wanted, and {found} is given");
-    Ok(())
 }
 
 /// Stops at the first row of a table whose answer is another; behind what is wanted stands a text that all rows have.
 /// Each row begins with `# ` and what is wanted, and has a line `file ` for each file.
-fn hold(rt: &impl Abort, a: Global, table: &str, behind: &str) -> Result<(), Fail> {
+fn hold(rt: &impl Abort, a: Global, table: &str, behind: &str) {
     for row in table.split("\n# ") {
         if !row.is_empty() {
-            hold_row(rt, a, row, behind)?;
+            hold_row(rt, a, row, behind);
         }
     }
-    Ok(())
 }
 
 #[test]
-fn names_that_imports_bring(rt: HostRuntime) -> Result<(), Fail> {
-    hold(&rt, rt.alloc(), BROUGHT, SHOWN)
+fn names_that_imports_bring(rt: HostRuntime) {
+    hold(&rt, rt.alloc(), BROUGHT, SHOWN);
 }
 
 /// What the declarations of the unit `lib.U` print as.
@@ -157,8 +154,8 @@ file A import lib.U.k; import lib.U.g; actor A() ==> : int x = g(k); end
 file lib.U package lib; unit U : int k = 1; function g(int x) --> int : x + k end end";
 
 #[test]
-fn scopes_of_several_files(rt: HostRuntime) -> Result<(), Fail> {
-    hold(&rt, rt.alloc(), WHOLE, "")
+fn scopes_of_several_files(rt: HostRuntime) {
+    hold(&rt, rt.alloc(), WHOLE, "");
 }
 
 /// Actors whose files are whole, with what they print as: a unit's declarations stand behind those that it imports, and each
@@ -184,8 +181,8 @@ file V unit V : int v = 3; end
 file A actor A() ==> : function f(int x) --> int : g(g(x)) end function g(int x) --> int : x end end";
 
 #[test]
-fn files_that_break_a_rule(rt: HostRuntime) -> Result<(), Fail> {
-    hold(&rt, rt.alloc(), BROKEN, "")
+fn files_that_break_a_rule(rt: HostRuntime) {
+    hold(&rt, rt.alloc(), BROKEN, "");
 }
 
 /// Actors of which a file breaks a rule: an unknown name, of a unit, and behind an import of another file; different things

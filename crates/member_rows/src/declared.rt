@@ -3,9 +3,8 @@
 use cal_ast::Body;
 use cal_scope::{FileNames, Inside, Role, ScopeFault};
 use scope_texts::{answered, cut, fault_shown, file_of, role_of};
-use std::alloc::Global;
+use std::alloc::{AllocError, Global};
 use std::process::Abort;
-use std::test::Fail;
 
 /// The names that a file declares.
 fn declared(a: Global, body: &Body) -> Result<FileNames, ScopeFault> {
@@ -22,9 +21,9 @@ fn full_name(a: Global, body: &Body, name: &str, role: Role) -> Result<String, S
 }
 
 /// The answer for the text of a file.
-fn answer(a: Global, text: &str, name: &str, role: Role) -> Result<String, Fail> {
+fn answer(a: Global, text: &str, name: &str, role: Role) -> Result<String, AllocError> {
     let Ok(file) = file_of(a, text.as_bytes()) else {
-        return Ok(String::from_str(a, "no file")?);
+        return String::from_str(a, "no file");
     };
     match full_name(a, &file.body, name, role) {
         Ok(full) => Ok(full),
@@ -33,24 +32,22 @@ fn answer(a: Global, text: &str, name: &str, role: Role) -> Result<String, Fail>
 }
 
 /// Stops unless the name of a row has its answer.
-fn hold_row(rt: &impl Abort, a: Global, row: &str) -> Result<(), Fail> {
+fn hold_row(rt: &impl Abort, a: Global, row: &str) {
     let (asked, want) = answered(row);
     let (role, rest) = cut(asked, " ");
     let (name, text) = cut(rest, " in ");
-    let found = answer(a, text, name, role_of(role))?;
+    let found = answer(a, text, name, role_of(role)).expect(rt, "a text");
     let holds = found.as_str() == want;
     assert!(rt; holds, "{text} gives {found}");
-    Ok(())
 }
 
 #[test]
-fn names_that_files_declare(rt: HostRuntime) -> Result<(), Fail> {
+fn names_that_files_declare(rt: HostRuntime) {
     for row in FILES.split("\n# ") {
         if !row.is_empty() {
-            hold_row(&rt, rt.alloc(), row)?;
+            hold_row(&rt, rt.alloc(), row);
         }
     }
-    Ok(())
 }
 
 /// What the name that is asked for is to be, the name, and the file, with its text in full: names, second declarations,

@@ -3,9 +3,8 @@
 use cal_ast::{Actor, Body, File};
 use cal_scope::{FileNames, PortNames, ScopeFault, resolve_members};
 use scope_texts::{answered, fault_shown, file_of, names_of, printed};
-use std::alloc::Global;
+use std::alloc::{AllocError, Global};
 use std::process::Abort;
-use std::test::Fail;
 
 /// What stands before the members in their file.
 const BEFORE: &str = "actor A ( ) int In ==> int Out : ";
@@ -29,13 +28,13 @@ fn file_with(a: Global, actor: Actor) -> File {
 }
 
 /// The answer for the text of members.
-fn answer(a: Global, names: &FileNames, text: &str) -> Result<String, Fail> {
+fn answer(a: Global, names: &FileNames, text: &str) -> Result<String, AllocError> {
     let source = format!(in a; "{BEFORE}{text} end")?;
     let Ok(file) = file_of(a, source.as_bytes()) else {
-        return Ok(String::from_str(a, "no file")?);
+        return String::from_str(a, "no file");
     };
     let Body::Actor(actor) = &file.body else {
-        return Ok(String::from_str(a, "no actor")?);
+        return String::from_str(a, "no actor");
     };
     match resolved(a, names, actor) {
         Ok(actor) => printed(a, &file_with(a, actor)),
@@ -44,34 +43,32 @@ fn answer(a: Global, names: &FileNames, text: &str) -> Result<String, Fail> {
 }
 
 /// What is wanted, as the file prints.
-fn wanted(a: Global, want: &str) -> Result<String, Fail> {
-    Ok(format!(in a; "{BEFORE}{want} end ")?)
+fn wanted(a: Global, want: &str) -> Result<String, AllocError> {
+    format!(in a; "{BEFORE}{want} end ")
 }
 
 /// Stops unless the members of a row have their answer.
-fn hold_row(rt: &impl Abort, a: Global, names: &FileNames, row: &str) -> Result<(), Fail> {
+fn hold_row(rt: &impl Abort, a: Global, names: &FileNames, row: &str) {
     let (text, want) = answered(row);
-    let found = answer(a, names, text)?;
-    let whole = wanted(a, want)?;
+    let found = answer(a, names, text).expect(rt, "a text");
+    let whole = wanted(a, want).expect(rt, "a text");
     let holds = found.as_str() == want || found.as_str() == whole.as_str();
     assert!(rt; holds, "{text} gives {found}");
-    Ok(())
 }
 
 /// Stops at the first row of a table whose answer is another.
-fn hold(rt: &impl Abort, a: Global, table: &str) -> Result<(), Fail> {
-    let names = names_of(a)?;
+fn hold(rt: &impl Abort, a: Global, table: &str) {
+    let names = names_of(a).expect(rt, "names");
     for row in table.split("\n# ") {
         if !row.is_empty() {
-            hold_row(rt, a, &names, row)?;
+            hold_row(rt, a, &names, row);
         }
     }
-    Ok(())
 }
 
 #[test]
-fn functions_and_procedures(rt: HostRuntime) -> Result<(), Fail> {
-    hold(&rt, rt.alloc(), FUNCTIONS)
+fn functions_and_procedures(rt: HostRuntime) {
+    hold(&rt, rt.alloc(), FUNCTIONS);
 }
 
 /// Functions and procedures. Formals and locals are one scope, and hide what is outside.
@@ -96,8 +93,8 @@ const FUNCTIONS: &str = "
 = S1 at 22";
 
 #[test]
-fn statements(rt: HostRuntime) -> Result<(), Fail> {
-    hold(&rt, rt.alloc(), STATEMENTS)
+fn statements(rt: HostRuntime) {
+    hold(&rt, rt.alloc(), STATEMENTS);
 }
 
 /// Statements, in procedures.
@@ -116,8 +113,8 @@ const STATEMENTS: &str = "
 = S1 at 54";
 
 #[test]
-fn actions(rt: HostRuntime) -> Result<(), Fail> {
-    hold(&rt, rt.alloc(), ACTIONS)
+fn actions(rt: HostRuntime) {
+    hold(&rt, rt.alloc(), ACTIONS);
 }
 
 /// Actions, whose ports are those of the header. A `repeat` sees no pattern variable.

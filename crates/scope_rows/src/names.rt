@@ -1,13 +1,12 @@
 //! What names stand for inside scopes, as rows.
 
-use cal_scope::{Frame, Inside, NameSet, Role};
+use cal_scope::{Frame, Inside, NameSet, Role, ScopeFault};
 use scope_texts::{answered, cut, fault_shown, names_of, role_of};
-use std::alloc::Global;
+use std::alloc::{AllocError, Global};
 use std::process::Abort;
-use std::test::Fail;
 
 /// The full name, or the rule that the use breaks.
-fn answer(a: Global, names: &Inside, name: &str, role: Role) -> Result<String, Fail> {
+fn answer(a: Global, names: &Inside, name: &str, role: Role) -> Result<String, AllocError> {
     match names.full_name(role, name, 7) {
         Ok(full) => Ok(full),
         Err(fault) => fault_shown(a, fault, ""),
@@ -15,30 +14,28 @@ fn answer(a: Global, names: &Inside, name: &str, role: Role) -> Result<String, F
 }
 
 /// Stops unless the use of a row has its answer.
-fn hold_row(rt: &impl Abort, a: Global, names: &Inside, row: &str) -> Result<(), Fail> {
+fn hold_row(rt: &impl Abort, a: Global, names: &Inside, row: &str) {
     let (text, want) = answered(row);
     let (role, name) = cut(text, " ");
-    let found = answer(a, names, name, role_of(role))?;
+    let found = answer(a, names, name, role_of(role)).expect(rt, "a text");
     let holds = found.as_str() == want;
     assert!(rt; holds, "{name} gives {found}");
-    Ok(())
 }
 
 /// Stops at the first row of a table whose answer is another.
-fn hold(rt: &impl Abort, a: Global, names: &Inside, table: &str) -> Result<(), Fail> {
+fn hold(rt: &impl Abort, a: Global, names: &Inside, table: &str) {
     for row in table.split("\n# ") {
         if !row.is_empty() {
-            hold_row(rt, a, names, row)?;
+            hold_row(rt, a, names, row);
         }
     }
-    Ok(())
 }
 
 #[test]
-fn names_of_a_file(rt: HostRuntime) -> Result<(), Fail> {
+fn names_of_a_file(rt: HostRuntime) {
     let a = rt.alloc();
-    let names = names_of(a)?;
-    hold(&rt, a, &Inside::outermost(&names), OUTSIDE)
+    let names = names_of(a).expect(&rt, "names");
+    hold(&rt, a, &Inside::outermost(&names), OUTSIDE);
 }
 
 /// Uses where no scope stands round, each with what the name is to be.
@@ -63,37 +60,31 @@ const OUTSIDE: &str = "
 = S5 at 7";
 
 /// The names of a scope that declares one.
-fn scope_of(a: Global, name: &str) -> Result<NameSet, Fail> {
+fn scope_of(a: Global, name: &str) -> Result<NameSet, ScopeFault> {
     let mut names = NameSet::new(a);
     names.add(name)?;
     Ok(names)
 }
 
 /// The rows inside one scope more.
-fn hold_within(
-    rt: &impl Abort,
-    a: Global,
-    names: &Inside,
-    here: &NameSet,
-    table: &str,
-) -> Result<(), Fail> {
+fn hold_within(rt: &impl Abort, a: Global, names: &Inside, here: &NameSet, table: &str) {
     let frame = Frame {
         names: here,
         outer: names.frame,
     };
     let inside = names.under(&frame);
-    hold(rt, a, &inside, table)
+    hold(rt, a, &inside, table);
 }
 
 /// The rows inside a scope of `i`, which stands inside another.
-fn hold_inside(rt: &impl Abort, a: Global, names: &Inside, round: &NameSet) -> Result<(), Fail> {
+fn hold_inside(rt: &impl Abort, a: Global, names: &Inside, round: &NameSet) {
     let frame = Frame {
         names: round,
         outer: names.frame,
     };
     let inside = names.under(&frame);
-    let here = scope_of(a, "i")?;
-    hold_within(rt, a, &inside, &here, INSIDE)
+    let here = scope_of(a, "i").expect(rt, "a scope");
+    hold_within(rt, a, &inside, &here, INSIDE);
 }
 
 /// Uses inside a scope of `i`, which stands inside one of `g`.
@@ -112,17 +103,16 @@ const INSIDE: &str = "
 = S1 at 7";
 
 #[test]
-fn inner_names_hide_outer_ones(rt: HostRuntime) -> Result<(), Fail> {
+fn inner_names_hide_outer_ones(rt: HostRuntime) {
     let a = rt.alloc();
-    let names = names_of(a)?;
-    let round = scope_of(a, "g")?;
-    hold_inside(&rt, a, &Inside::outermost(&names), &round)
+    let names = names_of(a).expect(&rt, "names");
+    let round = scope_of(a, "g").expect(&rt, "a scope");
+    hold_inside(&rt, a, &Inside::outermost(&names), &round);
 }
 
 #[test]
-fn a_name_is_declared_once(rt: HostRuntime) -> Result<(), Fail> {
-    let names = scope_of(rt.alloc(), "x")?;
+fn a_name_is_declared_once(rt: HostRuntime) {
+    let names = scope_of(rt.alloc(), "x").expect(&rt, "a scope");
     assert!(rt; names.has("x"));
     assert!(rt; !names.has("y"));
-    Ok(())
 }

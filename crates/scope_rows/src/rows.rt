@@ -3,9 +3,8 @@
 use cal_ast::{Body, File, Ident, Member, UnitFile, VarDecl};
 use cal_scope::{FileNames, ScopeFault, resolve_expr, resolve_type};
 use scope_texts::{answered, fault_shown, file_of, names_of, printed};
-use std::alloc::Global;
+use std::alloc::{AllocError, Global};
 use std::process::Abort;
-use std::test::Fail;
 
 /// What stands before an expression in its file, as many bytes as places are shifted by.
 const BEFORE: &str = "unit U : int X = ";
@@ -53,7 +52,7 @@ fn resolved(
 }
 
 /// A file that declares the variable.
-fn file_with(a: Global, v: VarDecl) -> Result<File, Fail> {
+fn file_with(a: Global, v: VarDecl) -> Result<File, ScopeFault> {
     let mut members = Vec::new(a);
     members.push(Member::Var(v))?;
     let name = Ident {
@@ -72,20 +71,31 @@ fn file_with(a: Global, v: VarDecl) -> Result<File, Fail> {
     })
 }
 
-/// The answer for the text of an expression or a type.
-fn answer(a: Global, names: &FileNames, asked: Asked, text: &str) -> Result<String, Fail> {
-    let source = match asked {
-        Asked::Expression => format!(in a; "{BEFORE}{text}; end")?,
-        Asked::Type => format!(in a; "{BEFORE_TYPE}{text} X; end")?,
+/// The file in which the text of an expression or a type stands.
+fn source_of(a: Global, asked: Asked, text: &str) -> Result<String, AllocError> {
+    match asked {
+        Asked::Expression => format!(in a; "{BEFORE}{text}; end"),
+        Asked::Type => format!(in a; "{BEFORE_TYPE}{text} X; end"),
+    }
+}
+
+/// The file that declares a variable with its start or its type resolved.
+fn resolved_file(
+    a: Global,
+    names: &FileNames,
+    asked: Asked,
+    v: &VarDecl,
+) -> Result<File, ScopeFault> {
+    file_with(a, resolved(a, names, asked, v)?)
+}
+
+/// The answer for the file of a row.
+fn answer(a: Global, names: &FileNames, asked: Asked, file: &File) -> Result<String, AllocError> {
+    let Some(v) = variable_of(file) else {
+        return String::from_str(a, "no variable");
     };
-    let Ok(file) = file_of(a, source.as_bytes()) else {
-        return Ok(String::from_str(a, "no file")?);
-    };
-    let Some(v) = variable_of(&file) else {
-        return Ok(String::from_str(a, "no variable")?);
-    };
-    match resolved(a, names, asked, v) {
-        Ok(v) => printed(a, &file_with(a, v)?),
+    match resolved_file(a, names, asked, v) {
+        Ok(file) => printed(a, &file),
         Err(fault) => fault_shown(a, fault, before(asked)),
     }
 }
@@ -99,36 +109,30 @@ fn before(asked: Asked) -> &'static str {
 }
 
 /// What is wanted, as the file prints.
-fn wanted(a: Global, asked: Asked, want: &str) -> Result<String, Fail> {
+fn wanted(a: Global, asked: Asked, want: &str) -> Result<String, AllocError> {
     match asked {
-        Asked::Expression => Ok(format!(in a; "{BEFORE}{want} ; end ")?),
-        Asked::Type => Ok(format!(in a; "{BEFORE_TYPE}{want} X ; end ")?),
+        Asked::Expression => format!(in a; "{BEFORE}{want} ; end "),
+        Asked::Type => format!(in a; "{BEFORE_TYPE}{want} X ; end "),
     }
 }
 
 /// Stops unless the text of a row has its answer.
-fn hold_row(
-    rt: &impl Abort,
-    a: Global,
-    names: &FileNames,
-    asked: Asked,
-    row: &str,
-) -> Result<(), Fail> {
+fn hold_row(rt: &impl Abort, a: Global, names: &FileNames, asked: Asked, row: &str) {
     let (text, want) = answered(row);
-    let found = answer(a, names, asked, text)?;
-    let whole = wanted(a, asked, want)?;
+    let source = source_of(a, asked, text).expect(rt, "a text");
+    let file = file_of(a, source.as_bytes()).expect(rt, "a file");
+    let found = answer(a, names, asked, &file).expect(rt, "a text");
+    let whole = wanted(a, asked, want).expect(rt, "a text");
     let holds = found.as_str() == want || found.as_str() == whole.as_str();
     assert!(rt; holds, "{text} gives {found}");
-    Ok(())
 }
 
 /// Stops at the first row of a table whose answer is another.
-pub(crate) fn hold(rt: &impl Abort, a: Global, asked: Asked, table: &str) -> Result<(), Fail> {
-    let names = names_of(a)?;
+pub(crate) fn hold(rt: &impl Abort, a: Global, asked: Asked, table: &str) {
+    let names = names_of(a).expect(rt, "names");
     for row in table.split("\n# ") {
         if !row.is_empty() {
-            hold_row(rt, a, &names, asked, row)?;
+            hold_row(rt, a, &names, asked, row);
         }
     }
-    Ok(())
 }

@@ -5,8 +5,7 @@ use cal_lexer::lex;
 use cal_parser::parse_file;
 use cal_print::print_file;
 use rvc_base::Front;
-use std::alloc::Global;
-use std::test::Fail;
+use std::alloc::{AllocError, Global};
 
 /// The file that a text spells.
 pub fn file_of(alloc: Global, text: &[u8]) -> Result<File, Front> {
@@ -18,9 +17,9 @@ pub fn file_of(alloc: Global, text: &[u8]) -> Result<File, Front> {
 }
 
 /// The text of a file, in one line.
-pub fn printed(alloc: Global, file: &File) -> Result<String, Fail> {
+pub fn printed(alloc: Global, file: &File) -> Result<String, AllocError> {
     let Ok(bytes) = print_file(alloc, file) else {
-        return Ok(String::from_str(alloc, "Memory")?);
+        return String::from_str(alloc, "Memory");
     };
     let mut text = String::new(alloc);
     for byte in bytes {
