@@ -2,11 +2,10 @@
 
 use crate::rows::hold;
 use network_answers::Told;
-use std::test::Fail;
 
 #[test]
-fn levels(rt: HostRuntime) -> Result<(), Fail> {
-    hold(&rt, rt.alloc(), Told::Whole, LEVELS)
+fn levels(rt: HostRuntime) {
+    hold(&rt, rt.alloc(), Told::Whole, LEVELS);
 }
 
 /// Networks in networks.
@@ -35,8 +34,8 @@ actor Begin  ; Out:bool
 actor End In:bool ;";
 
 #[test]
-fn connections(rt: HostRuntime) -> Result<(), Fail> {
-    hold(&rt, rt.alloc(), Told::Whole, CONNECTIONS)
+fn connections(rt: HostRuntime) {
+    hold(&rt, rt.alloc(), Told::Whole, CONNECTIONS);
 }
 
 /// Links and their capacities.
@@ -73,8 +72,8 @@ actor A In:bool ; Out:bool
 net T <XDF name='T'/>";
 
 #[test]
-fn values(rt: HostRuntime) -> Result<(), Fail> {
-    hold(&rt, rt.alloc(), Told::Whole, VALUES)
+fn values(rt: HostRuntime) {
+    hold(&rt, rt.alloc(), Told::Whole, VALUES);
 }
 
 /// What networks and actors are given.
@@ -101,8 +100,8 @@ net T <XDF name='T'><Decl kind='Variable' name='l'><Type name='List'><Entry kind
 net M <XDF name='M'><Decl kind='Param' name='p'><Type name='List'><Entry kind='Type' name='type'><Type name='uint'><Entry kind='Expr' name='size'><Expr kind='Literal' literal-kind='Integer' value='8'/></Entry></Type></Entry><Entry kind='Expr' name='size'><Expr kind='Literal' literal-kind='Integer' value='2'/></Entry></Type></Decl><Instance id='a'><Class name='A'/><Parameter name='p'><Expr kind='Var' name='p'/></Parameter></Instance></XDF>";
 
 #[test]
-fn expressions(rt: HostRuntime) -> Result<(), Fail> {
-    hold(&rt, rt.alloc(), Told::Whole, EXPRESSIONS)
+fn expressions(rt: HostRuntime) {
+    hold(&rt, rt.alloc(), Told::Whole, EXPRESSIONS);
 }
 
 /// Expressions of parameters and of types.

@@ -2,11 +2,10 @@
 
 use crate::rows::hold;
 use network_answers::Told;
-use std::test::Fail;
 
 #[test]
-fn texts(rt: HostRuntime) -> Result<(), Fail> {
-    hold(&rt, rt.alloc(), Told::Whole, TEXTS)
+fn texts(rt: HostRuntime) {
+    hold(&rt, rt.alloc(), Told::Whole, TEXTS);
 }
 
 /// Texts that are no networks, or not those of their classes.
@@ -36,8 +35,8 @@ net T <XDF name='T'><Instance id='m'><Class name='p.M'/></Instance></XDF>
 net p.M <XDF name='N'/>";
 
 #[test]
-fn parameters(rt: HostRuntime) -> Result<(), Fail> {
-    hold(&rt, rt.alloc(), Told::Whole, PARAMETERS)
+fn parameters(rt: HostRuntime) {
+    hold(&rt, rt.alloc(), Told::Whole, PARAMETERS);
 }
 
 /// Parameters of networks: unknown, given twice, or missed.
@@ -76,8 +75,8 @@ net N <XDF name='N'><Decl kind='Param' name='p'><Type name='int'/></Decl></XDF>
 net T <XDF name='T'><Decl kind='Param' name='p'><Type name='int'/></Decl></XDF>";
 
 #[test]
-fn circles(rt: HostRuntime) -> Result<(), Fail> {
-    hold(&rt, rt.alloc(), Told::Whole, CIRCLES)
+fn circles(rt: HostRuntime) {
+    hold(&rt, rt.alloc(), Told::Whole, CIRCLES);
 }
 
 /// Networks inside themselves.
@@ -102,8 +101,8 @@ net A <XDF name='A'><Instance id='b'><Class name='B'/></Instance><Instance id='a
 net B <XDF name='B'><Instance id='x'><Class name='X'/></Instance></XDF>";
 
 #[test]
-fn writers(rt: HostRuntime) -> Result<(), Fail> {
-    hold(&rt, rt.alloc(), Told::Whole, WRITERS)
+fn writers(rt: HostRuntime) {
+    hold(&rt, rt.alloc(), Told::Whole, WRITERS);
 }
 
 /// Second writers.
@@ -128,8 +127,8 @@ net M <XDF name='M'><Port kind='Input' name='In'><Type name='bool'/></Port><Port
 actor A In:bool ; Out:bool";
 
 #[test]
-fn ends(rt: HostRuntime) -> Result<(), Fail> {
-    hold(&rt, rt.alloc(), Told::Whole, ENDS)
+fn ends(rt: HostRuntime) {
+    hold(&rt, rt.alloc(), Told::Whole, ENDS);
 }
 
 /// Ends that there aren't.
@@ -191,8 +190,8 @@ net M <XDF name='M'><Port kind='Input' name='In'><Type name='bool'/></Port></XDF
 actor A In:bool ; Out:bool";
 
 #[test]
-fn kinds(rt: HostRuntime) -> Result<(), Fail> {
-    hold(&rt, rt.alloc(), Told::Whole, KINDS)
+fn kinds(rt: HostRuntime) {
+    hold(&rt, rt.alloc(), Told::Whole, KINDS);
 }
 
 /// Truth values and numbers.
@@ -222,8 +221,8 @@ net M <XDF name='M'><Port kind='Input' name='In'><Type name='int'/></Port><Insta
 actor A In:bool ; Out:bool";
 
 #[test]
-fn straight(rt: HostRuntime) -> Result<(), Fail> {
-    hold(&rt, rt.alloc(), Told::Whole, STRAIGHT)
+fn straight(rt: HostRuntime) {
+    hold(&rt, rt.alloc(), Told::Whole, STRAIGHT);
 }
 
 /// Inputs passed straight to outputs.
@@ -237,8 +236,8 @@ net T <XDF name='T'><Port kind='Input' name='In'><Type name='bool'/></Port><Port
 net M <XDF name='M'><Port kind='Input' name='In'><Type name='bool'/></Port><Port kind='Output' name='Out'><Type name='bool'/></Port><Connection src='' src-port='In' dst='' dst-port='Out'/></XDF>";
 
 #[test]
-fn twice(rt: HostRuntime) -> Result<(), Fail> {
-    hold(&rt, rt.alloc(), Told::Whole, TWICE)
+fn twice(rt: HostRuntime) {
+    hold(&rt, rt.alloc(), Told::Whole, TWICE);
 }
 
 /// Names that stand twice.
@@ -267,8 +266,8 @@ net T <XDF name='T'><Instance id='m'><Class name='M'/></Instance></XDF>
 net M <XDF name='M'><Instance id='x'><Class name='A'/></Instance><Instance id='x'><Class name='A'/></Instance></XDF>";
 
 #[test]
-fn sizes(rt: HostRuntime) -> Result<(), Fail> {
-    hold(&rt, rt.alloc(), Told::Whole, SIZES)
+fn sizes(rt: HostRuntime) {
+    hold(&rt, rt.alloc(), Told::Whole, SIZES);
 }
 
 /// Sizes of connections.

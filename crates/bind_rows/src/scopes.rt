@@ -5,9 +5,9 @@ use fnl_read::NetFile;
 use fnl_scopes::{ScopeFault, check_scopes};
 use net_set::NetSet;
 use network_answers::{add, cut, read};
+use rvc_base::Memory;
 use std::alloc::{AllocError, Global};
 use std::process::Abort;
-use std::test::Fail;
 
 fn classes_of(alloc: Global, classes: &str) -> Result<Vec<String>, AllocError> {
     let mut found = Vec::new(alloc);
@@ -40,24 +40,22 @@ fn broken(alloc: Global, text: &str, class: &str, above: &str) -> Result<String,
 
 /// Stops unless the network of a row breaks the rule that is told, which stands in a line `= `. Its class stands in a line
 /// `of `, the classes of the networks round it in a line `in `, and its text in a line `net `.
-fn hold_row(rt: &impl Abort, alloc: Global, row: &str) -> Result<(), Fail> {
+fn hold_row(rt: &impl Abort, alloc: Global, row: &str) {
     let (_, row) = cut(row, "\n= ");
     let (expected, parts) = cut(row, "\nof ");
     let (class, parts) = cut(parts, "\nin ");
     let (above, text) = cut(parts, "\nnet ");
-    let found = broken(alloc, text, class, above)?;
+    let found = broken(alloc, text, class, above).expect(rt, "a text");
     same(rt, found.as_str(), expected);
-    Ok(())
 }
 
 #[test]
-fn scopes(rt: HostRuntime) -> Result<(), Fail> {
+fn scopes(rt: HostRuntime) {
     for row in SCOPES.split("\n# ") {
         if !row.is_empty() {
-            hold_row(&rt, rt.alloc(), row)?;
+            hold_row(&rt, rt.alloc(), row);
         }
     }
-    Ok(())
 }
 
 const SCOPES: &str = "
@@ -188,7 +186,7 @@ in T
 net <XDF name='T'><Decl kind='Variable' name='v'><Type name='float'/><Expr kind='Var' name='w'/></Decl><Decl kind='Variable' name='w'><Type name='half'/><Expr kind='Literal' literal-kind='Integer' value='1'/></Decl></XDF>";
 
 /// A set of networks of these classes, whose files are numbered from 5.
-fn set(alloc: Global, classes: &str) -> Result<NetSet, Fail> {
+fn set(alloc: Global, classes: &str) -> Result<NetSet, Memory> {
     let mut set = NetSet::new(alloc)?;
     let mut file = 5u32;
     for class in classes.split_whitespace() {
@@ -201,7 +199,7 @@ fn set(alloc: Global, classes: &str) -> Result<NetSet, Fail> {
 }
 
 /// The numbers of the files of these classes, and how many networks there are.
-fn looked_up(alloc: Global, set: &NetSet, classes: &str) -> Result<String, Fail> {
+fn looked_up(alloc: Global, set: &NetSet, classes: &str) -> Result<String, Memory> {
     let mut out = String::new(alloc);
     for class in classes.split_whitespace() {
         match set.get(class) {
@@ -218,18 +216,17 @@ fn looked_up(alloc: Global, set: &NetSet, classes: &str) -> Result<String, Fail>
 }
 
 /// What is found in a set of networks.
-fn found(alloc: Global, classes: &str, asked: &str) -> Result<String, Fail> {
+fn found(alloc: Global, classes: &str, asked: &str) -> Result<String, Memory> {
     let set = set(alloc, classes)?;
     looked_up(alloc, &set, asked)
 }
 
 #[test]
-fn a_set_of_networks_is_asked_by_class(rt: HostRuntime) -> Result<(), Fail> {
+fn a_set_of_networks_is_asked_by_class(rt: HostRuntime) {
     for &(classes, asked, expected) in SETS {
-        let found = found(rt.alloc(), classes, asked)?;
+        let found = found(rt.alloc(), classes, asked).expect(&rt, "a text");
         same(&rt, found.as_str(), expected);
     }
-    Ok(())
 }
 
 /// Classes of networks, those that are asked for, and their files.

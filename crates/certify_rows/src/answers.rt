@@ -5,9 +5,8 @@ use cal_lexer::lex;
 use cal_parser::parse_file;
 use determinacy_cert::{CertFault, certify};
 use guarded_actors::{Sort, Takes, example, sort_of};
-use rvc_base::Front;
+use rvc_base::{Front, Memory};
 use std::alloc::Global;
-use std::test::Fail;
 
 /// What an action takes, and the text of its guard.
 pub(crate) type Row<'a> = (Takes, &'a str);
@@ -33,7 +32,7 @@ fn variable_of(file: &File) -> Option<&VarDecl> {
 }
 
 /// The expression that a text spells, if it spells one.
-fn spelled(alloc: Global, text: &str) -> Result<Option<Expr>, Fail> {
+fn spelled(alloc: Global, text: &str) -> Result<Option<Expr>, Memory> {
     let source = format!(in alloc; "unit U : bool X = {text}; end")?;
     let Ok(file) = file_of(alloc, source.as_bytes()) else {
         return Ok(None);
@@ -53,7 +52,7 @@ pub(crate) fn answer(
     one: Row<'_>,
     two: Row<'_>,
     ranked: bool,
-) -> Result<String, Fail> {
+) -> Result<String, Memory> {
     let Some(guard) = spelled(alloc, one.1)? else {
         return Ok(String::from_str(alloc, "first guard is none")?);
     };
@@ -70,7 +69,7 @@ fn judged(
     two: Takes,
     other: Expr,
     ranked: bool,
-) -> Result<String, Fail> {
+) -> Result<String, Memory> {
     let Sort::Truth = sort_of(&guard, one) else {
         return Ok(String::from_str(alloc, "first guard is unfit")?);
     };
@@ -81,7 +80,7 @@ fn judged(
     shown(alloc, certify(alloc, &actor))
 }
 
-fn shown(alloc: Global, answer: Result<(), CertFault>) -> Result<String, Fail> {
+fn shown(alloc: Global, answer: Result<(), CertFault>) -> Result<String, Memory> {
     match answer {
         Ok(()) => Ok(String::from_str(alloc, "certified")?),
         Err(

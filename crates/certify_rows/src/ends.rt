@@ -4,9 +4,8 @@
 
 use crate::answers::answer;
 use guarded_actors::Takes;
-use rvc_base::Num;
+use rvc_base::{Memory, Num};
 use std::alloc::Global;
-use std::test::Fail;
 
 /// An expression of a token of 64 bits, with the least and the greatest number that it may give.
 const ENDS: &[(&str, Num, Num)] = &[
@@ -21,14 +20,14 @@ const ENDS: &[(&str, Num, Num)] = &[
 ];
 
 /// Whether the expression without this number has an interval once these are added.
-fn fits(a: Global, e: &str, without: Num, added: &str) -> Result<bool, Fail> {
+fn fits(a: Global, e: &str, without: Num, added: &str) -> Result<bool, Memory> {
     let text = format!(in a; "({e}) - ({without}) {added} = 0")?;
     let found = answer(a, (Takes::One, text.as_str()), (Takes::One, "true"), true)?;
     Ok(found.as_str() == "certified")
 }
 
 /// Whether these are the ends.
-fn are_ends(a: Global, e: &str, low: Num, high: Num) -> Result<bool, Fail> {
+fn are_ends(a: Global, e: &str, low: Num, high: Num) -> Result<bool, Memory> {
     let all = format!(in a; "- {} - 1", Num::MAX)?;
     let too_many = format!(in a; "- {} - 2", Num::MAX)?;
     let least = fits(a, e, low, all.as_str())? && !fits(a, e, low, too_many.as_str())?;
@@ -39,9 +38,9 @@ fn are_ends(a: Global, e: &str, low: Num, high: Num) -> Result<bool, Fail> {
 }
 
 #[test]
-fn ends(rt: HostRuntime) -> Result<(), Fail> {
+fn ends(rt: HostRuntime) {
     for &(e, low, high) in ENDS {
-        assert!(rt; are_ends(rt.alloc(), e, low, high)?, "{e}");
+        let holds = are_ends(rt.alloc(), e, low, high).expect(&rt, "an answer");
+        assert!(rt; holds, "{e}");
     }
-    Ok(())
 }

@@ -2,7 +2,6 @@
 
 use crate::answers::answer;
 use guarded_actors::Takes;
-use std::test::Fail;
 
 /// What the action takes, its guard, and the answer. Another action without a guard is below it, and takes the same.
 const GUARDS: &[(Takes, &str, &str)] = &[
@@ -52,10 +51,10 @@ const GUARDS: &[(Takes, &str, &str)] = &[
 ];
 
 #[test]
-fn guards(rt: HostRuntime) -> Result<(), Fail> {
+fn guards(rt: HostRuntime) {
     for &(takes, text, want) in GUARDS {
-        let found = answer(rt.alloc(), (takes, text), (takes, "true"), true)?;
+        let found = answer(rt.alloc(), (takes, text), (takes, "true"), true);
+        let found = found.expect(&rt, "an answer");
         assert!(rt; found.as_str() == want, "{text} gives {found}");
     }
-    Ok(())
 }

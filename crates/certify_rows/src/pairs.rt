@@ -2,7 +2,6 @@
 
 use crate::answers::answer;
 use guarded_actors::Takes;
-use std::test::Fail;
 
 /// Two guards of actions that take the same token, and whether they exclude each other.
 const GUARDS: &[(&str, &str, bool)] = &[
@@ -30,15 +29,16 @@ const GUARDS: &[(&str, &str, bool)] = &[
 ];
 
 #[test]
-fn guards_of_one_token(rt: HostRuntime) -> Result<(), Fail> {
+fn guards_of_one_token(rt: HostRuntime) {
     for &(one, two, apart) in GUARDS {
         let want = if apart { "certified" } else { "0 0 1 C2" };
-        let found = answer(rt.alloc(), (Takes::One, one), (Takes::One, two), false)?;
+        let found = answer(rt.alloc(), (Takes::One, one), (Takes::One, two), false);
+        let found = found.expect(&rt, "an answer");
         assert!(rt; found.as_str() == want, "{one} and {two} give {found}");
-        let found = answer(rt.alloc(), (Takes::One, two), (Takes::One, one), false)?;
+        let found = answer(rt.alloc(), (Takes::One, two), (Takes::One, one), false);
+        let found = found.expect(&rt, "an answer");
         assert!(rt; found.as_str() == want, "{two} and {one} give {found}");
     }
-    Ok(())
 }
 
 /// What two actions take, their guards, whether the first is above the second, and the answer.
@@ -124,13 +124,13 @@ const TAKING: &[(Takes, &str, Takes, &str, bool, &str)] = &[
 ];
 
 #[test]
-fn tokens(rt: HostRuntime) -> Result<(), Fail> {
+fn tokens(rt: HostRuntime) {
     for &(first, one, second, two, ranked, want) in TAKING {
-        let found = answer(rt.alloc(), (first, one), (second, two), ranked)?;
+        let found = answer(rt.alloc(), (first, one), (second, two), ranked);
+        let found = found.expect(&rt, "an answer");
         assert!(rt;
             found.as_str() == want,
             "{first:?} {one} and {second:?} {two} give {found}"
         );
     }
-    Ok(())
 }

@@ -1,10 +1,9 @@
 //! Rows of files, and what a loading asks for and answers.
 
 use actor_files::{Names, class_of, load, read_actor};
-use logged_files::{Files, library, outcome, told};
+use logged_files::{Files, Logged, library, outcome, told};
 use std::alloc::Global;
 use std::process::Abort;
-use std::test::Fail;
 
 /// A top, the files, and what is answered: the names that were asked for, and how the loading ended, with the names of
 /// the files that have a number.
@@ -106,61 +105,65 @@ const FAILING: &[(u64, Row)] = &[
     ),
 ];
 
+/// A library of the files of a row.
+fn held(rt: &impl Abort, a: Global, files: Files, failing: u64) -> Logged {
+    library(a, files, failing)
+        .expect(rt, "memory")
+        .expect(rt, "names that differ")
+}
+
 /// What a row answers.
-fn answer(a: Global, top: &str, files: Files, failing: u64) -> Result<String, Fail> {
-    let mut library = library(a, files, failing)?;
-    let class = class_of(a, top)?;
+fn answer(rt: &impl Abort, a: Global, top: &str, files: Files, failing: u64) -> String {
+    let mut library = held(rt, a, files, failing);
+    let class = class_of(a, top).expect(rt, "a class");
     let mut names = Names::new(a);
     let fault = load(a, &mut library, class.as_str(), &mut names).err();
-    let ended = outcome(a, fault)?;
-    told(a, library.asked.as_str(), ended.as_str(), &names)
+    let ended = outcome(a, fault).expect(rt, "a text");
+    told(a, library.asked.as_str(), ended.as_str(), &names).expect(rt, "a text")
 }
 
 /// Stops at a row whose answer is another.
-fn hold(rt: &impl Abort, a: Global, row: Row, failing: u64) -> Result<(), Fail> {
+fn hold(rt: &impl Abort, a: Global, row: Row, failing: u64) {
     let (top, files, want) = row;
-    let found = answer(a, top, files, failing)?;
+    let found = answer(rt, a, top, files, failing);
     let holds = found.as_str() == want;
     assert!(rt; holds, "{want} is wanted, and {found} is given");
-    Ok(())
 }
 
 #[test]
-fn files_that_are_read(rt: HostRuntime) -> Result<(), Fail> {
+fn files_that_are_read(rt: HostRuntime) {
     for &row in LOADED {
-        hold(&rt, rt.alloc(), row, 0)?;
+        hold(&rt, rt.alloc(), row, 0);
     }
-    Ok(())
 }
 
 #[test]
-fn files_that_are_refused(rt: HostRuntime) -> Result<(), Fail> {
+fn files_that_are_refused(rt: HostRuntime) {
     for &row in REFUSED {
-        hold(&rt, rt.alloc(), row, 0)?;
+        hold(&rt, rt.alloc(), row, 0);
     }
-    Ok(())
 }
 
 #[test]
-fn reads_that_fail(rt: HostRuntime) -> Result<(), Fail> {
+fn reads_that_fail(rt: HostRuntime) {
     for &(failing, row) in FAILING {
-        hold(&rt, rt.alloc(), row, failing)?;
+        hold(&rt, rt.alloc(), row, failing);
     }
-    Ok(())
 }
 
 /// How the reading of an actor ended: its class, and how many declarations of other files there are.
-fn actor(a: Global, top: &str, files: Files) -> Result<String, Fail> {
-    let mut library = library(a, files, 0)?;
-    let class = class_of(a, top)?;
+fn actor(rt: &impl Abort, a: Global, top: &str, files: Files) -> String {
+    let mut library = held(rt, a, files, 0);
+    let class = class_of(a, top).expect(rt, "a class");
     let mut names = Names::new(a);
-    match read_actor(a, &mut library, class.as_str(), &mut names) {
+    let found = match read_actor(a, &mut library, class.as_str(), &mut names) {
         Ok(scope) => {
             let (class, file, vars) = (scope.class.as_str(), scope.file, scope.vars.len());
-            Ok(format!(in a; "{class} in {file} with {vars}")?)
+            format!(in a; "{class} in {file} with {vars}")
         }
         Err(fault) => outcome(a, Some(fault)),
-    }
+    };
+    found.expect(rt, "a text")
 }
 
 const ACTORS: &[Row] = &[
@@ -192,11 +195,10 @@ const ACTORS: &[Row] = &[
 ];
 
 #[test]
-fn actors_with_their_imports(rt: HostRuntime) -> Result<(), Fail> {
+fn actors_with_their_imports(rt: HostRuntime) {
     for &(top, files, want) in ACTORS {
-        let found = actor(rt.alloc(), top, files)?;
+        let found = actor(&rt, rt.alloc(), top, files);
         let holds = found.as_str() == want;
         assert!(&rt; holds, "{want} is wanted, and {found} is given");
     }
-    Ok(())
 }

@@ -1,24 +1,23 @@
 //! What a loading asked for and how it ended, as text.
 
 use actor_files::{LoadFault, Names};
-use std::alloc::Global;
-use std::test::Fail;
+use std::alloc::{AllocError, Global};
 
 /// How a loading ended.
-pub fn outcome(a: Global, fault: Option<LoadFault>) -> Result<String, Fail> {
+pub fn outcome(a: Global, fault: Option<LoadFault>) -> Result<String, AllocError> {
     match fault {
-        None => Ok(String::from_str(a, "loaded")?),
+        None => String::from_str(a, "loaded"),
         Some(LoadFault::Refused(r)) => {
             let (rule, file, at) = (r.rule, r.place.file, r.place.offset);
-            Ok(format!(in a; "{rule} in {file} at {at}")?)
+            format!(in a; "{rule} in {file} at {at}")
         }
-        Some(LoadFault::ReadFault { file }) => Ok(format!(in a; "read fault {file}")?),
-        Some(LoadFault::Memory) => Ok(String::from_str(a, "Memory")?),
+        Some(LoadFault::ReadFault { file }) => format!(in a; "read fault {file}"),
+        Some(LoadFault::Memory) => String::from_str(a, "Memory"),
     }
 }
 
 /// The names that were asked for, how the loading ended, and the names of the files that have a number.
-pub fn told(a: Global, asked: &str, ended: &str, names: &Names) -> Result<String, Fail> {
+pub fn told(a: Global, asked: &str, ended: &str, names: &Names) -> Result<String, AllocError> {
     let mut text = String::from_str(a, asked)?;
     text.push_str("| ")?;
     text.push_str(ended)?;

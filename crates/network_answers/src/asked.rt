@@ -13,8 +13,6 @@ use fnl_walk::bind;
 use net_set::NetSet;
 use rvc_base::{Front, Scalar};
 use std::alloc::{AllocError, Global};
-use std::process::Abort;
-use std::test::Fail;
 
 /// Why nothing is asked.
 const NOTHING: Front = Front::Memory;
@@ -42,7 +40,7 @@ fn port(alloc: Global, name: &str, kind: &str, largest: &str) -> Result<HeadPort
     })
 }
 
-fn ports(alloc: Global, text: &str) -> Result<Vec<HeadPort>, Fail> {
+fn ports(alloc: Global, text: &str) -> Result<Vec<HeadPort>, AllocError> {
     let mut ports = Vec::new(alloc);
     for word in text.split_whitespace() {
         let (name, rest) = cut(word, ":");
@@ -64,7 +62,7 @@ fn line_of<'a>(class: &str, actors: &'a str) -> &'a str {
 }
 
 /// The ports of the actor of a class; none if it isn't told.
-fn head(alloc: Global, class: &str, actors: &str) -> Result<Head, Fail> {
+fn head(alloc: Global, class: &str, actors: &str) -> Result<Head, AllocError> {
     let line = line_of(class, actors);
     let (ins, outs) = cut(line, ";");
     let ins = ports(alloc, ins)?;
@@ -72,7 +70,7 @@ fn head(alloc: Global, class: &str, actors: &str) -> Result<Head, Fail> {
     Ok(Head { ins, outs })
 }
 
-fn heads(alloc: Global, leaves: &[Leaf], actors: &str) -> Result<Vec<Head>, Fail> {
+fn heads(alloc: Global, leaves: &[Leaf], actors: &str) -> Result<Vec<Head>, AllocError> {
     let mut heads = Vec::new(alloc);
     for leaf in leaves {
         heads.push(head(alloc, leaf.class.as_str(), actors)?)?;
@@ -128,23 +126,28 @@ fn tree_from(alloc: Global, nets: &str) -> Result<Tree, Front>
 }
 
 /// What a sound tree comes to.
-fn answer_of_tree(alloc: Global, told: Told, tree: &Tree, actors: &str) -> Result<String, Fail>
+fn answer_of_tree(
+    alloc: Global,
+    told: Told,
+    tree: &Tree,
+    actors: &str,
+) -> Result<String, AllocError>
     requires { IsSound (tree_of tree.now) }
 {
     let heads = heads(alloc, &tree.leaves, actors)?;
     if !heads_fit(tree, &heads) {
-        return Ok(refusal(alloc, NOTHING)?);
+        return refusal(alloc, NOTHING);
     }
     let found = flatten(alloc, tree, &heads);
-    Ok(flattened(alloc, told, &tree.leaves, found)?)
+    flattened(alloc, told, &tree.leaves, found)
 }
 
 /// What networks come to, of which the first is the top. They stand with `\nnet ` between as `CLASS TEXT`, and are
 /// numbered from 1. The actors stand with `\nactor ` between as `CLASS INPUTS ; OUTPUTS`, with ports as `name:type` or
 /// `name:type:rate`.
-pub fn answer(alloc: Global, told: Told, nets: &str, actors: &str) -> Result<String, Fail> {
+pub fn answer(alloc: Global, told: Told, nets: &str, actors: &str) -> Result<String, AllocError> {
     match tree_from(alloc, nets) {
         Ok(tree) => answer_of_tree(alloc, told, &tree, actors),
-        Err(front) => Ok(refusal(alloc, front)?),
+        Err(front) => refusal(alloc, front),
     }
 }

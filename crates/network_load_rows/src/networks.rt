@@ -5,7 +5,6 @@ use logged_files::{Files, library, outcome, told};
 use network_files::{FileKind, load_network};
 use std::alloc::Global;
 use std::process::Abort;
-use std::test::Fail;
 
 /// The class of the top, which of its files is meant, the files, and what is answered, as for an actor.
 type Row = (&'static str, FileKind, Files, &'static str);
@@ -154,33 +153,31 @@ const FAILING: &[(u64, Row)] = &[
 ];
 
 /// Stops at a row whose answer is another.
-fn hold(rt: &impl Abort, a: Global, row: Row, failing: u64) -> Result<(), Fail> {
+fn hold(rt: &impl Abort, a: Global, row: Row, failing: u64) {
     let (top, kind, files, want) = row;
-    let mut library = library(a, files, failing)?;
+    let held = library(a, files, failing).expect(rt, "memory");
+    let mut library = held.expect(rt, "names that differ");
     let mut names = Names::new(a);
     let fault = load_network(a, &mut library, top, kind, &mut names).err();
-    let ended = outcome(a, fault)?;
-    let found = told(a, library.asked.as_str(), ended.as_str(), &names)?;
+    let ended = outcome(a, fault).expect(rt, "a text");
+    let found = told(a, library.asked.as_str(), ended.as_str(), &names).expect(rt, "a text");
     let holds = found.as_str() == want;
     assert!(rt; holds, "{want} is wanted, and {found} is given");
-    Ok(())
 }
 
 #[test]
-fn networks_that_are_read(rt: HostRuntime) -> Result<(), Fail> {
+fn networks_that_are_read(rt: HostRuntime) {
     for &row in LOADED {
-        hold(&rt, rt.alloc(), row, 0)?;
+        hold(&rt, rt.alloc(), row, 0);
     }
-    Ok(())
 }
 
 #[test]
-fn networks_that_are_refused(rt: HostRuntime) -> Result<(), Fail> {
+fn networks_that_are_refused(rt: HostRuntime) {
     for &row in REFUSED {
-        hold(&rt, rt.alloc(), row, 0)?;
+        hold(&rt, rt.alloc(), row, 0);
     }
     for &(failing, row) in FAILING {
-        hold(&rt, rt.alloc(), row, failing)?;
+        hold(&rt, rt.alloc(), row, failing);
     }
-    Ok(())
 }
