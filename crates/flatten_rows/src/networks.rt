@@ -13,7 +13,6 @@ use net_model::{End, Link};
 use rvc_base::{Front, InstId, Place, Scalar};
 use std::alloc::{AllocError, Global};
 use std::process::Abort;
-use std::test::Fail;
 
 fn cut<'a>(text: &'a str, at: &str) -> (&'a str, &'a str) {
     text.split_once(at).unwrap_or((text, ""))
@@ -31,7 +30,7 @@ fn number(text: &str) -> u32 {
     text.parse().unwrap_or(0)
 }
 
-fn ends(alloc: Global, text: &str) -> Result<Vec<NetEnd>, Fail> {
+fn ends(alloc: Global, text: &str) -> Result<Vec<NetEnd>, AllocError> {
     let mut ends = Vec::new(alloc);
     for word in text.split_whitespace() {
         let (name, kind) = cut(word, ":");
@@ -43,7 +42,7 @@ fn ends(alloc: Global, text: &str) -> Result<Vec<NetEnd>, Fail> {
     Ok(ends)
 }
 
-fn head_ports(alloc: Global, text: &str) -> Result<Vec<HeadPort>, Fail> {
+fn head_ports(alloc: Global, text: &str) -> Result<Vec<HeadPort>, AllocError> {
     let mut ports = Vec::new(alloc);
     for word in text.split_whitespace() {
         let (name, rest) = cut(word, ":");
@@ -57,7 +56,7 @@ fn head_ports(alloc: Global, text: &str) -> Result<Vec<HeadPort>, Fail> {
     Ok(ports)
 }
 
-fn parts(alloc: Global, text: &str) -> Result<Vec<Part>, Fail> {
+fn parts(alloc: Global, text: &str) -> Result<Vec<Part>, AllocError> {
     let mut parts = Vec::new(alloc);
     for word in text.split_whitespace() {
         let (id, inner) = cut(word, "=");
@@ -76,7 +75,7 @@ fn parts(alloc: Global, text: &str) -> Result<Vec<Part>, Fail> {
     Ok(parts)
 }
 
-fn end(alloc: Global, text: &str) -> Result<(String, String), Fail> {
+fn end(alloc: Global, text: &str) -> Result<(String, String), AllocError> {
     let (first, second) = cut(text, ".");
     if second.is_empty() {
         return Ok((String::new(alloc), String::from_str(alloc, first)?));
@@ -87,7 +86,7 @@ fn end(alloc: Global, text: &str) -> Result<(String, String), Fail> {
     ))
 }
 
-fn wires(alloc: Global, text: &str) -> Result<Vec<Wire>, Fail> {
+fn wires(alloc: Global, text: &str) -> Result<Vec<Wire>, AllocError> {
     let mut wires = Vec::new(alloc);
     let mut at = 0u32;
     for word in text.split_whitespace() {
@@ -108,7 +107,7 @@ fn wires(alloc: Global, text: &str) -> Result<Vec<Wire>, Fail> {
     Ok(wires)
 }
 
-fn net(alloc: Global, file: u32, line: &str) -> Result<Net, Fail> {
+fn net(alloc: Global, file: u32, line: &str) -> Result<Net, AllocError> {
     let (ins, rest) = cut(line, ";");
     let (outs, rest) = cut(rest, ";");
     let (instances, connections) = cut(rest, ";");
@@ -122,7 +121,7 @@ fn net(alloc: Global, file: u32, line: &str) -> Result<Net, Fail> {
     })
 }
 
-fn leaf(alloc: Global) -> Result<Leaf, Fail> {
+fn leaf(alloc: Global) -> Result<Leaf, AllocError> {
     let place = Place { file: 1, offset: 0 };
     Ok(Leaf {
         path: String::from_str(alloc, "a")?,
@@ -133,29 +132,27 @@ fn leaf(alloc: Global) -> Result<Leaf, Fail> {
     })
 }
 
-fn add_end(out: &mut String, end: End) -> Result<(), Fail> {
+fn add_end(out: &mut String, end: End) -> Result<(), AllocError> {
     match end {
         End::Leaf { inst, port } => {
             let leaf = inst.0;
-            write!(out, "{leaf}.{port}")?;
+            write!(out, "{leaf}.{port}")
         }
-        End::Net { port } => write!(out, "{port}")?,
+        End::Net { port } => write!(out, "{port}"),
     }
-    Ok(())
 }
 
-fn add_link(out: &mut String, link: &Link) -> Result<(), Fail> {
+fn add_link(out: &mut String, link: &Link) -> Result<(), AllocError> {
     add_end(out, link.from)?;
     out.push_str(">")?;
     add_end(out, link.to)?;
     let capacity = link.capacity;
     let kind = link.kind;
-    write!(out, ":{capacity}:{kind:?} ")?;
-    Ok(())
+    write!(out, ":{capacity}:{kind:?} ")
 }
 
 /// The links of a network.
-fn links_told(alloc: Global, flat: &Flat) -> Result<String, Fail> {
+fn links_told(alloc: Global, flat: &Flat) -> Result<String, AllocError> {
     let mut out = String::new(alloc);
     for link in &flat.links {
         add_link(&mut out, link)?;
@@ -176,31 +173,31 @@ fn refusal(alloc: Global, front: Front) -> Result<String, AllocError> {
     }
 }
 
-fn flat(alloc: Global, tree: &Tree, heads: &[Head]) -> Result<String, Fail> {
+fn flat(alloc: Global, tree: &Tree, heads: &[Head]) -> Result<String, AllocError> {
     if !is_whole(tree, heads) {
-        return Ok(String::from_str(alloc, "not whole")?);
+        return String::from_str(alloc, "not whole");
     }
     match flatten(alloc, tree, heads) {
         Ok(flat) => links_told(alloc, &flat),
-        Err(front) => Ok(refusal(alloc, front)?),
+        Err(front) => refusal(alloc, front),
     }
 }
 
 /// The same, but of the links only how many there are.
-fn count(alloc: Global, tree: &Tree, heads: &[Head]) -> Result<String, Fail> {
+fn count(alloc: Global, tree: &Tree, heads: &[Head]) -> Result<String, AllocError> {
     if !is_whole(tree, heads) {
-        return Ok(String::from_str(alloc, "not whole")?);
+        return String::from_str(alloc, "not whole");
     }
     match flatten(alloc, tree, heads) {
         Ok(flat) => {
             let links = flat.links.len();
-            Ok(format!(in alloc; "{links} links")?)
+            format!(in alloc; "{links} links")
         }
-        Err(front) => Ok(refusal(alloc, front)?),
+        Err(front) => refusal(alloc, front),
     }
 }
 
-fn tree(alloc: Global, nets: &[&str], leaves: usize) -> Result<Tree, Fail> {
+fn tree(alloc: Global, nets: &[&str], leaves: usize) -> Result<Tree, AllocError> {
     let mut found = Vec::new(alloc);
     let mut file = 0u32;
     for line in nets {
@@ -218,14 +215,14 @@ fn tree(alloc: Global, nets: &[&str], leaves: usize) -> Result<Tree, Fail> {
 }
 
 /// The ports of an actor.
-fn head(alloc: Global, line: &str) -> Result<Head, Fail> {
+fn head(alloc: Global, line: &str) -> Result<Head, AllocError> {
     let (ins, outs) = cut(line, ";");
     let ins = head_ports(alloc, ins)?;
     let outs = head_ports(alloc, outs)?;
     Ok(Head { ins, outs })
 }
 
-fn heads(alloc: Global, lines: &[&str]) -> Result<Vec<Head>, Fail> {
+fn heads(alloc: Global, lines: &[&str]) -> Result<Vec<Head>, AllocError> {
     let mut found = Vec::new(alloc);
     for line in lines {
         found.push(head(alloc, line)?)?;
@@ -241,23 +238,22 @@ type Row = (
 );
 
 /// What networks come to.
-fn answer(alloc: Global, nets: &[&str], actors: &[&str]) -> Result<String, Fail> {
+fn answer(alloc: Global, nets: &[&str], actors: &[&str]) -> Result<String, AllocError> {
     let tree = tree(alloc, nets, actors.len())?;
     let heads = heads(alloc, actors)?;
     flat(alloc, &tree, &heads)
 }
 
-fn hold(rt: &impl Abort, alloc: Global, rows: &[Row]) -> Result<(), Fail> {
+fn hold(rt: &impl Abort, alloc: Global, rows: &[Row]) {
     for (nets, actors, expected) in rows {
-        let found = answer(alloc, nets, actors)?;
+        let found = answer(alloc, nets, actors).expect(rt, "an answer");
         assert_eq!(rt; found.as_str(), *expected);
     }
-    Ok(())
 }
 
 #[test]
-fn links(rt: HostRuntime) -> Result<(), Fail> {
-    hold(&rt, rt.alloc(), LINKS)
+fn links(rt: HostRuntime) {
+    hold(&rt, rt.alloc(), LINKS);
 }
 
 const COPY: &str = "In:u8:1 ; Out:u8:1";
@@ -320,8 +316,8 @@ const LINKS: &[Row] = &[
 ];
 
 #[test]
-fn refusals(rt: HostRuntime) -> Result<(), Fail> {
-    hold(&rt, rt.alloc(), REFUSALS)
+fn refusals(rt: HostRuntime) {
+    hold(&rt, rt.alloc(), REFUSALS);
 }
 
 const REFUSALS: &[Row] = &[
@@ -397,7 +393,7 @@ fn row_line(alloc: Global, actors: u32, size: u32, more: &str) -> Result<String,
 }
 
 /// The ports of so many of them.
-fn row_heads(alloc: Global, actors: u32) -> Result<Vec<Head>, Fail> {
+fn row_heads(alloc: Global, actors: u32) -> Result<Vec<Head>, AllocError> {
     let mut found = Vec::new(alloc);
     for _ in 0..actors {
         found.push(head(
@@ -409,7 +405,7 @@ fn row_heads(alloc: Global, actors: u32) -> Result<Vec<Head>, Fail> {
 }
 
 /// What a row of actors comes to.
-fn row(alloc: Global, actors: u32, size: u32, more: &str) -> Result<String, Fail> {
+fn row(alloc: Global, actors: u32, size: u32, more: &str) -> Result<String, AllocError> {
     let line = row_line(alloc, actors, size, more)?;
     let tree = tree(alloc, &[line.as_str()], actors as usize)?;
     let heads = row_heads(alloc, actors)?;
@@ -417,12 +413,11 @@ fn row(alloc: Global, actors: u32, size: u32, more: &str) -> Result<String, Fail
 }
 
 #[test]
-fn limits(rt: HostRuntime) -> Result<(), Fail> {
+fn limits(rt: HostRuntime) {
     for &(actors, size, more, expected) in LIMITS {
-        let found = row(rt.alloc(), actors, size, more)?;
+        let found = row(rt.alloc(), actors, size, more).expect(&rt, "an answer");
         assert_eq!(rt; found.as_str(), expected);
     }
-    Ok(())
 }
 
 /// How many actors stand in a row, the size that each connection asks for, and one connection more.
@@ -436,8 +431,8 @@ const LIMITS: &[(u32, u32, &str, &str)] = &[
 ];
 
 #[test]
-fn trees_that_are_not_whole(rt: HostRuntime) -> Result<(), Fail> {
-    hold(&rt, rt.alloc(), NOT_WHOLE)
+fn trees_that_are_not_whole(rt: HostRuntime) {
+    hold(&rt, rt.alloc(), NOT_WHOLE);
 }
 
 const NOT_WHOLE: &[Row] = &[

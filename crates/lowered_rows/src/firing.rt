@@ -8,7 +8,6 @@ use net_model::{BurstEnd, Firing};
 use rvc_base::{Memory, Num};
 use std::alloc::Global;
 use std::sync::Arc;
-use std::test::Fail;
 
 /// A cell of the actor that counts.
 fn counter(alloc: Global) -> Result<Option<Cell>, Memory> {
@@ -61,34 +60,30 @@ fn sent_are(cell: &Cell, tokens: &[Num]) -> bool {
 }
 
 #[test]
-fn counts_up_to_each_token(rt: HostRuntime) -> Result<(), Fail> {
+fn counts_up_to_each_token(rt: HostRuntime) {
     let rows: [(&[Num], &[Num]); 3] = [
         (&[3, 5], &[7, 11]),
         (&[199, 3], &[143, 203]),
         (&[200], &[]),
     ];
     for (tokens, sent) in rows {
-        let Some(mut cell) = counter(rt.alloc())? else {
-            return Err(Fail::from(Memory));
-        };
+        let made = counter(rt.alloc()).expect(&rt, "memory");
+        let mut cell = made.expect(&rt, "a port on each side");
         let end = burst(&mut cell, tokens);
         assert!(rt;
             end == Some(BurstEnd::Waits) && sent_are(&cell, sent),
             "{end:?}"
         );
     }
-    Ok(())
 }
 
 #[test]
-fn keeps_the_doubles_of_two_tokens(rt: HostRuntime) -> Result<(), Fail> {
-    let Some(mut cell) = doubler(rt.alloc())? else {
-        return Err(Fail::from(Memory));
-    };
+fn keeps_the_doubles_of_two_tokens(rt: HostRuntime) {
+    let made = doubler(rt.alloc()).expect(&rt, "memory");
+    let mut cell = made.expect(&rt, "a port on each side");
     let end = burst(&mut cell, &[3, 5, 200]);
     assert!(rt;
         end == Some(BurstEnd::Waits) && sent_are(&cell, &[6, 16, 154]),
         "{end:?}"
     );
-    Ok(())
 }

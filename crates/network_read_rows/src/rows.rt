@@ -5,7 +5,6 @@ use fnl_read::{NetConnection, NetDecl, NetFile, NetInstance, NetPort, read_netwo
 use rvc_base::Front;
 use std::alloc::{AllocError, Global};
 use std::process::Abort;
-use std::test::Fail;
 
 /// What is asked of a text.
 #[derive(Clone, Copy)]
@@ -125,39 +124,38 @@ fn first_value(net: &NetFile) -> Option<&Expr> {
     Some(&parameter.value)
 }
 
-fn answer(alloc: Global, asked: Asked, text: &[u8]) -> Result<String, Fail> {
+fn answer(alloc: Global, asked: Asked, text: &[u8]) -> Result<String, AllocError> {
     if text.len() >= 1 << 32 {
-        return Err(Front::Memory.into());
+        return String::from_str(alloc, "too long");
     }
     match read_network(alloc, 7, text) {
         Ok(net) => match asked {
-            Asked::Outline => Ok(outline(alloc, &net)?),
+            Asked::Outline => outline(alloc, &net),
             Asked::Value => match first_value(&net) {
-                Some(e) => Ok(value(alloc, e)?),
+                Some(e) => value(alloc, e),
                 None => Ok(String::new(alloc)),
             },
         },
         Err(Front::Refused(refusal)) => {
             let rule = refusal.rule;
             let at = refusal.place.offset;
-            Ok(format!(in alloc; "{rule} at {at}")?)
+            format!(in alloc; "{rule} at {at}")
         }
-        Err(Front::Memory) => Err(Front::Memory.into()),
+        Err(Front::Memory) => String::from_str(alloc, "out of memory"),
     }
 }
 
 /// Stops unless each text has its answer.
-fn hold(rt: &impl Abort, alloc: Global, asked: Asked, rows: &[(&[u8], &str)]) -> Result<(), Fail> {
+fn hold(rt: &impl Abort, alloc: Global, asked: Asked, rows: &[(&[u8], &str)]) {
     for &(text, expected) in rows {
-        let found = answer(alloc, asked, text)?;
+        let found = answer(alloc, asked, text).expect(rt, "an answer");
         assert_eq!(rt; found.as_str(), expected);
     }
-    Ok(())
 }
 
 #[test]
-fn networks(rt: HostRuntime) -> Result<(), Fail> {
-    hold(&rt, rt.alloc(), Asked::Outline, NETWORKS)
+fn networks(rt: HostRuntime) {
+    hold(&rt, rt.alloc(), Asked::Outline, NETWORKS);
 }
 
 /// Networks, with the offsets of their elements.
@@ -195,8 +193,8 @@ const NETWORKS: &[(&[u8], &str)] = &[
 ];
 
 #[test]
-fn values(rt: HostRuntime) -> Result<(), Fail> {
-    hold(&rt, rt.alloc(), Asked::Value, VALUES)
+fn values(rt: HostRuntime) {
+    hold(&rt, rt.alloc(), Asked::Value, VALUES);
 }
 
 /// Expressions.
@@ -240,8 +238,8 @@ const VALUES: &[(&[u8], &str)] = &[
 ];
 
 #[test]
-fn faults(rt: HostRuntime) -> Result<(), Fail> {
-    hold(&rt, rt.alloc(), Asked::Outline, FAULTS)
+fn faults(rt: HostRuntime) {
+    hold(&rt, rt.alloc(), Asked::Outline, FAULTS);
 }
 
 /// Each rule that a text may break, at each kind of place.
@@ -441,11 +439,12 @@ fn row_of(alloc: Global, operands: usize) -> Result<Vec<u8>, AllocError> {
 }
 
 #[test]
-fn a_row_of_256_operands_is_read_and_one_of_257_is_too_high(rt: HostRuntime) -> Result<(), Fail> {
+fn a_row_of_256_operands_is_read_and_one_of_257_is_too_high(rt: HostRuntime) {
     let alloc = rt.alloc();
-    let high = answer(alloc, Asked::Outline, &row_of(alloc, 256)?)?;
+    let row = row_of(alloc, 256).expect(&rt, "a text");
+    let high = answer(alloc, Asked::Outline, &row).expect(&rt, "an answer");
     assert_eq!(rt; high.as_str(), "V@0 x@14=A@31(1) ");
-    let higher = answer(alloc, Asked::Outline, &row_of(alloc, 257)?)?;
+    let row = row_of(alloc, 257).expect(&rt, "a text");
+    let higher = answer(alloc, Asked::Outline, &row).expect(&rt, "an answer");
     assert_eq!(rt; higher.as_str(), "F5 at 68");
-    Ok(())
 }

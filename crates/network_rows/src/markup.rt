@@ -5,16 +5,15 @@ use rvc_base::Memory;
 use std::alloc::Global;
 use std::process::Abort;
 use std::str;
-use std::test::Fail;
 
 /// Adds bytes to a text, if they are UTF-8.
-fn add(out: &mut String, bytes: &[u8]) -> Result<(), Fail> {
+fn add(out: &mut String, bytes: &[u8]) -> Result<(), Memory> {
     let text = str::from_utf8(bytes).unwrap_or("?");
     out.push_str(text)?;
     Ok(())
 }
 
-fn add_attributes(out: &mut String, attributes: &[Attribute]) -> Result<(), Fail> {
+fn add_attributes(out: &mut String, attributes: &[Attribute]) -> Result<(), Memory> {
     for attribute in attributes {
         out.push_str(" ")?;
         add(out, &attribute.name)?;
@@ -24,7 +23,7 @@ fn add_attributes(out: &mut String, attributes: &[Attribute]) -> Result<(), Fail
     Ok(())
 }
 
-fn add_tag(out: &mut String, tag: &Tag) -> Result<(), Fail> {
+fn add_tag(out: &mut String, tag: &Tag) -> Result<(), Memory> {
     match tag {
         Tag::Opens {
             name,
@@ -49,9 +48,9 @@ enum Asked {
 }
 
 /// The tags of a text as text if they are asked for, and the rule that it breaks with its place.
-fn answer(alloc: Global, asked: Asked, text: &[u8]) -> Result<String, Fail> {
+fn answer(alloc: Global, asked: Asked, text: &[u8]) -> Result<String, Memory> {
     if text.len() >= 1 << 32 {
-        return Err(Memory.into());
+        return Err(Memory);
     }
     let mut out = String::new(alloc);
     let found = read_markup(alloc, 7, text)?;
@@ -69,17 +68,16 @@ fn answer(alloc: Global, asked: Asked, text: &[u8]) -> Result<String, Fail> {
 }
 
 /// Stops unless each text has its answer.
-fn hold(rt: &impl Abort, alloc: Global, asked: Asked, rows: &[(&[u8], &str)]) -> Result<(), Fail> {
+fn hold(rt: &impl Abort, alloc: Global, asked: Asked, rows: &[(&[u8], &str)]) {
     for &(text, expected) in rows {
-        let found = answer(alloc, asked, text)?;
+        let found = answer(alloc, asked, text).expect(rt, "an answer");
         assert_eq!(rt; found.as_str(), expected);
     }
-    Ok(())
 }
 
 #[test]
-fn tags(rt: HostRuntime) -> Result<(), Fail> {
-    hold(&rt, rt.alloc(), Asked::Tags, TAGS)
+fn tags(rt: HostRuntime) {
+    hold(&rt, rt.alloc(), Asked::Tags, TAGS);
 }
 
 /// Elements, attributes, values, what may stand before them and between them.
@@ -117,8 +115,8 @@ const TAGS: &[(&[u8], &str)] = &[
 ];
 
 #[test]
-fn faults(rt: HostRuntime) -> Result<(), Fail> {
-    hold(&rt, rt.alloc(), Asked::Fault, FAULTS)
+fn faults(rt: HostRuntime) {
+    hold(&rt, rt.alloc(), Asked::Fault, FAULTS);
 }
 
 /// The first byte that can't follow, or the end; and what isn't UTF-8.
@@ -163,7 +161,7 @@ const FAULTS: &[(&[u8], &str)] = &[
 ];
 
 /// A text of so many nested elements.
-fn nested(alloc: Global, count: usize) -> Result<Vec<u8>, Fail> {
+fn nested(alloc: Global, count: usize) -> Result<Vec<u8>, Memory> {
     let mut text = Vec::new(alloc);
     for _ in 0..count {
         text.extend_from_slice(b"<a>")?;
@@ -175,15 +173,14 @@ fn nested(alloc: Global, count: usize) -> Result<Vec<u8>, Fail> {
 }
 
 #[test]
-fn a_hundred_thousand_elements_within_one_another(rt: HostRuntime) -> Result<(), Fail> {
-    let text = nested(rt.alloc(), 100_000)?;
-    let found = answer(rt.alloc(), Asked::Tags, &text)?;
+fn a_hundred_thousand_elements_within_one_another(rt: HostRuntime) {
+    let text = nested(rt.alloc(), 100_000).expect(&rt, "a text");
+    let found = answer(rt.alloc(), Asked::Tags, &text).expect(&rt, "an answer");
     assert!(rt; found.ends_with("/699997 "));
-    Ok(())
 }
 
 /// An element whose value has so many bytes.
-fn with_value(alloc: Global, size: usize) -> Result<Vec<u8>, Fail> {
+fn with_value(alloc: Global, size: usize) -> Result<Vec<u8>, Memory> {
     let value = vec![in alloc; b'v'; size]?;
     let mut text = Vec::new(alloc);
     text.extend_from_slice(b"<a x='")?;
@@ -193,9 +190,9 @@ fn with_value(alloc: Global, size: usize) -> Result<Vec<u8>, Fail> {
 }
 
 #[test]
-fn a_value_of_a_million_bytes(rt: HostRuntime) -> Result<(), Fail> {
-    let text = with_value(rt.alloc(), 1_000_000)?;
+fn a_value_of_a_million_bytes(rt: HostRuntime) {
+    let text = with_value(rt.alloc(), 1_000_000).expect(&rt, "a text");
+    let found = answer(rt.alloc(), Asked::Tags, &text).expect(&rt, "an answer");
     // `<0 a x=`, the value, `> `, `/1000007 `
-    assert_eq!(rt; answer(rt.alloc(), Asked::Tags, &text)?.len(), 1_000_018);
-    Ok(())
+    assert_eq!(rt; found.len(), 1_000_018);
 }
