@@ -12,7 +12,6 @@ use rvc_io::{Drains, Failed, MemDrains};
 use rvc_words::UsageCause;
 use std::alloc::Global;
 use std::process::Abort;
-use std::test::Fail;
 use trace_replay::Why;
 
 /// What is reported, with how many instances are certified if that is known.
@@ -289,26 +288,25 @@ fn put_row<D: Drains>(
 }
 
 /// The report of a row is its text, if a call moves at most so many bytes.
-fn reports<R: Abort>(rt: &R, alloc: Global, row: &Row, step: u32) -> Result<(), Fail> {
+fn reports<R: Abort>(rt: &R, alloc: Global, row: &Row, step: u32) {
     let &(kind, sample, status, code, text) = row;
     assert!(rt; step > 0);
-    let parts = parts_of(alloc, &sample)?;
-    let mut drains = MemDrains::new(alloc, Vec::new(alloc), step, 3, 4096)?;
+    let parts = parts_of(alloc, &sample).expect(rt, "parts");
+    let drains = MemDrains::new(alloc, Vec::new(alloc), step, 3, 4096);
+    let mut drains = drains.expect(rt, "channels");
     let put = put_row(kind, status, sample.instances, &parts, &mut drains);
     assert!(rt; put.is_ok(), "{text}");
     assert!(rt; drains.held(REPORT_CHANNEL) == text.as_bytes(), "{text}");
     assert!(rt; status.code() == code, "{text}");
-    Ok(())
 }
 
 #[test]
-fn reports_are_exact(rt: HostRuntime) -> Result<(), Fail> {
+fn reports_are_exact(rt: HostRuntime) {
     for row in ROWS {
         for &step in STEPS {
-            reports(&rt, rt.alloc(), row, step)?;
+            reports(&rt, rt.alloc(), row, step);
         }
     }
-    Ok(())
 }
 
 /// What is put if this call fails.
@@ -321,14 +319,15 @@ const FAULTS: &[(u64, &str)] = &[
 ];
 
 #[test]
-fn a_failed_put_leaves_a_prefix(rt: HostRuntime) -> Result<(), Fail> {
+fn a_failed_put_leaves_a_prefix(rt: HostRuntime) {
     for &(failing, text) in FAULTS {
         let alloc = rt.alloc();
-        let parts = parts_of(alloc, &INC)?;
-        let mut drains = MemDrains::new(alloc, vec![in alloc; failing]?, 1000, 3, 4096)?;
+        let parts = parts_of(alloc, &INC).expect(&rt, "parts");
+        let failing = vec![in alloc; failing].expect(&rt, "a list");
+        let drains = MemDrains::new(alloc, failing, 1000, 3, 4096);
+        let mut drains = drains.expect(&rt, "channels");
         let put = put_row(Kind::Run(None), QUIET, 1, &parts, &mut drains);
         assert!(&rt; put.is_err(), "{text}");
         assert!(&rt; drains.held(REPORT_CHANNEL) == text.as_bytes(), "{text}");
     }
-    Ok(())
 }
