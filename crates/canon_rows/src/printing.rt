@@ -1,13 +1,9 @@
 //! Texts with their canonical texts, which give the same trees again.
 
 use crate::table::answered;
-use cal_ast::File;
-use cal_lexer::lex;
-use cal_parser::parse_file;
-use cal_print::print_file;
-use rvc_base::{Front, Memory};
 use std::alloc::{AllocError, Global};
 use std::process::Abort;
+use tree_texts::{Asked, canon, told, without_offsets};
 
 /// What stands before and behind the text of a row, in the source and in its canonical text.
 #[derive(Clone, Copy)]
@@ -18,43 +14,14 @@ struct Frame {
     canon_behind: &'static str,
 }
 
-/// The tree that a text spells.
-fn parsed(alloc: Global, text: &[u8]) -> Result<File, Front> {
-    if text.len() >= 1 << 32 {
-        return Err(Front::Memory);
-    }
-    let tokens = lex(alloc, 0, text)?;
-    parse_file(alloc, 0, &tokens, text.len() as u32)
-}
-
 /// The canonical text of a text.
-fn canon(rt: &impl Abort, alloc: Global, text: &[u8]) -> Vec<u8> {
-    let tree = parsed(alloc, text).expect(rt, "a tree");
-    print_file(alloc, &tree).expect(rt, "a text")
-}
-
-/// The tree of a text as Debug prints it.
-fn shown(rt: &impl Abort, alloc: Global, text: &[u8]) -> String {
-    let tree = parsed(alloc, text).expect(rt, "a tree");
-    format!(in alloc; "{tree:?}").expect(rt, "a text")
-}
-
-/// The bytes of a tree that is shown, without its offsets.
-fn without_offsets(alloc: Global, shown: &[u8]) -> Result<Vec<u8>, Memory> {
-    let mut kept = Vec::new(alloc);
-    let mut in_offset = false;
-    for &byte in shown {
-        in_offset = byte.is_ascii_digit() && (in_offset || kept.as_slice().ends_with(b"at: "));
-        if !in_offset {
-            kept.push(byte)?;
-        }
-    }
-    Ok(kept)
+fn canon_of(rt: &impl Abort, alloc: Global, text: &[u8]) -> Vec<u8> {
+    canon(alloc, text).expect(rt, "memory").expect(rt, "a tree")
 }
 
 /// The tree of a text, ignoring offsets.
 fn tree(rt: &impl Abort, alloc: Global, text: &[u8]) -> Vec<u8> {
-    let shown = shown(rt, alloc, text);
+    let shown = told(alloc, Asked::File, text).expect(rt, "a text");
     without_offsets(alloc, shown.as_bytes()).expect(rt, "a text")
 }
 
@@ -66,8 +33,8 @@ fn same_tree(rt: &impl Abort, alloc: Global, text: &[u8], other: &[u8]) -> bool 
 /// Whether the canonical text of `source` is `expected`, which is the canonical text of itself and spells the same
 /// tree.
 fn has_canon(rt: &impl Abort, alloc: Global, source: &[u8], expected: &[u8]) -> bool {
-    canon(rt, alloc, source).as_slice() == expected
-        && canon(rt, alloc, expected).as_slice() == expected
+    canon_of(rt, alloc, source).as_slice() == expected
+        && canon_of(rt, alloc, expected).as_slice() == expected
         && same_tree(rt, alloc, source, expected)
 }
 

@@ -1,47 +1,17 @@
 //! Files with every kind of part, and their copies.
 
-use cal_ast::File;
-use cal_lexer::lex;
-use cal_parser::parse_file;
-use rvc_base::Front;
-use std::alloc::{AllocError, Global};
+use std::alloc::Global;
 use std::process::Abort;
+use tree_texts::is_copied;
 
-/// The file that a text spells.
-fn parsed(alloc: Global, text: &[u8]) -> Result<File, Front> {
-    if text.len() >= 1 << 32 {
-        return Err(Front::Memory);
-    }
-    let tokens = lex(alloc, 1, text)?;
-    parse_file(alloc, 1, &tokens, text.len() as u32)
-}
-
-/// A file as `Debug` prints it.
-fn shown(alloc: Global, file: &File) -> Result<String, AllocError> {
-    format!(in alloc; "{file:?}")
-}
-
-/// The copy of a file as `Debug` prints it.
-fn copy_shown(alloc: Global, file: &File) -> Result<String, AllocError> {
-    let copied = file.copy(alloc)?;
-    shown(alloc, &copied)
-}
-
-/// Whether the copy of a file is equal to it.
-fn is_copied(alloc: Global, file: &File) -> Result<bool, AllocError> {
-    let whole = shown(alloc, file)?;
-    Ok(whole.as_str() == copy_shown(alloc, file)?.as_str())
-}
-
-/// Whether the copy of the file that a text spells is equal to it.
-fn has_copy(rt: &impl Abort, alloc: Global, text: &str) -> bool {
-    let file = parsed(alloc, text.as_bytes()).expect(rt, "a file");
-    is_copied(alloc, &file).expect(rt, "a copy")
+/// Stops unless the copy of the file that a text spells is equal to it.
+fn has_copy(rt: &impl Abort, alloc: Global, text: &str) {
+    assert!(rt; is_copied(alloc, text.as_bytes()).expect(rt, "memory"));
 }
 
 #[test]
 fn a_copied_actor_is_equal(rt: HostRuntime) {
-    assert!(rt; has_copy(&rt, rt.alloc(), ACTOR));
+    has_copy(&rt, rt.alloc(), ACTOR);
 }
 
 /// An actor with each kind of member, statement and expression.
@@ -86,7 +56,7 @@ end";
 
 #[test]
 fn a_copied_unit_is_equal(rt: HostRuntime) {
-    assert!(rt; has_copy(&rt, rt.alloc(), UNIT));
+    has_copy(&rt, rt.alloc(), UNIT);
 }
 
 /// A unit with a variable.

@@ -1,62 +1,14 @@
 //! Texts with the trees that they spell, or the place where they break the grammar.
 
 use crate::table::answered;
-use cal_ast::{Body, File};
-use cal_lexer::lex;
-use cal_parser::parse_file;
-use rvc_base::{Front, Memory};
+use rvc_base::Memory;
 use std::alloc::{AllocError, Global};
 use std::process::Abort;
-
-/// What is asked of the file that a text spells.
-#[derive(Clone, Copy)]
-enum Asked {
-    File,
-    Members,
-    /// Whether it is read.
-    Outcome,
-}
-
-/// What reading a text gives.
-fn parsed(alloc: Global, text: &[u8]) -> Result<File, Front> {
-    if text.len() >= 1 << 32 {
-        return Err(Front::Memory);
-    }
-    let tokens = lex(alloc, 7, text)?;
-    parse_file(alloc, 7, &tokens, text.len() as u32)
-}
-
-/// What is asked of a text, or the rule that it breaks and the place.
-fn answer(alloc: Global, asked: Asked, text: &[u8]) -> Result<String, AllocError> {
-    match parsed(alloc, text) {
-        Ok(file) => shown(alloc, asked, &file),
-        Err(Front::Refused(refusal)) => {
-            let rule = refusal.rule;
-            let at = refusal.place.offset;
-            format!(in alloc; "{rule} at {at}")
-        }
-        Err(Front::Memory) => String::from_str(alloc, "out of memory"),
-    }
-}
-
-/// What is asked of a file, as `Debug` prints it.
-fn shown(alloc: Global, asked: Asked, file: &File) -> Result<String, AllocError> {
-    match asked {
-        Asked::File => format!(in alloc; "{file:?}"),
-        Asked::Members => match &file.body {
-            Body::Actor(actor) => {
-                let members = &actor.members;
-                format!(in alloc; "{members:?}")
-            }
-            Body::Unit(_) => String::from_str(alloc, "a unit"),
-        },
-        Asked::Outcome => String::from_str(alloc, "read"),
-    }
-}
+use tree_texts::{Asked, told};
 
 /// Stops unless a text has its answer.
 fn holds(rt: &impl Abort, alloc: Global, asked: Asked, text: &[u8], expected: &str) {
-    let found = answer(alloc, asked, text).expect(rt, "an answer");
+    let found = told(alloc, asked, text).expect(rt, "an answer");
     assert_eq!(rt; found.as_str(), expected);
 }
 
@@ -143,7 +95,7 @@ const INC: &[u8] =
 /// How many fronts of a text break the grammar, one after another from the empty one.
 fn broken_fronts(alloc: Global, text: &[u8]) -> Result<usize, AllocError> {
     for size in 0..text.len() {
-        if !answer(alloc, Asked::Outcome, &text[..size])?.starts_with("G1 at ") {
+        if !told(alloc, Asked::Outcome, &text[..size])?.starts_with("G1 at ") {
             return Ok(size);
         }
     }
