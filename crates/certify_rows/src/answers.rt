@@ -1,50 +1,14 @@
 //! One way from the texts of two guards to the answer as text.
 
-use cal_ast::{Body, Expr, File, Member, VarDecl};
-use cal_lexer::lex;
-use cal_parser::parse_file;
+use cal_ast::Expr;
 use determinacy_cert::{CertFault, certify};
 use guarded_actors::{Sort, Takes, example, sort_of};
-use rvc_base::{Front, Memory};
+use rvc_base::Memory;
 use std::alloc::Global;
+use tree_texts::expression;
 
 /// What an action takes, and the text of its guard.
 pub(crate) type Row<'a> = (Takes, &'a str);
-
-/// The file that a text spells.
-fn file_of(alloc: Global, text: &[u8]) -> Result<File, Front> {
-    if text.len() >= 1 << 32 {
-        return Err(Front::Memory);
-    }
-    let tokens = lex(alloc, 1, text)?;
-    parse_file(alloc, 1, &tokens, text.len() as u32)
-}
-
-/// The variable that the file of a row declares.
-fn variable_of(file: &File) -> Option<&VarDecl> {
-    match &file.body {
-        Body::Unit(unit) => match unit.members.first() {
-            Some(Member::Var(v)) => Some(v),
-            _ => None,
-        },
-        Body::Actor(_) => None,
-    }
-}
-
-/// The expression that a text spells, if it spells one.
-fn spelled(alloc: Global, text: &str) -> Result<Option<Expr>, Memory> {
-    let source = format!(in alloc; "unit U : bool X = {text}; end")?;
-    let Ok(file) = file_of(alloc, source.as_bytes()) else {
-        return Ok(None);
-    };
-    match variable_of(&file) {
-        Some(v) => match &v.start {
-            Some(start) => Ok(Some(start.copy(alloc)?)),
-            None => Ok(None),
-        },
-        None => Ok(None),
-    }
-}
 
 /// What is answered for an actor of these two actions: `certified`, or a state, two actions and a reason.
 pub(crate) fn answer(
@@ -53,10 +17,10 @@ pub(crate) fn answer(
     two: Row<'_>,
     ranked: bool,
 ) -> Result<String, Memory> {
-    let Some(guard) = spelled(alloc, one.1)? else {
+    let Some(guard) = expression(alloc, one.1)? else {
         return Ok(String::from_str(alloc, "first guard is none")?);
     };
-    let Some(other) = spelled(alloc, two.1)? else {
+    let Some(other) = expression(alloc, two.1)? else {
         return Ok(String::from_str(alloc, "second guard is none")?);
     };
     judged(alloc, one.0, guard, two.0, other, ranked)

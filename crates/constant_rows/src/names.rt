@@ -5,7 +5,7 @@ ghost use Rattle.cal_model.specs.Value.{Single};
 ghost use Rattle.cal_model.specs.View.{fun_view, local_view, shape_view};
 ghost use Rattle.const_env.specs.Sizes.{are_sized, is_size, is_sized_fun};
 
-use crate::rows::expression;
+use crate::rows::spelled;
 use cal_ast::Expr;
 use cal_model::{BoundFun, BoundLocal, Shape, Value, Values};
 use const_eval::{Env, is_counted};
@@ -75,7 +75,7 @@ fn function(
         formals,
         locals,
         result: gives,
-        body: expression(rt, a, body),
+        body: spelled(rt, a, body),
     }
 }
 
@@ -105,7 +105,7 @@ fn add_of_number(rt: &impl Abort, env: &mut Env, a: Global, gives: Scalar, body:
 /// Adds a function `g` of a number `x` of eight bits, with locals of which the first is `x` and 100.
 fn add_with_locals(rt: &impl Abort, env: &mut Env, a: Global) {
     let formals = number(a, Scalar::Int(8)).expect(rt, "a formal");
-    let locals = locals(a, expression(rt, a, "x + 100")).expect(rt, "locals");
+    let locals = locals(a, spelled(rt, a, "x + 100")).expect(rt, "locals");
     let fun = function(rt, a, "g", formals, locals, Scalar::Uint(4), "y + z");
     add(rt, env, fun);
 }

@@ -2,43 +2,18 @@
 
 use crate::names::add_words;
 use crate::table::answered;
-use cal_ast::{Body, Expr, File, Member};
-use cal_lexer::lex;
+use cal_ast::Expr;
 use cal_model::{Kind, Value, Values};
-use cal_parser::parse_file;
 use const_eval::{ConstFault, Env, KindFault, eval_const, kind_const};
-use rvc_base::Front;
 use std::alloc::{AllocError, Global};
 use std::process::Abort;
+use tree_texts::{BEFORE, expression};
 
 /// What is asked of an expression.
 #[derive(Clone, Copy)]
 pub(crate) enum Asked {
     Value,
     Kind,
-}
-
-/// What stands before an expression in its file, as many bytes as places are shifted by.
-const BEFORE: &str = "unit U : int X = ";
-
-/// The file that a text spells.
-fn file_of(alloc: Global, text: &[u8]) -> Result<File, Front> {
-    if text.len() >= 1 << 32 {
-        return Err(Front::Memory);
-    }
-    let tokens = lex(alloc, 1, text)?;
-    parse_file(alloc, 1, &tokens, text.len() as u32)
-}
-
-/// The start of the first member.
-fn start_of(file: &File) -> Option<&Expr> {
-    match &file.body {
-        Body::Unit(unit) => match unit.members.first() {
-            Some(Member::Var(x)) => x.start.as_ref(),
-            _ => None,
-        },
-        Body::Actor(_) => None,
-    }
 }
 
 /// A value as text; lists inside lists as `..`.
@@ -96,49 +71,25 @@ fn kind_text(alloc: Global, kind: &Kind) -> Result<String, AllocError> {
     format!(in alloc; "{kind:?}")
 }
 
-/// The file in which a text is an expression.
-fn file_with(alloc: Global, text: &str) -> Result<File, Front> {
-    let Ok(source) = format!(in alloc; "{BEFORE}{text}; end") else {
-        return Err(Front::Memory);
-    };
-    file_of(alloc, source.as_bytes())
-}
-
-/// The expression of a file.
-fn expression_in(rt: &impl Abort, alloc: Global, file: &File) -> Expr {
-    let found = start_of(file).expect(rt, "an expression");
-    found.copy(alloc).expect(rt, "a copy")
-}
-
 /// The expression that a text spells.
-pub(crate) fn expression(rt: &impl Abort, alloc: Global, text: &str) -> Expr {
-    let file = file_with(alloc, text).expect(rt, "a file");
-    expression_in(rt, alloc, &file)
+pub(crate) fn spelled(rt: &impl Abort, alloc: Global, text: &str) -> Expr {
+    let found = expression(alloc, text).expect(rt, "memory");
+    found.expect(rt, "an expression")
 }
 
-/// The answer for the expression of a file.
-fn answer_in(alloc: Global, env: &Env, asked: Asked, file: &File) -> Result<String, AllocError> {
-    let Some(e) = start_of(file) else {
-        return String::from_str(alloc, "no expression");
-    };
+/// The answer for an expression.
+fn answer(alloc: Global, env: &Env, asked: Asked, e: &Expr) -> Result<String, AllocError> {
     match asked {
         Asked::Value => value_shown(alloc, env, e),
         Asked::Kind => kind_shown(alloc, env, e),
     }
 }
 
-/// The answer for the text of an expression.
-fn answer(alloc: Global, env: &Env, asked: Asked, text: &str) -> Result<String, AllocError> {
-    match file_with(alloc, text) {
-        Ok(file) => answer_in(alloc, env, asked, &file),
-        Err(_front) => String::from_str(alloc, "no file"),
-    }
-}
-
 /// Stops unless an expression has its answer.
 fn hold_row(rt: &impl Abort, alloc: Global, env: &Env, asked: Asked, row: &str) {
     let (text, want) = answered(row);
-    let found = answer(alloc, env, asked, text).expect(rt, "an answer");
+    let e = spelled(rt, alloc, text);
+    let found = answer(alloc, env, asked, &e).expect(rt, "an answer");
     let holds = found.as_str() == want;
     assert!(rt; holds, "{text} gives {found}");
 }
