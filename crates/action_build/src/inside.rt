@@ -30,7 +30,7 @@ use std::alloc::Global;
 use stmt_check::vars;
 
 /// What stands behind the locals of an action.
-#[derive(Debug, Drop)]
+#[derive(Drop)]
 pub(crate) struct BehindLocals {
     pub outputs: Vec<BoundOutput>,
     pub body: Vec<Stmt>,

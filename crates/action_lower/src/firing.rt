@@ -24,7 +24,7 @@ use std::alloc::Global;
 use stmt_lower::{ProcCallee, lower_calling_stmts};
 
 /// Where the code of a firing begins, and where it leaves what the action sends.
-#[derive(Debug, Drop)]
+#[derive(Drop)]
 pub struct Firing {
     /// The place of its first instruction.
     pub entry: u32,

@@ -16,7 +16,7 @@ use member_check::{MemberFault, check_priorities, check_schedule, schedule_among
 use std::alloc::Global;
 
 /// What orders the actions of an actor.
-#[derive(Debug, Drop)]
+#[derive(Drop)]
 pub struct ActorOrder {
     /// The names of its states in order of first appearance, the initial one first; none if there is no schedule.
     pub states: Vec<String>,

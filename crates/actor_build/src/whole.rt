@@ -29,7 +29,7 @@ use member_check::{MemberFault, check_initialize, count_actions};
 use stmt_check::Procs;
 
 /// The parts of an actor that stand beside its actions and what orders these.
-#[derive(Debug, Drop)]
+#[derive(Drop)]
 pub struct BareActor {
     /// Its dotted name.
     pub class: String,

@@ -24,7 +24,7 @@ use std::alloc::Global;
 use stmt_lower::ProcCallee;
 
 /// Where the code of an action stands in a draft.
-#[derive(Debug, Drop)]
+#[derive(Drop)]
 struct Entries {
     guards: Vec<u32>,
     fire: u32,

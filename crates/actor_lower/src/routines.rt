@@ -19,7 +19,7 @@ use std::alloc::Global;
 use stmt_lower::ProcCallee;
 
 /// What the actions of an actor may call.
-#[derive(Debug, Drop)]
+#[derive(Drop)]
 pub(crate) struct Called {
     pub callees: Vec<Callee>,
     pub procedures: Vec<ProcCallee>,

@@ -10,7 +10,7 @@ use rvc_base::Memory;
 use std::alloc::{AllocError, Global};
 
 /// How many tokens an action takes and sends.
-#[derive(Debug, Drop)]
+#[derive(Drop)]
 pub struct Rates {
     /// From each input port.
     pub needs: Vec<u32>,

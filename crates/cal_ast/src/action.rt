@@ -11,7 +11,7 @@ use crate::stmt::Stmt;
 use std::alloc::{AllocError, Global};
 
 /// An action, or an `initialize`.
-#[derive(Debug, Drop)]
+#[derive(Drop)]
 pub struct Action {
     pub tag: Option<Tag>,
     /// Whether it is an `initialize`.
@@ -27,7 +27,7 @@ pub struct Action {
 }
 
 /// What an action takes from one port: `port : [ names ] repeat repeat`.
-#[derive(Debug, Drop)]
+#[derive(Drop)]
 pub struct Pattern {
     pub port: Option<Ident>,
     pub names: Vec<Ident>,
@@ -37,7 +37,7 @@ pub struct Pattern {
 }
 
 /// What an action sends to one port: `port : [ values ] repeat repeat`.
-#[derive(Debug, Drop)]
+#[derive(Drop)]
 pub struct Output {
     pub port: Option<Ident>,
     pub values: Vec<Expr>,
@@ -47,7 +47,7 @@ pub struct Output {
 }
 
 /// `schedule fsm start : moves end`
-#[derive(Debug, Drop)]
+#[derive(Drop)]
 pub struct Schedule {
     pub start: Ident,
     pub moves: Vec<Move>,
@@ -56,7 +56,7 @@ pub struct Schedule {
 }
 
 /// A transition of a schedule: `from ( tags ) --> to ;`
-#[derive(Debug, Drop)]
+#[derive(Drop)]
 pub struct Move {
     pub from: Ident,
     pub tags: Vec<Tag>,
@@ -66,7 +66,7 @@ pub struct Move {
 }
 
 /// `priority chains end`: in each chain a tag is above those after it.
-#[derive(Debug, Drop)]
+#[derive(Drop)]
 pub struct Priority {
     pub chains: Vec<Vec<Tag>>,
     /// The offset of its first byte.

@@ -8,7 +8,7 @@ use crate::part::{Part, both, boxed};
 use std::alloc::{AllocError, Global};
 
 /// A type: its name and its arguments, as in `int(size=8)`.
-#[derive(Debug, Drop)]
+#[derive(Drop)]
 #[cycle(expr)]
 pub struct TypeExpr {
     pub name: Ident,
@@ -18,7 +18,7 @@ pub struct TypeExpr {
 }
 
 /// An argument of a type.
-#[derive(Debug, Drop)]
+#[derive(Drop)]
 #[cycle(expr)]
 pub enum TypeArg {
     /// `name : shape`
@@ -28,7 +28,7 @@ pub enum TypeArg {
 }
 
 /// A generator of a comprehension: `for shape name in from .. to`.
-#[derive(Debug, Drop)]
+#[derive(Drop)]
 #[cycle(expr)]
 pub struct Gen {
     pub shape: TypeExpr,
@@ -43,7 +43,7 @@ pub struct Gen {
 ///
 /// If a pair of parentheses round it is dropped from the tree, `at` is the offset of the pair's
 /// first parenthesis.
-#[derive(Debug, Drop)]
+#[derive(Drop)]
 #[cycle(expr)]
 pub struct Expr {
     pub form: ExprForm,
@@ -52,7 +52,7 @@ pub struct Expr {
 }
 
 /// What an expression is made of.
-#[derive(Debug, Drop)]
+#[derive(Drop)]
 #[cycle(expr)]
 pub enum ExprForm {
     /// A literal number.

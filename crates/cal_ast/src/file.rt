@@ -9,7 +9,7 @@ use crate::part::{Part, copy_three, copy_two};
 use std::alloc::{AllocError, Global};
 
 /// A file.
-#[derive(Debug, Drop)]
+#[derive(Drop)]
 pub struct File {
     pub package: Option<Tag>,
     pub imports: Vec<Import>,
@@ -19,14 +19,14 @@ pub struct File {
 }
 
 /// What a file declares.
-#[derive(Debug, Drop)]
+#[derive(Drop)]
 pub enum Body {
     Actor(Actor),
     Unit(UnitFile),
 }
 
 /// `import path . last ;`
-#[derive(Debug, Drop)]
+#[derive(Drop)]
 pub struct Import {
     pub path: Vec<Ident>,
     /// Absent for `*`.
@@ -36,7 +36,7 @@ pub struct Import {
 }
 
 /// An actor.
-#[derive(Debug, Drop)]
+#[derive(Drop)]
 pub struct Actor {
     pub name: Ident,
     pub params: Vec<Param>,
@@ -48,7 +48,7 @@ pub struct Actor {
 }
 
 /// A unit: a file of constants and functions.
-#[derive(Debug, Drop)]
+#[derive(Drop)]
 pub struct UnitFile {
     pub name: Ident,
     pub members: Vec<Member>,

@@ -7,7 +7,7 @@ use crate::part::{Part, copy_all};
 use std::alloc::{AllocError, Global};
 
 /// A name where it stands.
-#[derive(Debug, Drop)]
+#[derive(Drop)]
 pub struct Ident {
     pub text: String,
     /// The offset of its first byte.
@@ -15,7 +15,7 @@ pub struct Ident {
 }
 
 /// Names with a dot between each two: the name of a package, or the tag of actions.
-#[derive(Debug, Drop)]
+#[derive(Drop)]
 pub struct Tag {
     pub parts: Vec<Ident>,
     /// The offset of its first byte.

@@ -11,7 +11,7 @@ use crate::stmt::Stmt;
 use std::alloc::{AllocError, Global};
 
 /// A member of an actor or a unit.
-#[derive(Debug, Drop)]
+#[derive(Drop)]
 pub enum Member {
     Var(VarDecl),
     Function(Function),
@@ -22,7 +22,7 @@ pub enum Member {
 }
 
 /// A parameter of an actor.
-#[derive(Debug, Drop)]
+#[derive(Drop)]
 pub struct Param {
     pub shape: TypeExpr,
     pub name: Ident,
@@ -33,7 +33,7 @@ pub struct Param {
 }
 
 /// A port of an actor, or a formal parameter of a function or a procedure.
-#[derive(Debug, Drop)]
+#[derive(Drop)]
 pub struct PortDecl {
     pub shape: TypeExpr,
     pub name: Ident,
@@ -42,7 +42,7 @@ pub struct PortDecl {
 }
 
 /// A variable.
-#[derive(Debug, Drop)]
+#[derive(Drop)]
 pub struct VarDecl {
     pub shape: TypeExpr,
     pub name: Ident,
@@ -55,7 +55,7 @@ pub struct VarDecl {
 }
 
 /// A function.
-#[derive(Debug, Drop)]
+#[derive(Drop)]
 pub struct Function {
     pub name: Ident,
     pub formals: Vec<PortDecl>,
@@ -67,7 +67,7 @@ pub struct Function {
 }
 
 /// A procedure.
-#[derive(Debug, Drop)]
+#[derive(Drop)]
 pub struct Procedure {
     pub name: Ident,
     pub formals: Vec<PortDecl>,

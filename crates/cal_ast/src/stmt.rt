@@ -11,7 +11,7 @@ use crate::part::{Part, both, copy_all, copy_three, copy_two};
 use std::alloc::{AllocError, Global};
 
 /// A statement.
-#[derive(Debug, Drop)]
+#[derive(Drop)]
 #[cycle(stmt)]
 pub struct Stmt {
     pub form: StmtForm,
@@ -20,7 +20,7 @@ pub struct Stmt {
 }
 
 /// What a statement is made of.
-#[derive(Debug, Drop)]
+#[derive(Drop)]
 #[cycle(stmt)]
 pub enum StmtForm {
     /// `name [ place ] .. := value ;`

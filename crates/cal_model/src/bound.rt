@@ -9,7 +9,7 @@ use rvc_base::Scalar;
 ///
 /// A name that a file other than the actor's own declares is the class of its unit, a dot and the name. Each size in
 /// a type and each bound of a comprehension is written with numbers and `-` alone.
-#[derive(Debug, Drop)]
+#[derive(Drop)]
 pub struct Bound {
     /// Its dotted name.
     pub class: String,
@@ -30,14 +30,14 @@ pub struct Bound {
 }
 
 /// A port of an actor.
-#[derive(Debug, Drop)]
+#[derive(Drop)]
 pub struct Port {
     pub name: String,
     pub kind: Scalar,
 }
 
 /// A parameter, a constant of a unit or a state variable, with the value that it begins with.
-#[derive(Debug, Drop)]
+#[derive(Drop)]
 pub struct BoundVar {
     pub name: String,
     pub shape: Shape,
@@ -47,7 +47,7 @@ pub struct BoundVar {
 }
 
 /// A formal or a local of a function, a procedure or an action.
-#[derive(Debug, Drop)]
+#[derive(Drop)]
 pub struct BoundLocal {
     pub name: String,
     pub shape: Shape,
@@ -58,7 +58,7 @@ pub struct BoundLocal {
 }
 
 /// A function.
-#[derive(Debug, Drop)]
+#[derive(Drop)]
 pub struct BoundFun {
     pub name: String,
     pub formals: Vec<BoundLocal>,
@@ -68,7 +68,7 @@ pub struct BoundFun {
 }
 
 /// A procedure.
-#[derive(Debug, Drop)]
+#[derive(Drop)]
 pub struct BoundProc {
     pub name: String,
     pub formals: Vec<BoundLocal>,
@@ -77,7 +77,7 @@ pub struct BoundProc {
 }
 
 /// What an action takes from one input port.
-#[derive(Debug, Drop)]
+#[derive(Drop)]
 pub struct BoundPattern {
     /// The number of the port among the inputs.
     pub port: u32,
@@ -87,7 +87,7 @@ pub struct BoundPattern {
 }
 
 /// What an action sends to one output port.
-#[derive(Debug, Drop)]
+#[derive(Drop)]
 pub struct BoundOutput {
     /// The number of the port among the outputs.
     pub port: u32,
@@ -97,7 +97,7 @@ pub struct BoundOutput {
 }
 
 /// An action, or an `initialize`.
-#[derive(Debug, Drop)]
+#[derive(Drop)]
 pub struct BoundAction {
     /// The parts of its tag; none if it is untagged.
     pub tag: Vec<String>,
@@ -110,7 +110,7 @@ pub struct BoundAction {
 }
 
 /// The schedule leads from a state by an action to a state.
-#[derive(Debug, Drop)]
+#[derive(Drop)]
 pub struct BoundMove {
     pub from: u16,
     pub action: u16,

@@ -19,7 +19,7 @@ use const_eval::{Inside, KindFault, Names, Variable, Variables, type_judged};
 use rvc_base::Memory;
 
 /// Variables that are declared inside, and what stands behind them.
-#[derive(Debug, Drop)]
+#[derive(Drop)]
 pub struct DeclaredVars {
     /// The variables, with their sizes and bounds written out.
     pub vars: Vec<VarDecl>,

@@ -19,7 +19,7 @@ use std::marker::Model;
 /// Contracts see the names, each with its kind, its value if it is a constant, and whether it may be assigned, the one
 /// that was added last first, since it hides those of its name; and the functions in the order in which they were added.
 /// A look-up takes the same time however many they are.
-#[derive(Debug, Drop)]
+#[derive(Drop)]
 pub struct Env {
     entries: Vec<Entry>,
     /// Where the last entry of each name stands.

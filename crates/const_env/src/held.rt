@@ -7,7 +7,7 @@ ghost use Rattle.const_env.specs.Held.{entry_view};
 use cal_model::{Kind, Value};
 
 /// A name with its kind, its value if it is a constant, and whether it may be assigned.
-#[derive(Debug, Drop)]
+#[derive(Drop)]
 pub(crate) struct Entry {
     pub name: String,
     pub kind: Kind,

@@ -10,7 +10,7 @@ use cal_ast::Gen;
 use cal_model::Kind;
 
 /// A name without a value, with its kind: a formal, a local, or a variable of a pattern or of a loop.
-#[derive(Debug, Drop)]
+#[derive(Drop)]
 pub struct Variable {
     pub name: String,
     pub kind: Kind,

@@ -11,7 +11,7 @@ use std::marker::Model;
 /// Where names stand in a list, with an index, so that a look-up takes the same time however many they are.
 ///
 /// It is seen as the names with their places.
-#[derive(Debug, Drop)]
+#[derive(Drop)]
 pub(crate) struct Places {
     places: IndexMap<String, usize>,
 }

@@ -14,7 +14,7 @@ use std::marker::Model;
 /// Variables, of which a later one stands inside. A look-up takes the same time however many they are.
 ///
 /// Contracts see the list of them, in the order in which they were added.
-#[derive(Debug, Drop)]
+#[derive(Drop)]
 pub struct Variables {
     variables: Vec<Variable>,
     /// Where the last one of each name stands.

@@ -15,7 +15,7 @@ use code_ir::Instr;
 use rvc_base::Scalar;
 
 /// A function that may be called: its name, its routine, and where its arguments go.
-#[derive(Debug, Drop)]
+#[derive(Drop)]
 pub struct Callee {
     pub name: String,
     /// The number of the routine, which leaves the value on the stack.

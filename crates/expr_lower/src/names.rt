@@ -14,7 +14,7 @@ use cal_model::Shape;
 use rvc_base::Scalar;
 
 /// A name, the type of its value, and where the value stands, number by number.
-#[derive(Debug, Drop)]
+#[derive(Drop)]
 pub struct Named {
     pub name: String,
     pub shape: Shape,

@@ -38,15 +38,15 @@ fn expressions(rt: HostRuntime) {
 /// Operators that group to the left, pairs that are dropped or kept, primaries.
 const EXPRESSIONS: &str = "
 # 3 1 - 2 - 3
-= Expr { form: Binary { op: Sub, left: Expr { form: Binary { op: Sub, left: Expr { form: Number(1), at: 0 }, right: Expr { form: Number(2), at: 4 } }, at: 0 }, right: Expr { form: Number(3), at: 8 } }, at: 0 }
+= (- (- 1@0 2@4)@0 3@8)@0
 # 2 1 - 2 - 3
 = G2 at 6
 # 3 1 + 2 * 3
-= Expr { form: Binary { op: Add, left: Expr { form: Number(1), at: 0 }, right: Expr { form: Binary { op: Mul, left: Expr { form: Number(2), at: 4 }, right: Expr { form: Number(3), at: 8 } }, at: 4 } }, at: 0 }
+= (+ 1@0 (* 2@4 3@8)@4)@0
 # 2 ((-1))
-= Expr { form: Prefix { op: Neg, of: Expr { form: Number(1), at: 3 } }, at: 0 }
+= (- 1@3)@0
 # 3 ((1))
-= Expr { form: Paren(Expr { form: Paren(Expr { form: Number(1), at: 2 }), at: 1 }), at: 0 }
+= (paren (paren 1@2)@1)@0
 # 2 ((1))
 = G2 at 4
 # 2 ((1)
@@ -54,11 +54,11 @@ const EXPRESSIONS: &str = "
 # 0 
 = G1 at 0
 # 3 f(x)[1]
-= Expr { form: Index { base: Expr { form: Call { name: \"f\", args: [Expr { form: Name(\"x\"), at: 2 }] }, at: 0 }, place: Expr { form: Number(1), at: 5 } }, at: 0 }
+= (index (call f x@2)@0 1@5)@0
 # 3 if true then [] else f() endif
 = G1 at 14
 # 2 [1 : for int i in 2 .. 3]
-= Expr { form: Comp { item: Expr { form: Number(1), at: 1 }, gens: [Gen { shape: TypeExpr { name: Ident { text: \"int\", at: 9 }, args: [], at: 9 }, name: Ident { text: \"i\", at: 13 }, from: Expr { form: Number(2), at: 18 }, to: Expr { form: Number(3), at: 23 }, at: 5 }] }, at: 0 }";
+= (comp 1@1 (for (int@9)@9 i@13 2@18 3@23)@5)@0";
 
 #[test]
 fn expressions_that_break_off(rt: HostRuntime) {
@@ -96,7 +96,7 @@ const TYPES: &str = "
 # 2 List(type, size = 2)
 = G1 at 9
 # 2 List(type: int, size=2)
-= TypeExpr { name: Ident { text: \"List\", at: 0 }, args: [Shape { name: Ident { text: \"type\", at: 5 }, shape: TypeExpr { name: Ident { text: \"int\", at: 11 }, args: [], at: 11 } }, Value { name: Ident { text: \"size\", at: 16 }, value: Expr { form: Number(2), at: 21 } }], at: 0 }
+= (List@0 type@5:(int@11)@11 size@16=2@21)@0
 # 2 List(type: int, size=2) x
 = G1 at 24
 # 1 List(type: int)

@@ -3,14 +3,14 @@
 use rvc_base::Scalar;
 
 /// The ports of the actor at a leaf.
-#[derive(Debug, Drop)]
+#[derive(Drop)]
 pub struct Head {
     pub ins: Vec<HeadPort>,
     pub outs: Vec<HeadPort>,
 }
 
 /// A port of an actor.
-#[derive(Debug, Drop)]
+#[derive(Drop)]
 pub struct HeadPort {
     pub name: String,
     /// The type of its tokens.

@@ -3,7 +3,7 @@
 use cal_ast::{Expr, TypeExpr};
 
 /// A network.
-#[derive(Debug, Drop)]
+#[derive(Drop)]
 pub struct NetFile {
     pub name: String,
     /// Its ports, declarations, instances and connections, each in the order of the text.
@@ -16,7 +16,7 @@ pub struct NetFile {
 }
 
 /// A port of the network.
-#[derive(Debug, Drop)]
+#[derive(Drop)]
 pub struct NetPort {
     /// Whether tokens come in by it.
     pub input: bool,
@@ -26,7 +26,7 @@ pub struct NetPort {
 }
 
 /// A parameter of the network, or a variable.
-#[derive(Debug, Drop)]
+#[derive(Drop)]
 pub struct NetDecl {
     pub param: bool,
     pub shape: TypeExpr,
@@ -37,7 +37,7 @@ pub struct NetDecl {
 }
 
 /// An instance of an actor or of a network.
-#[derive(Debug, Drop)]
+#[derive(Drop)]
 pub struct NetInstance {
     pub id: String,
     /// Names with a dot between each two.
@@ -48,7 +48,7 @@ pub struct NetInstance {
 }
 
 /// The value of a parameter of an instance.
-#[derive(Debug, Drop)]
+#[derive(Drop)]
 pub struct NetParameter {
     pub name: String,
     pub value: Expr,
@@ -56,7 +56,7 @@ pub struct NetParameter {
 }
 
 /// A connection between two ports. Where `src` or `dst` is empty, the port is the network's own.
-#[derive(Debug, Drop)]
+#[derive(Drop)]
 pub struct NetConnection {
     pub src: String,
     pub src_port: String,
@@ -68,7 +68,7 @@ pub struct NetConnection {
 }
 
 /// A capacity that is asked for.
-#[derive(Debug, Drop)]
+#[derive(Drop)]
 pub struct NetSize {
     pub value: Expr,
     pub at: u32,

@@ -4,7 +4,7 @@ use cal_model::Value;
 use rvc_base::{InstId, Place, Scalar};
 
 /// A network with all networks that stand in it, directly or indirectly. Its leaves are actors.
-#[derive(Debug, Drop)]
+#[derive(Drop)]
 pub struct Tree {
     /// The top network is the first.
     pub nets: Vec<Net>,
@@ -13,7 +13,7 @@ pub struct Tree {
 }
 
 /// A network.
-#[derive(Debug, Drop)]
+#[derive(Drop)]
 pub struct Net {
     /// The number of its file.
     pub file: u32,
@@ -29,7 +29,7 @@ pub struct Net {
 }
 
 /// A port of a network.
-#[derive(Debug, Drop)]
+#[derive(Drop)]
 pub struct NetEnd {
     pub name: String,
     /// The type of its tokens.
@@ -37,7 +37,7 @@ pub struct NetEnd {
 }
 
 /// An instance.
-#[derive(Debug, Drop)]
+#[derive(Drop)]
 pub struct Part {
     pub id: String,
     pub inner: Inner,
@@ -53,7 +53,7 @@ pub enum Inner {
 }
 
 /// A connection, from a port that writes to a port that reads.
-#[derive(Debug, Drop)]
+#[derive(Drop)]
 pub struct Wire {
     /// The instance, and its output. If no instance is named, the network's own input.
     pub src: String,
@@ -68,7 +68,7 @@ pub struct Wire {
 }
 
 /// An actor of the network, with the values of its parameters.
-#[derive(Debug, Drop)]
+#[derive(Drop)]
 pub struct Leaf {
     /// The ids of the instances that lead to it, joined by `/`.
     pub path: String,
@@ -82,7 +82,7 @@ pub struct Leaf {
 }
 
 /// The value of a parameter.
-#[derive(Debug, Drop)]
+#[derive(Drop)]
 pub struct LeafValue {
     pub name: String,
     pub value: Value,

@@ -25,7 +25,7 @@ use std::alloc::Global;
 use std::collections::VecDeque;
 
 /// What a network has where it stands: its own ports, its connections, and its instances with what it gives to them.
-#[derive(Debug, Drop)]
+#[derive(Drop)]
 pub struct NetValues<'a> {
     pub ins: Vec<NetEnd>,
     pub outs: Vec<NetEnd>,

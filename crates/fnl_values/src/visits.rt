@@ -14,7 +14,7 @@ use std::alloc::Global;
 use std::collections::VecDeque;
 
 /// An instance with the values of its parameters.
-#[derive(Debug, Drop)]
+#[derive(Drop)]
 pub struct Visit<'a> {
     pub instance: &'a NetInstance,
     /// In the order of the `Parameter` elements.

@@ -2,7 +2,7 @@
 
 use crate::table::answered;
 use rvc_base::Memory;
-use std::alloc::{AllocError, Global};
+use std::alloc::Global;
 use std::process::Abort;
 use tree_texts::{Asked, told};
 
@@ -30,11 +30,11 @@ fn files(rt: HostRuntime) {
 /// Packages, imports, parameters and ports, and where a file begins.
 const FILES: &str = "
 # package a.b; import c.*; import d.e; unit U : end
-= File { package: Some(Tag { parts: [Ident { text: \"a\", at: 8 }, Ident { text: \"b\", at: 10 }], at: 8 }), imports: [Import { path: [Ident { text: \"c\", at: 20 }], last: None, at: 13 }, Import { path: [Ident { text: \"d\", at: 32 }], last: Some(Ident { text: \"e\", at: 34 }), at: 25 }], body: Unit(UnitFile { name: Ident { text: \"U\", at: 42 }, members: [], at: 37 }), at: 0 }
+= (file (a@8.b@10)@8 [(import [c@20] *)@13 (import [d@32] e@34)@25] (unit U@42 [])@37)@0
 # import a.b.c.d; actor A(int K = 1, bool b) int X ==> int Y : end
-= File { package: None, imports: [Import { path: [Ident { text: \"a\", at: 7 }, Ident { text: \"b\", at: 9 }, Ident { text: \"c\", at: 11 }], last: Some(Ident { text: \"d\", at: 13 }), at: 0 }], body: Actor(Actor { name: Ident { text: \"A\", at: 22 }, params: [Param { shape: TypeExpr { name: Ident { text: \"int\", at: 24 }, args: [], at: 24 }, name: Ident { text: \"K\", at: 28 }, start: Some(Expr { form: Number(1), at: 32 }), at: 24 }, Param { shape: TypeExpr { name: Ident { text: \"bool\", at: 35 }, args: [], at: 35 }, name: Ident { text: \"b\", at: 40 }, start: None, at: 35 }], ins: [PortDecl { shape: TypeExpr { name: Ident { text: \"int\", at: 43 }, args: [], at: 43 }, name: Ident { text: \"X\", at: 47 }, at: 43 }], outs: [PortDecl { shape: TypeExpr { name: Ident { text: \"int\", at: 53 }, args: [], at: 53 }, name: Ident { text: \"Y\", at: 57 }, at: 53 }], members: [], at: 16 }), at: 0 }
+= (file - [(import [a@7 b@9 c@11] d@13)@0] (actor A@22 [((int@24)@24 K@28 1@32)@24 ((bool@35)@35 b@40 -)@35] [((int@43)@43 X@47)@43] [((int@53)@53 Y@57)@53] [])@16)@0
 #   actor A() ==> : endactor
-= File { package: None, imports: [], body: Actor(Actor { name: Ident { text: \"A\", at: 8 }, params: [], ins: [], outs: [], members: [], at: 2 }), at: 2 }";
+= (file - [] (actor A@8 [] [] [] [])@2)@2";
 
 #[test]
 fn members(rt: HostRuntime) {
@@ -44,21 +44,21 @@ fn members(rt: HostRuntime) {
 /// Variables, functions, procedures, actions, schedules and priorities.
 const MEMBERS: &str = "
 # actor A() ==> : int s := 0; end
-= [Var(VarDecl { shape: TypeExpr { name: Ident { text: \"int\", at: 16 }, args: [], at: 16 }, name: Ident { text: \"s\", at: 20 }, start: Some(Expr { form: Number(0), at: 25 }), changes: true, at: 16 })]
+= [(var (int@16)@16 s@20 := 0@25)@16]
 # actor A() ==> : int(size=8) K = 1; end
-= [Var(VarDecl { shape: TypeExpr { name: Ident { text: \"int\", at: 16 }, args: [Value { name: Ident { text: \"size\", at: 20 }, value: Expr { form: Number(8), at: 25 } }], at: 16 }, name: Ident { text: \"K\", at: 28 }, start: Some(Expr { form: Number(1), at: 32 }), changes: false, at: 16 })]
+= [(var (int@16 size@20=8@25)@16 K@28 = 1@32)@16]
 # actor A() ==> : function f(int x) --> int : x end end
-= [Function(Function { name: Ident { text: \"f\", at: 25 }, formals: [PortDecl { shape: TypeExpr { name: Ident { text: \"int\", at: 27 }, args: [], at: 27 }, name: Ident { text: \"x\", at: 31 }, at: 27 }], result: TypeExpr { name: Ident { text: \"int\", at: 38 }, args: [], at: 38 }, vars: [], body: Expr { form: Name(\"x\"), at: 44 }, at: 16 })]
+= [(function f@25 [((int@27)@27 x@31)@27] (int@38)@38 [] x@44)@16]
 # actor A() ==> : procedure p() var int y begin y := 1; endprocedure end
-= [Procedure(Procedure { name: Ident { text: \"p\", at: 26 }, formals: [], vars: [VarDecl { shape: TypeExpr { name: Ident { text: \"int\", at: 34 }, args: [], at: 34 }, name: Ident { text: \"y\", at: 38 }, start: None, changes: true, at: 34 }], body: [Stmt { form: Assign { name: Ident { text: \"y\", at: 46 }, places: [], value: Expr { form: Number(1), at: 51 } }, at: 46 }], at: 16 })]
+= [(procedure p@26 [] [(var (int@34)@34 y@38 :=)@34] [(:= y@46 [] 1@51)@46])@16]
 # actor A() ==> : a.b: action In:[x] repeat 2, [y] ==> guard true do end end
-= [Action(Action { tag: Some(Tag { parts: [Ident { text: \"a\", at: 16 }, Ident { text: \"b\", at: 18 }], at: 16 }), initialize: false, patterns: [Pattern { port: Some(Ident { text: \"In\", at: 28 }), names: [Ident { text: \"x\", at: 32 }], repeat: Some(Expr { form: Number(2), at: 42 }), at: 28 }, Pattern { port: None, names: [Ident { text: \"y\", at: 46 }], repeat: None, at: 45 }], outputs: [], guards: [Expr { form: Bool(true), at: 59 }], vars: [], body: Some([]), at: 16 })]
+= [(action (a@16.b@18)@16 [(In@28 [x@32] 2@42)@28 (- [y@46] -)@45] [] [true@59] [] [])@16]
 # actor A() ==> : initialize ==> Out:[1, 2] end end
-= [Action(Action { tag: None, initialize: true, patterns: [], outputs: [Output { port: Some(Ident { text: \"Out\", at: 31 }), values: [Expr { form: Number(1), at: 36 }, Expr { form: Number(2), at: 39 }], repeat: None, at: 31 }], guards: [], vars: [], body: None, at: 16 })]
+= [(initialize - [] [(Out@31 [1@36 2@39] -)@31] [] [] -)@16]
 # actor A() ==> : schedule fsm s : s (a.x, b) --> t; end end
-= [Schedule(Schedule { start: Ident { text: \"s\", at: 29 }, moves: [Move { from: Ident { text: \"s\", at: 33 }, tags: [Tag { parts: [Ident { text: \"a\", at: 36 }, Ident { text: \"x\", at: 38 }], at: 36 }, Tag { parts: [Ident { text: \"b\", at: 41 }], at: 41 }], to: Ident { text: \"t\", at: 48 }, at: 33 }], at: 16 })]
+= [(schedule s@29 [(s@33 [(a@36.x@38)@36 (b@41)@41] t@48)@33])@16]
 # actor A() ==> : priority a > b.c > d; end end
-= [Priority(Priority { chains: [[Tag { parts: [Ident { text: \"a\", at: 25 }], at: 25 }, Tag { parts: [Ident { text: \"b\", at: 29 }, Ident { text: \"c\", at: 31 }], at: 29 }, Tag { parts: [Ident { text: \"d\", at: 35 }], at: 35 }]], at: 16 })]";
+= [(priority [[(a@25)@25 (b@29.c@31)@29 (d@35)@35]])@16]";
 
 #[test]
 fn what_cannot_follow(rt: HostRuntime) {
@@ -93,7 +93,7 @@ const INC: &[u8] =
     b"actor Inc() uint(size=8) In ==> uint(size=8) Out : action In:[a] ==> Out:[a + 1] end end";
 
 /// How many fronts of a text break the grammar, one after another from the empty one.
-fn broken_fronts(alloc: Global, text: &[u8]) -> Result<usize, AllocError> {
+fn broken_fronts(alloc: Global, text: &[u8]) -> Result<usize, Memory> {
     for size in 0..text.len() {
         if !told(alloc, Asked::Outcome, &text[..size])?.starts_with("G1 at ") {
             return Ok(size);

@@ -3,7 +3,7 @@
 use cal_model::Bound;
 
 /// The actors at the leaves of a network, each class with its values once.
-#[derive(Debug, Drop)]
+#[derive(Drop)]
 pub struct LeafActors {
     /// Each actor once.
     pub actors: Vec<Bound>,

@@ -26,7 +26,7 @@ use std::alloc::{AllocError, Global};
 const MAX_STATES: usize = 1024;
 
 /// What a schedule is.
-#[derive(Debug, Drop)]
+#[derive(Drop)]
 pub struct Scheduled {
     /// The names of its states in order of first appearance, the initial one first; none if there is no schedule.
     pub states: Vec<String>,

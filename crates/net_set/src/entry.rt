@@ -3,7 +3,7 @@
 use fnl_read::NetFile;
 
 /// A network that was read.
-#[derive(Debug, Drop)]
+#[derive(Drop)]
 pub struct NetEntry {
     /// The number of its file.
     pub file: u32,

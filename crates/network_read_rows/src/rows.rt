@@ -1,10 +1,11 @@
 //! Texts with the networks that they spell, or the rule that they break first.
 
-use cal_ast::{Expr, ExprForm, TypeExpr};
+use cal_ast::{Expr, TypeExpr};
 use fnl_read::{NetConnection, NetDecl, NetFile, NetInstance, NetPort, read_network};
-use rvc_base::Front;
+use rvc_base::{Front, Memory};
 use std::alloc::{AllocError, Global};
 use std::process::Abort;
+use tree_texts::expr_text;
 
 /// What is asked of a text.
 #[derive(Clone, Copy)]
@@ -77,71 +78,35 @@ fn outline(alloc: Global, net: &NetFile) -> Result<String, AllocError> {
     Ok(out)
 }
 
-/// Adds an expression without what stands inside, which is put on a stack.
-fn add_form<'a>(out: &mut String, todo: &mut Vec<&'a Expr>, e: &'a Expr) -> Result<(), AllocError> {
-    let at = e.at;
-    match &e.form {
-        ExprForm::Number(value) => write!(out, "{value}@{at} "),
-        ExprForm::Bool(value) => write!(out, "{value}@{at} "),
-        ExprForm::Name(name) => write!(out, "{name}@{at} "),
-        ExprForm::Prefix { op, of } => {
-            todo.push(of)?;
-            write!(out, "{op:?}@{at} ")
-        }
-        ExprForm::Binary { op, left, right } => {
-            todo.push(right)?;
-            todo.push(left)?;
-            write!(out, "{op:?}@{at} ")
-        }
-        ExprForm::List(items) => {
-            let count = items.len();
-            for item in items {
-                todo.push(item)?;
-            }
-            write!(out, "List({count})@{at} ")
-        }
-        _ => write!(out, "?@{at} "),
-    }
-}
-
-/// An expression, each operator before its operands and each list before its items, the last first.
-fn value(alloc: Global, e: &Expr) -> Result<String, AllocError> {
-    let mut out = String::new(alloc);
-    let mut todo = Vec::new(alloc);
-    todo.push(e)?;
-    for _ in 0..100 {
-        match todo.pop() {
-            Some(next) => add_form(&mut out, &mut todo, next)?,
-            None => {}
-        }
-    }
-    Ok(out)
-}
-
 /// The value of the first parameter of the first instance.
 fn first_value(net: &NetFile) -> Option<&Expr> {
     let parameter = net.instances.first()?.parameters.first()?;
     Some(&parameter.value)
 }
 
-fn answer(alloc: Global, asked: Asked, text: &[u8]) -> Result<String, AllocError> {
+/// What is asked of a network, as text.
+fn shown(alloc: Global, asked: Asked, net: &NetFile) -> Result<String, Memory> {
+    match asked {
+        Asked::Outline => Ok(outline(alloc, net)?),
+        Asked::Value => match first_value(net) {
+            Some(e) => expr_text(alloc, e),
+            None => Ok(String::new(alloc)),
+        },
+    }
+}
+
+fn answer(alloc: Global, asked: Asked, text: &[u8]) -> Result<String, Memory> {
     if text.len() >= 1 << 32 {
-        return String::from_str(alloc, "too long");
+        return Ok(String::from_str(alloc, "too long")?);
     }
     match read_network(alloc, 7, text) {
-        Ok(net) => match asked {
-            Asked::Outline => outline(alloc, &net),
-            Asked::Value => match first_value(&net) {
-                Some(e) => value(alloc, e),
-                None => Ok(String::new(alloc)),
-            },
-        },
+        Ok(net) => shown(alloc, asked, &net),
         Err(Front::Refused(refusal)) => {
             let rule = refusal.rule;
             let at = refusal.place.offset;
-            format!(in alloc; "{rule} at {at}")
+            Ok(format!(in alloc; "{rule} at {at}")?)
         }
-        Err(Front::Memory) => String::from_str(alloc, "out of memory"),
+        Err(Front::Memory) => Ok(String::from_str(alloc, "out of memory")?),
     }
 }
 
@@ -201,39 +166,39 @@ fn values(rt: HostRuntime) {
 const VALUES: &[(&[u8], &str)] = &[
     (
         b"<XDF name='V'><Instance id='x'><Class name='A'/><Parameter name='k'><Expr kind='Literal' literal-kind='Integer' value='007'/></Parameter></Instance></XDF>",
-        "7@68 ",
+        "7@68",
     ),
     (
         b"<XDF name='V'><Instance id='x'><Class name='A'/><Parameter name='k'><Expr kind='Literal' literal-kind='Integer' value='-340282366920938463463374607431768211455'/></Parameter></Instance></XDF>",
-        "Neg@68 340282366920938463463374607431768211455@68 ",
+        "(- 340282366920938463463374607431768211455@68)@68",
     ),
     (
         b"<XDF name='V'><Instance id='x'><Class name='A'/><Parameter name='k'><Expr kind='Literal' literal-kind='Boolean' value='false'/></Parameter></Instance></XDF>",
-        "false@68 ",
+        "false@68",
     ),
     (
         b"<XDF name='V'><Instance id='x'><Class name='A'/><Parameter name='k'><Expr kind='UnaryOp'><Op name='~'/><Expr kind='Var' name='v'/></Expr></Parameter></Instance></XDF>",
-        "BitNot@68 v@103 ",
+        "(~ v@103)@68",
     ),
     (
         b"<XDF name='V'><Instance id='x'><Class name='A'/><Parameter name='k'><Expr kind='List'><Expr kind='Literal' literal-kind='Integer' value='1'/><Expr kind='Var' name='b'/></Expr></Parameter></Instance></XDF>",
-        "List(2)@68 b@141 1@86 ",
+        "(list 1@86 b@141)@68",
     ),
     (
         b"<XDF name='V'><Instance id='x'><Class name='A'/><Parameter name='k'><Expr kind='BinOpSeq'><Expr kind='Literal' literal-kind='Integer' value='2'/><Op name='+'/><Expr kind='Literal' literal-kind='Integer' value='3'/><Op name='*'/><Expr kind='Literal' literal-kind='Integer' value='4'/></Expr></Parameter></Instance></XDF>",
-        "Add@68 2@90 Mul@159 3@159 4@228 ",
+        "(+ 2@90 (* 3@159 4@228)@159)@68",
     ),
     (
         b"<XDF name='V'><Instance id='x'><Class name='A'/><Parameter name='k'><Expr kind='BinOpSeq'><Expr kind='Literal' literal-kind='Integer' value='2'/><Op name='-'/><Expr kind='Literal' literal-kind='Integer' value='3'/><Op name='+'/><Expr kind='Literal' literal-kind='Integer' value='4'/></Expr></Parameter></Instance></XDF>",
-        "Add@68 Sub@90 2@90 3@159 4@228 ",
+        "(+ (- 2@90 3@159)@90 4@228)@68",
     ),
     (
         b"<XDF name='V'><Instance id='x'><Class name='A'/><Parameter name='k'><Expr kind='BinOpSeq'><Expr kind='Var' name='a'/><Op name='||'/><Expr kind='Var' name='b'/><Op name='='/><Expr kind='Var' name='c'/><Op name='&lt;&lt;'/><Expr kind='Var' name='d'/><Op name='div'/><Expr kind='Var' name='e'/><Op name='&amp;'/><Expr kind='Var' name='f'/></Expr></Parameter></Instance></XDF>",
-        "Or@68 a@90 BitAnd@132 Eq@132 b@132 Shl@173 c@173 Div@221 d@221 e@264 f@309 ",
+        "(or a@90 (& (= b@132 (<< c@173 (div d@221 e@264)@221)@173)@132 f@309)@132)@68",
     ),
     (
         b"<XDF name='V'><Instance id='x'><Class name='A'/><Parameter name='k'><Expr kind='BinOpSeq'><Expr kind='BinOpSeq'><Expr kind='Literal' literal-kind='Integer' value='1'/><Op name='or'/><Expr kind='Literal' literal-kind='Integer' value='2'/></Expr><Op name='*'/><Expr kind='Literal' literal-kind='Integer' value='3'/></Expr></Parameter></Instance></XDF>",
-        "Mul@68 Or@90 1@112 2@182 3@258 ",
+        "(* (or 1@112 2@182)@90 3@258)@68",
     ),
 ];
 

@@ -19,7 +19,7 @@ use rvc_base::{Memory, Rule, Scalar};
 use std::alloc::Global;
 
 /// The formals of a function or a procedure.
-#[derive(Debug, Drop)]
+#[derive(Drop)]
 pub struct DeclaredFormals {
     pub formals: Vec<BoundLocal>,
     /// The same, as what stands behind them sees them.

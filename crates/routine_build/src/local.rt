@@ -21,7 +21,7 @@ use rvc_base::{Memory, Scalar};
 use std::alloc::Global;
 
 /// The locals of a function, a procedure or an action.
-#[derive(Debug, Drop)]
+#[derive(Drop)]
 pub struct DeclaredLocals {
     /// The locals, with their sizes and bounds written out.
     pub locals: Vec<BoundLocal>,
@@ -32,7 +32,7 @@ pub struct DeclaredLocals {
 }
 
 /// A local.
-#[derive(Debug, Drop)]
+#[derive(Drop)]
 pub(crate) struct DeclaredLocal {
     pub local: BoundLocal,
     /// The same, as what stands behind it sees it.

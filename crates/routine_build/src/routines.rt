@@ -25,7 +25,7 @@ use rvc_base::Memory;
 use std::alloc::Global;
 
 /// What stands inside a function.
-#[derive(Debug, Drop)]
+#[derive(Drop)]
 struct InsideFun {
     locals: Vec<BoundLocal>,
     body: Expr,

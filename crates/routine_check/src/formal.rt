@@ -19,7 +19,7 @@ use rvc_base::Memory;
 use std::alloc::Global;
 
 /// Formals: the locals that they are, and the same as names for what stands behind them.
-#[derive(Debug, Drop)]
+#[derive(Drop)]
 pub struct FoundFormals {
     pub locals: Vec<BoundLocal>,
     pub seen: Variables,

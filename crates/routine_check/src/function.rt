@@ -22,7 +22,7 @@ use rvc_base::Scalar;
 use stmt_check::{check_stored, check_vars};
 
 /// The head of a function: its formals and the type of its result.
-#[derive(Debug, Drop)]
+#[derive(Drop)]
 pub struct FunHead {
     pub formals: FoundFormals,
     pub result: Scalar,

@@ -13,7 +13,7 @@ use typed_values::copy;
 
 /// A variable, a parameter or a constant with the value that it begins with. One that has none has a value of another
 /// kind, so that whatever needs it has none either.
-#[derive(Debug, Drop)]
+#[derive(Drop)]
 pub struct KnownName {
     pub name: String,
     pub kind: Kind,

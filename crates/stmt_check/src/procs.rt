@@ -15,7 +15,7 @@ use std::marker::Model;
 /// Procedures in the order in which they were added. A look-up by name takes the same time however many they are.
 ///
 /// Contracts see their list.
-#[derive(Debug, Drop)]
+#[derive(Drop)]
 pub struct Procs {
     procs: Vec<BoundProc>,
     /// Where the first procedure of each name stands.

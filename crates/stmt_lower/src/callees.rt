@@ -14,7 +14,7 @@ use code_ir::Instr;
 use expr_lower::{Draft, Formal, LowerFault, put, put_formals};
 
 /// A procedure that may be called: its name, its routine, and where its arguments go.
-#[derive(Debug, Drop)]
+#[derive(Drop)]
 pub struct ProcCallee {
     pub name: String,
     /// The number of the routine, which leaves nothing on the stack.

@@ -17,7 +17,7 @@ pub fn canon(alloc: Global, text: &[u8]) -> Result<Option<Vec<u8>>, Memory> {
     }
 }
 
-/// The bytes of a tree as `Debug` prints it, without its offsets.
+/// The text of a tree without its offsets.
 ///
 /// # Errors
 ///
@@ -26,7 +26,7 @@ pub fn without_offsets(alloc: Global, shown: &[u8]) -> Result<Vec<u8>, Memory> {
     let mut kept = Vec::new(alloc);
     let mut in_offset = false;
     for &byte in shown {
-        in_offset = byte.is_ascii_digit() && (in_offset || kept.as_slice().ends_with(b"at: "));
+        in_offset = byte == b'@' || in_offset && byte.is_ascii_digit();
         if !in_offset {
             kept.push(byte)?;
         }

@@ -1,11 +1,12 @@
 //! Expressions and types within an actor, each read up to a height.
 
 use crate::reading::fault;
+use crate::writer::text_of;
 use cal_ast::{Body, Expr, ExprForm, File, Member, Stmt, StmtForm, TypeArg, TypeExpr};
 use cal_lexer::{Token, lex};
 use cal_parser::{MAX_HEIGHT, parse_file};
 use rvc_base::{Front, Memory};
-use std::alloc::{AllocError, Global};
+use std::alloc::Global;
 
 /// What a text in a frame is read as.
 #[derive(Clone, Copy)]
@@ -88,8 +89,8 @@ fn first_member(file: &File) -> Option<&Member> {
     }
 }
 
-/// What is asked of a member, as `Debug` prints it.
-fn shown(alloc: Global, asked: Framed, member: &Member, depth: u32) -> Result<String, AllocError> {
+/// What is asked of a member, as text.
+fn shown(alloc: Global, asked: Framed, member: &Member, depth: u32) -> Result<String, Memory> {
     match asked {
         Framed::Expr => match start(member) {
             Some(outer) => shown_expr(alloc, outer, depth),
@@ -105,27 +106,27 @@ fn shown(alloc: Global, asked: Framed, member: &Member, depth: u32) -> Result<St
 }
 
 /// What is answered of a file without what is asked of it, which no row expects.
-fn another(alloc: Global) -> Result<String, AllocError> {
-    String::from_str(alloc, "another file")
+fn another(alloc: Global) -> Result<String, Memory> {
+    Ok(String::from_str(alloc, "another file")?)
 }
 
-fn shown_expr(alloc: Global, outer: &Expr, depth: u32) -> Result<String, AllocError> {
+fn shown_expr(alloc: Global, outer: &Expr, depth: u32) -> Result<String, Memory> {
     match in_lists(outer, depth) {
-        Some(found) => format!(in alloc; "{found:?}"),
+        Some(found) => text_of(alloc, found),
         None => another(alloc),
     }
 }
 
-fn shown_type(alloc: Global, outer: &TypeExpr, depth: u32) -> Result<String, AllocError> {
+fn shown_type(alloc: Global, outer: &TypeExpr, depth: u32) -> Result<String, Memory> {
     match in_types(outer, depth) {
-        Some(found) => format!(in alloc; "{found:?}"),
+        Some(found) => text_of(alloc, found),
         None => another(alloc),
     }
 }
 
-fn shown_count(alloc: Global, count: Option<usize>) -> Result<String, AllocError> {
+fn shown_count(alloc: Global, count: Option<usize>) -> Result<String, Memory> {
     match count {
-        Some(found) => format!(in alloc; "{found}"),
+        Some(found) => Ok(format!(in alloc; "{found}")?),
         None => another(alloc),
     }
 }
@@ -201,12 +202,7 @@ fn in_types(outer: &TypeExpr, depth: u32) -> Option<&TypeExpr> {
 }
 
 /// What is asked of the first member of a file, if it has one.
-fn member_shown(
-    alloc: Global,
-    asked: Framed,
-    file: &File,
-    depth: u32,
-) -> Result<String, AllocError> {
+fn member_shown(alloc: Global, asked: Framed, file: &File, depth: u32) -> Result<String, Memory> {
     match first_member(file) {
         Some(member) => shown(alloc, asked, member, depth),
         None => another(alloc),
@@ -229,7 +225,7 @@ pub fn told_in(
     let before = before(alloc, frame, depth)?;
     let rest = rest(alloc, frame, text, depth)?;
     match parsed(alloc, &before, &rest) {
-        Ok(file) => Ok(member_shown(alloc, asked, &file, depth)?),
+        Ok(file) => member_shown(alloc, asked, &file, depth),
         Err(why) => Ok(fault(alloc, why)?),
     }
 }

@@ -1,17 +1,25 @@
-//! Texts of sources as what is read of them, again as text: trees as `Debug` prints them, canonical texts, and the rules
-//! that they break.
+//! Texts of sources as what is read of them, again as text: trees, canonical texts, and the rules that they break.
+//!
+//! A tree is shown as one text, in which each part has the offset where it stands: `1 - 2 - x` in a file at its
+//! beginning is `(- (- 1@0 2@4)@0 x@8)@0`. Lists stand in brackets, and `-` is shown for what isn't there.
 //!
 //! The tests are those of `language_rows`, `expression_rows`, `canon_rows`, `constant_rows` and `certify_rows`. Each drop
 //! of a type is proved in each crate that owns one, so what owns trees is here, and rows own texts and expressions alone.
 #![tactic(auto)]
 
+mod action_text;
 mod canonical;
 mod constants;
+mod expr_text;
+mod file_text;
 mod framed;
+mod member_text;
 mod reading;
+mod stmt_text;
 mod whole;
+mod writer;
 
 pub use canonical::{canon, without_offsets};
 pub use constants::{BEFORE, expression};
 pub use framed::{Frame, Framed, told_in};
-pub use whole::{Asked, is_copied, told};
+pub use whole::{Asked, expr_text, is_copied, told};

@@ -69,7 +69,7 @@ pub(crate) enum Constancy {
 }
 
 /// What a variable holds at first, if it has a value that is of use, and what is known of its start.
-#[derive(Debug, Drop)]
+#[derive(Drop)]
 pub(crate) struct Settled {
     pub value: Option<Value>,
     pub constancy: Constancy,

@@ -20,7 +20,7 @@ use early_check::early_type;
 use member_check::{MemberFault, check_ports, port_of};
 
 /// The ports of an actor, by their direction, in the order of the text.
-#[derive(Debug, Drop)]
+#[derive(Drop)]
 pub struct Header {
     pub ins: Vec<Port>,
     pub outs: Vec<Port>,

@@ -25,7 +25,7 @@ use std::alloc::Global;
 use typed_values::{has_kind, stored, zero_of};
 
 /// What a start comes to that breaks no rule.
-#[derive(Debug, Drop)]
+#[derive(Drop)]
 pub enum Started {
     /// Its value, stored in the type.
     Value(Value),

@@ -30,7 +30,7 @@ pub struct Told<'a> {
 }
 
 /// What variables come to that break no rule, but perhaps that some types and starts aren't constant.
-#[derive(Debug, Drop)]
+#[derive(Drop)]
 pub struct Valued {
     /// As names while values are sought, in the order of the text.
     pub known: Vec<KnownName>,
