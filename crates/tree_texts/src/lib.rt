@@ -1,10 +1,11 @@
 //! Texts of sources as what is read of them, again as text: trees, canonical texts, and the rules that they break.
 //!
-//! A tree is shown as one text, in which each part has the offset where it stands: `1 - 2 - x` in a file at its
-//! beginning is `(- (- 1@0 2@4)@0 x@8)@0`. Lists stand in brackets, and `-` is shown for what isn't there.
+//! In the text of a tree each part stands with its offset: that of `1 - 2 - x` is `(- (- 1@0 2@4)@0 x@8)@0`. Lists are
+//! in brackets, and `-` is for what isn't there.
 //!
-//! The tests are those of `language_rows`, `expression_rows`, `canon_rows`, `constant_rows` and `certify_rows`. Each drop
-//! of a type is proved in each crate that owns one, so what owns trees is here, and rows own texts and expressions alone.
+//! The tests are those of `language_rows`, `expression_rows`, `canon_rows`, `constant_rows`, `network_read_rows` and
+//! `certify_rows`. Each drop of a type is proved in each crate that owns one, so what owns trees is here, and rows own
+//! texts and expressions alone.
 #![tactic(auto)]
 
 mod action_text;
