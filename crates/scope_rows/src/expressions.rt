@@ -1,6 +1,7 @@
 //! Expressions and types with each name written out in full, or the rule that they break, with its place.
 
-use crate::rows::{Asked, hold};
+use crate::rows::hold;
+use scope_texts::Asked;
 
 #[test]
 fn expressions(rt: HostRuntime) {

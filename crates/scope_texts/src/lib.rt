@@ -1,16 +1,20 @@
-//! What rows of scope are made of: tables that are one text each, files from text, names for them to use, and answers as
-//! text.
+//! What rows of scope are made of: tables that are one text each, names for them to use, and answers as text.
 //!
-//! The tests are those of `scope_rows`, `member_rows` and `import_rows`, which stand on this so that what they share is
-//! proved once.
+//! The tests are those of `scope_rows`, which stand on this. What owns trees is here, so that the rows own texts alone.
 #![tactic(auto)]
 
+mod asked;
+mod declared;
+mod expressions;
 mod faults;
 mod files;
+mod imported;
+mod members;
 mod names;
 mod table;
 
+pub use asked::{Asked, told};
 pub use faults::fault_shown;
-pub use files::{file_of, printed};
+pub use imported::scope_told;
 pub use names::names_of;
 pub use table::{answered, cut, role_of};

@@ -1,74 +1,11 @@
 //! Members of an actor with each name written out in full, or the rule of scope that they break, with its place.
 
-use cal_ast::{Actor, Body, File};
-use cal_scope::{FileNames, PortNames, ScopeFault, resolve_members};
-use scope_texts::{answered, fault_shown, file_of, names_of, printed};
-use std::alloc::{AllocError, Global};
-use std::process::Abort;
-
-/// What stands before the members in their file.
-const BEFORE: &str = "actor A ( ) int In ==> int Out : ";
-
-/// An actor with its members resolved.
-fn resolved(a: Global, names: &FileNames, actor: &Actor) -> Result<Actor, ScopeFault> {
-    let ports = PortNames::of(a, &actor.ins, &actor.outs)?;
-    let mut copied = actor.copy(a)?;
-    copied.members = resolve_members(names, &ports, &actor.members)?;
-    Ok(copied)
-}
-
-/// A file that holds the actor.
-fn file_with(a: Global, actor: Actor) -> File {
-    File {
-        package: None,
-        imports: Vec::new(a),
-        body: Body::Actor(actor),
-        at: 0,
-    }
-}
-
-/// The answer for the text of members.
-fn answer(a: Global, names: &FileNames, text: &str) -> Result<String, AllocError> {
-    let source = format!(in a; "{BEFORE}{text} end")?;
-    let Ok(file) = file_of(a, source.as_bytes()) else {
-        return String::from_str(a, "no file");
-    };
-    let Body::Actor(actor) = &file.body else {
-        return String::from_str(a, "no actor");
-    };
-    match resolved(a, names, actor) {
-        Ok(actor) => printed(a, &file_with(a, actor)),
-        Err(fault) => fault_shown(a, fault, BEFORE),
-    }
-}
-
-/// What is wanted, as the file prints.
-fn wanted(a: Global, want: &str) -> Result<String, AllocError> {
-    format!(in a; "{BEFORE}{want} end ")
-}
-
-/// Stops unless the members of a row have their answer.
-fn hold_row(rt: &impl Abort, a: Global, names: &FileNames, row: &str) {
-    let (text, want) = answered(row);
-    let found = answer(a, names, text).expect(rt, "a text");
-    let whole = wanted(a, want).expect(rt, "a text");
-    let holds = found.as_str() == want || found.as_str() == whole.as_str();
-    assert!(rt; holds, "{text} gives {found}");
-}
-
-/// Stops at the first row of a table whose answer is another.
-fn hold(rt: &impl Abort, a: Global, table: &str) {
-    let names = names_of(a).expect(rt, "names");
-    for row in table.split("\n# ") {
-        if !row.is_empty() {
-            hold_row(rt, a, &names, row);
-        }
-    }
-}
+use crate::rows::hold;
+use scope_texts::Asked;
 
 #[test]
 fn functions_and_procedures(rt: HostRuntime) {
-    hold(&rt, rt.alloc(), FUNCTIONS);
+    hold(&rt, rt.alloc(), Asked::Members, FUNCTIONS);
 }
 
 /// Functions and procedures. Formals and locals are one scope, and hide what is outside.
@@ -94,7 +31,7 @@ const FUNCTIONS: &str = "
 
 #[test]
 fn statements(rt: HostRuntime) {
-    hold(&rt, rt.alloc(), STATEMENTS);
+    hold(&rt, rt.alloc(), Asked::Members, STATEMENTS);
 }
 
 /// Statements, in procedures.
@@ -114,7 +51,7 @@ const STATEMENTS: &str = "
 
 #[test]
 fn actions(rt: HostRuntime) {
-    hold(&rt, rt.alloc(), ACTIONS);
+    hold(&rt, rt.alloc(), Asked::Members, ACTIONS);
 }
 
 /// Actions, whose ports are those of the header. A `repeat` sees no pattern variable.

@@ -1,109 +1,13 @@
 //! Actors with what their imports lead to, or the rule of scope that one of their files breaks.
 
-use cal_ast::{Actor, Body, File, Function, Ident, Member, UnitFile, VarDecl};
-use cal_imports::{FileSet, Scope, resolve};
-use rvc_base::{Front, Memory};
-use scope_texts::{cut, file_of, printed};
+use scope_texts::{cut, scope_told};
 use std::alloc::Global;
 use std::process::Abort;
-
-/// The set of these files, if each is one. They stand with `\nfile ` between as `CLASS TEXT`, and are numbered from 1.
-fn set_of(a: Global, files: &str) -> Result<Option<FileSet>, Memory> {
-    let mut set = FileSet::new(a)?;
-    let mut number = 1;
-    for named in files.split("\nfile ") {
-        let (class, text) = cut(named, " ");
-        let Ok(file) = file_of(a, text.as_bytes()) else {
-            return Ok(None);
-        };
-        if !set.has(class) {
-            set.add(class, number, file)?;
-        }
-        number = if number < 9 { number + 1 } else { 9 };
-    }
-    Ok(Some(set))
-}
-
-/// What a file with this body prints as.
-fn body_printed(a: Global, body: Body) -> Result<String, Memory> {
-    let file = File {
-        package: None,
-        imports: Vec::new(a),
-        body,
-        at: 0,
-    };
-    Ok(printed(a, &file)?)
-}
-
-/// What a member prints as: what stands between `unit U : ` and ` end` in a unit that has it alone.
-fn member_printed(a: Global, member: Member) -> Result<String, Memory> {
-    let mut members = Vec::new(a);
-    members.push(member)?;
-    let name = Ident {
-        text: String::from_str(a, "U")?,
-        at: 0,
-    };
-    let unit = UnitFile {
-        name,
-        members,
-        at: 0,
-    };
-    let whole = body_printed(a, Body::Unit(unit))?;
-    let text = whole.as_str();
-    let text = text.strip_prefix("unit U : ").unwrap_or(text);
-    let text = text.strip_suffix(" end ").unwrap_or(text);
-    Ok(String::from_str(a, text.strip_suffix(" ;").unwrap_or(text))?)
-}
-
-/// Adds a declaration of another file to a text.
-fn show_outer(text: &mut String, name: &str, file: u32, printed: &str) -> Result<(), Memory> {
-    text.push_str("; ")?;
-    text.push_str(name)?;
-    text.push_str(" in ")?;
-    text.push((b'0' + (file % 10) as u8) as char)?;
-    text.push_str(": ")?;
-    text.push_str(printed)?;
-    Ok(())
-}
-
-/// A scope as text: the actor, then each variable and each function of other files.
-fn scope_shown(a: Global, scope: &Scope) -> Result<String, Memory> {
-    let whole = body_printed(a, Body::Actor(scope.actor.copy(a)?))?;
-    let mut text = String::from_str(a, whole.as_str().trim_end())?;
-    for v in &scope.vars {
-        let shown = member_printed(a, Member::Var(v.decl.copy(a)?))?;
-        show_outer(&mut text, v.name.as_str(), v.file, shown.as_str())?;
-    }
-    for f in &scope.funs {
-        let shown = member_printed(a, Member::Function(f.decl.copy(a)?))?;
-        show_outer(&mut text, f.name.as_str(), f.file, shown.as_str())?;
-    }
-    Ok(text)
-}
-
-/// The answer for files, of which the first is the one that is asked for.
-fn answer(a: Global, files: &str) -> Result<String, Memory> {
-    let Some(set) = set_of(a, files)? else {
-        return Ok(String::from_str(a, "no files")?);
-    };
-    let (class, _) = cut(files, " ");
-    if !set.has(class) {
-        return Ok(String::from_str(a, "no class")?);
-    }
-    match resolve(&set, class) {
-        Ok(scope) => scope_shown(a, &scope),
-        Err(Front::Refused(r)) => {
-            let (rule, file, at) = (r.rule, r.place.file, r.place.offset);
-            Ok(format!(in a; "{rule} in {file} at {at}")?)
-        }
-        Err(Front::Memory) => Ok(String::from_str(a, "Memory")?),
-    }
-}
 
 /// Stops unless the files of a row have their answer.
 fn hold_row(rt: &impl Abort, a: Global, row: &str, behind: &str) {
     let (want, files) = cut(row, "\nfile ");
-    let found = answer(a, files).expect(rt, "a text");
+    let found = scope_told(a, files).expect(rt, "a text");
     let whole = format!(in a; "{want}{behind}").expect(rt, "a text");
     let holds = found.as_str() == whole.as_str();
     assert!(rt; holds, "{want} is wanted, and {found} is given");
