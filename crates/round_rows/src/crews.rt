@@ -1,7 +1,6 @@
 //! Runs whose instances several workers share.
 
-use crate::networks::Net;
-use crate::runs::{Case, MUCH, Trace, Want, plain, run, run_past};
+use round_cases::{Case, MUCH, Net, Trace, Want, plain, run, run_past};
 use round_runner::RunEnd;
 use runner_rows::Ran;
 use rvc_base::{ActId, InstId, Memory, Trap};

@@ -1,7 +1,6 @@
 //! Runs in which a call fails.
 
-use crate::networks::Net;
-use crate::runs::{Case, Trace, Want, plain, run};
+use round_cases::{Case, Net, Trace, Want, plain, run};
 use round_runner::RunEnd;
 use rvc_base::Memory;
 use std::alloc::Global;

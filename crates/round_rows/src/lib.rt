@@ -2,7 +2,7 @@
 //! `network_runner`.
 //!
 //! Tests that stand beside a crate make it be proved twice, so those over the networks that `runner_rows` makes ready are
-//! all here.
+//! all here; how a case is run stands in `round_cases`.
 #![tactic(auto)]
 
 #[cfg(test)]
@@ -10,10 +10,6 @@ mod crews;
 #[cfg(test)]
 mod faults;
 #[cfg(test)]
-mod networks;
-#[cfg(test)]
 mod policies;
 #[cfg(test)]
 mod rows;
-#[cfg(test)]
-mod runs;

@@ -1,8 +1,7 @@
 //! What runs write, by each policy, and whom the gate sees.
 
-use crate::networks::Net;
 use crate::rows::BLOCK;
-use crate::runs::{Case, Rounds, Trace, Want, plain, run, run_past};
+use round_cases::{Case, Net, Rounds, Trace, Want, plain, run, run_past};
 use round_runner::RunEnd;
 use runner_rows::Ran;
 use rvc_base::Memory;

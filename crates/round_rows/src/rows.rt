@@ -1,7 +1,6 @@
 //! Runs with their traces, outputs and numbers.
 
-use crate::networks::Net;
-use crate::runs::{Case, MUCH, Trace, Want, plain, run};
+use round_cases::{Case, MUCH, Net, Trace, Want, plain, run};
 use round_runner::RunEnd;
 use runner_rows::Ran;
 use rvc_base::{ActId, InstId, LinkId, Memory, Trap};

@@ -7,8 +7,9 @@ use sample_actors::{Sample, lowered};
 use std::alloc::Global;
 use std::sync::Arc;
 
+/// A small network.
 #[derive(Clone, Copy)]
-pub(crate) enum Net {
+pub enum Net {
     /// One actor that adds one.
     Inc,
     /// The same behind a link of two tokens.

@@ -20,52 +20,60 @@ use std::thread::Threads;
 
 /// Which policy makes the rounds.
 #[derive(Clone, Copy)]
-pub(crate) enum Rounds {
+pub enum Rounds {
     All,
     Turn,
     Seed(u64),
 }
 
-/// A network and how it is run: its input, which pull and which put fails, counted from 1, how many bytes a call moves,
-/// its workers, its rounds, its budget, and whether its outputs have channels.
+/// A network and how it is run.
 #[derive(Clone, Copy)]
-pub(crate) struct Case<'a> {
-    pub(crate) net: Net,
-    pub(crate) input: &'a [u8],
-    pub(crate) pull: Option<u64>,
-    pub(crate) put: Option<u64>,
-    pub(crate) step: u32,
-    pub(crate) workers: u32,
-    pub(crate) rounds: Rounds,
-    pub(crate) burst: u32,
-    pub(crate) grow: u32,
-    pub(crate) budget: u64,
-    pub(crate) open: bool,
+pub struct Case<'a> {
+    pub net: Net,
+    /// The bytes of each input.
+    pub input: &'a [u8],
+    /// Which pull fails, counted from 1.
+    pub pull: Option<u64>,
+    /// Which put fails, counted from 1.
+    pub put: Option<u64>,
+    /// How many bytes a call moves at most.
+    pub step: u32,
+    pub workers: u32,
+    pub rounds: Rounds,
+    pub burst: u32,
+    /// Up to which capacity links may grow; 0 if they may not.
+    pub grow: u32,
+    pub budget: u64,
+    /// Whether its outputs have channels.
+    pub open: bool,
 }
 
 /// What a trace is to be: these bytes, bytes that have this FNV-1a number of 64 bits, or any.
 #[derive(Clone, Copy)]
-pub(crate) enum Trace<'a> {
+pub enum Trace<'a> {
     Is(&'a [u8]),
     Has(u64),
     Any,
 }
 
-/// What a run is to leave: its end, its trace, how many firings it makes, and what its two outputs get.
+/// What a run is to leave.
 #[derive(Clone, Copy)]
-pub(crate) struct Want<'a> {
-    pub(crate) end: RunEnd,
-    pub(crate) trace: Trace<'a>,
-    pub(crate) firings: Option<u64>,
-    pub(crate) out: &'a [u8],
-    pub(crate) second: &'a [u8],
+pub struct Want<'a> {
+    pub end: RunEnd,
+    pub trace: Trace<'a>,
+    /// How many firings it makes, if that is asked.
+    pub firings: Option<u64>,
+    /// The bytes of its first output.
+    pub out: &'a [u8],
+    /// The bytes of its second output.
+    pub second: &'a [u8],
 }
 
 /// The budget of a run that isn't to end by it.
-pub(crate) const MUCH: u64 = 1_000_000;
+pub const MUCH: u64 = 1_000_000;
 
 /// A run without faults, over calls that move as much as there is.
-pub(crate) fn plain(net: Net, input: &[u8]) -> Case<'_> {
+pub fn plain(net: Net, input: &[u8]) -> Case<'_> {
     Case {
         net,
         input,
@@ -242,9 +250,12 @@ fn run_ready<R: Threads + Sync, G: Gate>(
     run_open(rt, alloc, ready, case, want, &mut feeds, &mut drains, gate)
 }
 
-/// How a case ended, and whether it left what is wanted. `Memory` stands for a network that can't be run, too. `gate` is
-/// told when a worker starts.
-pub(crate) fn run_past<R: Threads + Sync, G: Gate>(
+/// How a case ended, and whether it left what is wanted. `gate` is told when a worker starts.
+///
+/// # Errors
+///
+/// `Memory` if memory runs out, the network can't be run, or the budget is above the greatest.
+pub fn run_past<R: Threads + Sync, G: Gate>(
     rt: &R,
     alloc: Global,
     case: Case<'_>,
@@ -258,8 +269,12 @@ pub(crate) fn run_past<R: Threads + Sync, G: Gate>(
     run_ready(rt, alloc, ready, case, want, gate)
 }
 
-/// The same with a gate that holds nobody.
-pub(crate) fn run<R: Threads + Sync>(
+/// How a case ended, and whether it left what is wanted, with a gate that holds nobody.
+///
+/// # Errors
+///
+/// Those of [`run_past`].
+pub fn run<R: Threads + Sync>(
     rt: &R,
     alloc: Global,
     case: Case<'_>,
