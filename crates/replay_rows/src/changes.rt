@@ -1,9 +1,9 @@
 //! Traces of which one line is left out, doubled or exchanged with the next one.
 
-use crate::networks::Net;
 use crate::replays::{Answer, Case, replay_case};
 use crate::rows::{COUNTDOWN, INC, RING, STALL, STALLS};
 use rvc_base::Memory;
+use small_networks::Net;
 use std::alloc::Global;
 use trace_replay::Why;
 use trace_text::Line;

@@ -14,9 +14,9 @@ pub use replaying::replay_network;
 #[cfg(test)]
 mod changes;
 #[cfg(test)]
-mod networks;
-#[cfg(test)]
 mod numbers;
+#[cfg(test)]
+mod paths;
 #[cfg(test)]
 mod replays;
 #[cfg(test)]

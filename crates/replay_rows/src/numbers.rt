@@ -1,9 +1,9 @@
 //! The numbers of runs that are replayed.
 
-use crate::networks::Net;
 use crate::replays::{Case, told};
 use crate::rows::{GROWS_TO_4, INC, RING};
 use net_model::Counts;
+use small_networks::Net;
 use std::alloc::Global;
 
 /// A network, its input, a trace, what arrived on each link, the bytes that were left at the end of its feed, and what was
@@ -14,7 +14,7 @@ const ROWS: &[Row] = &[
     (Net::Inc, &[0, 1, 255], INC, &[3, 0], &[0, 0], &[3]),
     // A byte at the end is no token; its end is read by the first delivery.
     (
-        Net::Wide,
+        Net::TwoBytes,
         &[7, 0, 8, 0, 9],
         "rvc-trace 1 1 2\ni 0 Inc Inc\nr\nf 0 0\nf 0 0\nr\nq\n",
         &[2, 0],
@@ -23,7 +23,7 @@ const ROWS: &[Row] = &[
     ),
     // What is pulled to judge the end hasn't arrived.
     (
-        Net::Wide,
+        Net::TwoBytes,
         &[7, 0, 8, 0, 9],
         "rvc-trace 1 1 2\ni 0 Inc Inc\nb\n",
         &[0, 0],

@@ -6,14 +6,14 @@ ghost use Rattle.network_runner.specs.Asking.{CanRun};
 ghost use Rattle.rvc_io.specs.MemFeeds.{inputs_of};
 ghost use Rattle.replay_rows.specs.Open.{AreOpenFor};
 
-use crate::networks::{Net, actors, names, wiring};
+use crate::paths::names;
 use crate::{replay_feeds, replay_network};
-use actor_cell::Cell;
 use net_model::Wiring;
 use round_runner::Plan;
-use runner_rows::{Ready, ready_cells};
+use runner_rows::Ready;
 use rvc_base::Memory;
 use rvc_io::MemFeeds;
+use small_networks::{Net, ready};
 use std::alloc::Global;
 use trace_replay::{ReplayFault, Replayed, Why};
 use trace_text::Line;
@@ -52,19 +52,8 @@ fn feeds(alloc: Global, wiring: &Wiring, case: Case<'_>) -> Result<MemFeeds, Mem
     }
 }
 
-/// The cells of a network, or `Memory` if it can't be run.
-fn cells(alloc: Global, net: Net, wiring: &Wiring, plan: Plan) -> Result<Vec<Cell>, Memory>
-    ensures { IfOk result (λ cells. CanRun (map seen cells.items) wiring.now plan) }
-{
-    let actors = actors(alloc, net)?;
-    match ready_cells(alloc, &actors, wiring, plan)? {
-        Some(cells) => Ok(cells),
-        None => Err(Memory),
-    }
-}
-
 /// The network of a case, or `Memory` if it can't be run.
-fn ready(alloc: Global, net: Net, grow: u32) -> Result<Ready, Memory>
+fn ready_for(alloc: Global, net: Net, grow: u32) -> Result<Ready, Memory>
     ensures { IfOk result (λ ready. CanRun (map seen ready.cells.items) ready.wiring ready.plan) }
 {
     let plan = Plan {
@@ -72,13 +61,7 @@ fn ready(alloc: Global, net: Net, grow: u32) -> Result<Ready, Memory>
         burst: 1,
         grow,
     };
-    let wiring = wiring(alloc, net)?;
-    let cells = cells(alloc, net, &wiring, plan)?;
-    Ok(Ready {
-        cells,
-        wiring,
-        plan,
-    })
+    ready(alloc, net, plan, true)
 }
 
 /// What a trace was replayed as.
@@ -107,7 +90,7 @@ fn replay_ready(alloc: Global, ready: Ready, case: Case<'_>) -> Result<Told, Mem
 
 /// What is told of the trace of a case.
 pub(crate) fn told(alloc: Global, case: Case<'_>) -> Result<Told, Memory> {
-    let ready = ready(alloc, case.net, case.grow)?;
+    let ready = ready_for(alloc, case.net, case.grow)?;
     replay_ready(alloc, ready, case)
 }
 

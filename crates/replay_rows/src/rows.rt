@@ -1,8 +1,8 @@
 //! Whole traces, each cause, and feeds that fail.
 
-use crate::networks::Net;
 use crate::replays::{Answer, Case, replay_case};
 use rvc_base::Trap;
+use small_networks::Net;
 use std::alloc::Global;
 use trace_replay::Why;
 use trace_text::Line;

@@ -1,10 +1,10 @@
 //! Runs whose instances several workers share.
 
-use round_cases::{Case, MUCH, Net, Trace, Want, plain, run, run_past};
 use round_runner::RunEnd;
 use runner_rows::Ran;
 use rvc_base::{ActId, InstId, Memory, Trap};
 use rvc_io::Gate;
+use small_networks::{Case, MUCH, Net, Trace, Want, plain, run, run_past};
 use std::alloc::Global;
 use std::sync::atomic::{AtomicU64, Ordering};
 use std::thread;

@@ -1,8 +1,8 @@
 //! Runs in which a call fails.
 
-use round_cases::{Case, Net, Trace, Want, plain, run};
 use round_runner::RunEnd;
 use rvc_base::Memory;
+use small_networks::{Case, Net, Trace, Want, plain, run};
 use std::alloc::Global;
 use std::thread::Threads;
 

@@ -2,7 +2,7 @@
 //! `network_runner`.
 //!
 //! Tests that stand beside a crate make it be proved twice, so those over the networks that `runner_rows` makes ready are
-//! all here; how a case is run stands in `round_cases`.
+//! all here; how a case is run stands in `small_networks`.
 #![tactic(auto)]
 
 #[cfg(test)]

@@ -1,11 +1,11 @@
 //! What runs write, by each policy, and whom the gate sees.
 
 use crate::rows::BLOCK;
-use round_cases::{Case, Net, Rounds, Trace, Want, plain, run, run_past};
 use round_runner::RunEnd;
 use runner_rows::Ran;
 use rvc_base::Memory;
 use rvc_io::Gate;
+use small_networks::{Case, Net, Rounds, Trace, Want, plain, run, run_past};
 use std::alloc::Global;
 use std::sync::atomic::{AtomicU64, Ordering};
 use std::thread::Threads;

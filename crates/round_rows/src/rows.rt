@@ -1,9 +1,9 @@
 //! Runs with their traces, outputs and numbers.
 
-use round_cases::{Case, MUCH, Net, Trace, Want, plain, run};
 use round_runner::RunEnd;
 use runner_rows::Ran;
 use rvc_base::{ActId, InstId, LinkId, Memory, Trap};
+use small_networks::{Case, MUCH, Net, Trace, Want, plain, run};
 use std::alloc::Global;
 use std::thread::Threads;
 

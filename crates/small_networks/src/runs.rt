@@ -7,12 +7,12 @@ ghost use Rattle.rvc_io.specs.MemDrains.{channels_of};
 ghost use Rattle.rvc_io.specs.MemFeeds.{inputs_of};
 ghost use Rattle.runner_rows.specs.Outside.{AreChannelsOpen, AreFeedsOpen};
 
-use crate::networks::{Net, actors, wiring};
-use actor_cell::Cell;
+use crate::networks::Net;
+use crate::ready::ready;
 use net_model::Wiring;
 use round_plan::{AllPolicy, SeedPolicy, TurnPolicy};
 use round_runner::{Plan, RunEnd};
-use runner_rows::{Ran, Ready, count_inputs, drains_of, feeds_of, ready_cells, run_network};
+use runner_rows::{Ran, Ready, count_inputs, drains_of, feeds_of, run_network};
 use rvc_base::{MAX_BUDGET, Memory};
 use rvc_io::{Gate, MemDrains, MemFeeds, OpenGate};
 use std::alloc::Global;
@@ -125,19 +125,8 @@ fn drains(alloc: Global, wiring: &Wiring, case: Case<'_>) -> Result<MemDrains, M
     }
 }
 
-/// The cells of a network, or `Memory` if it can't be run.
-fn cells(alloc: Global, net: Net, wiring: &Wiring, plan: Plan) -> Result<Vec<Cell>, Memory>
-    ensures { IfOk result (λ cells. CanRun (map seen cells.items) wiring.now plan) }
-{
-    let actors = actors(alloc, net)?;
-    match ready_cells(alloc, &actors, wiring, plan)? {
-        Some(cells) => Ok(cells),
-        None => Err(Memory),
-    }
-}
-
 /// The network of a case, or `Memory` if it can't be run.
-fn ready(alloc: Global, case: Case<'_>) -> Result<Ready, Memory>
+fn ready_for(alloc: Global, case: Case<'_>) -> Result<Ready, Memory>
     ensures { IfOk result (λ ready. CanRun (map seen ready.cells.items) ready.wiring ready.plan) }
 {
     let plan = Plan {
@@ -145,13 +134,7 @@ fn ready(alloc: Global, case: Case<'_>) -> Result<Ready, Memory>
         burst: case.burst,
         grow: case.grow,
     };
-    let wiring = wiring(alloc, case.net, case.open)?;
-    let cells = cells(alloc, case.net, &wiring, plan)?;
-    Ok(Ready {
-        cells,
-        wiring,
-        plan,
-    })
+    ready(alloc, case.net, plan, case.open)
 }
 
 fn run_by<R: Threads + Sync, G: Gate>(
@@ -265,7 +248,7 @@ pub fn run_past<R: Threads + Sync, G: Gate>(
     if case.budget > MAX_BUDGET {
         return Err(Memory);
     }
-    let ready = ready(alloc, case)?;
+    let ready = ready_for(alloc, case)?;
     run_ready(rt, alloc, ready, case, want, gate)
 }
 

@@ -8,20 +8,33 @@ use std::alloc::Global;
 use std::sync::Arc;
 
 /// A small network.
-#[derive(Clone, Copy)]
+#[derive(Clone, Copy, Debug, PartialEq, Eq)]
 pub enum Net {
     /// One actor that adds one.
     Inc,
     /// The same behind a link of two tokens.
     Narrow,
+    /// One actor that adds one, behind an input of two bytes a token.
+    TwoBytes,
     /// One actor that divides.
     Div,
+    /// One actor with a schedule and guards, which counts down from each token.
+    Countdown,
     /// One actor over tokens of 16 bits.
     Wide,
     /// Two actors that send each other a token.
     Ring,
     /// Two ways of different length meet, one of which holds one token.
     Pair,
+    /// The same, and an actor beside them that takes one token of the input, of which its link holds four.
+    Beside,
+    /// The same, but the link holds one.
+    Short,
+    /// Two ways as in `Pair`, and one that holds one token to an actor that takes one.
+    Behind,
+    /// Two ways as in `Pair`, and an actor beside them that takes two tokens of the input, of which its link holds two, and
+    /// divides the next two once two have come over another link.
+    Late,
     /// Runs of zeros, a zigzag, and tokens that are cut to what a byte can hold.
     Blocks,
     /// An input that feeds two actors, with an output each.
@@ -40,7 +53,9 @@ pub enum Net {
 
 const BYTE: Scalar = Scalar::Uint(8);
 
-const SHORT: Scalar = Scalar::Int(16);
+const INT16: Scalar = Scalar::Int(16);
+
+const UINT16: Scalar = Scalar::Uint(16);
 
 /// In place of an instance: the network.
 const NET: u32 = u32::MAX;
@@ -53,8 +68,8 @@ const ONE: &[Row] = &[((NET, 0), (0, 0), 512, BYTE), ((0, 0), (NET, 0), 512, BYT
 const NARROW: &[Row] = &[((NET, 0), (0, 0), 2, BYTE), ((0, 0), (NET, 0), 512, BYTE)];
 
 const WIDE: &[Row] = &[
-    ((NET, 0), (0, 0), 512, SHORT),
-    ((0, 0), (NET, 0), 512, SHORT),
+    ((NET, 0), (0, 0), 512, INT16),
+    ((0, 0), (NET, 0), 512, INT16),
 ];
 
 const RING: &[Row] = &[((1, 0), (0, 0), 512, BYTE), ((0, 0), (1, 0), 512, BYTE)];
@@ -67,10 +82,47 @@ const PAIR: &[Row] = &[
     ((2, 0), (NET, 0), 512, BYTE),
 ];
 
+const BESIDE: &[Row] = &[
+    ((NET, 0), (0, 0), 512, BYTE),
+    ((0, 0), (1, 0), 512, BYTE),
+    ((1, 0), (2, 0), 512, BYTE),
+    ((0, 0), (2, 1), 1, BYTE),
+    ((NET, 0), (3, 0), 4, BYTE),
+    ((2, 0), (NET, 0), 512, BYTE),
+];
+
+const SHORT: &[Row] = &[
+    ((NET, 0), (0, 0), 512, BYTE),
+    ((0, 0), (1, 0), 512, BYTE),
+    ((1, 0), (2, 0), 512, BYTE),
+    ((0, 0), (2, 1), 1, BYTE),
+    ((NET, 0), (3, 0), 1, BYTE),
+    ((2, 0), (NET, 0), 512, BYTE),
+];
+
+const BEHIND: &[Row] = &[
+    ((NET, 0), (0, 0), 512, BYTE),
+    ((0, 0), (1, 0), 512, BYTE),
+    ((1, 0), (2, 0), 512, BYTE),
+    ((0, 0), (2, 1), 1, BYTE),
+    ((0, 0), (3, 0), 1, BYTE),
+    ((2, 0), (NET, 0), 512, BYTE),
+];
+
+const LATE: &[Row] = &[
+    ((NET, 0), (0, 0), 512, BYTE),
+    ((0, 0), (1, 0), 512, BYTE),
+    ((1, 0), (2, 0), 512, BYTE),
+    ((0, 0), (2, 1), 1, BYTE),
+    ((NET, 0), (3, 0), 2, BYTE),
+    ((0, 0), (3, 1), 512, BYTE),
+    ((2, 0), (NET, 0), 512, BYTE),
+];
+
 const BLOCKS: &[Row] = &[
-    ((NET, 0), (0, 0), 512, SHORT),
-    ((0, 0), (1, 0), 512, SHORT),
-    ((1, 0), (2, 0), 512, SHORT),
+    ((NET, 0), (0, 0), 512, INT16),
+    ((0, 0), (1, 0), 512, INT16),
+    ((1, 0), (2, 0), 512, INT16),
     ((2, 0), (NET, 0), 512, BYTE),
 ];
 
@@ -94,11 +146,15 @@ const ITSELF: &[Row] = &[((0, 0), (0, 0), 512, BYTE)];
 
 fn rows(named: Net) -> &'static [Row] {
     match named {
-        Net::Inc | Net::Div => ONE,
+        Net::Inc | Net::TwoBytes | Net::Div | Net::Countdown => ONE,
         Net::Narrow => NARROW,
         Net::Wide => WIDE,
         Net::Ring => RING,
         Net::Pair => PAIR,
+        Net::Beside => BESIDE,
+        Net::Short => SHORT,
+        Net::Behind => BEHIND,
+        Net::Late => LATE,
         Net::Blocks => BLOCKS,
         Net::Fork | Net::LowTraps | Net::HighTraps | Net::BothTrap => FORK,
         Net::Five => FIVE,
@@ -109,11 +165,16 @@ fn rows(named: Net) -> &'static [Row] {
 
 fn names(named: Net) -> &'static [Sample] {
     match named {
-        Net::Inc | Net::Narrow => &[Sample::Inc],
+        Net::Inc | Net::Narrow | Net::TwoBytes => &[Sample::Inc],
         Net::Div => &[Sample::Div],
+        Net::Countdown => &[Sample::Countdown],
         Net::Wide => &[Sample::Wide],
         Net::Ring => &[Sample::Race, Sample::Race],
         Net::Pair => &[Sample::Copy, Sample::Sum, Sample::Join],
+        Net::Beside | Net::Short | Net::Behind => {
+            &[Sample::Copy, Sample::Sum, Sample::Join, Sample::Race]
+        }
+        Net::Late => &[Sample::Copy, Sample::Sum, Sample::Join, Sample::Late],
         Net::Blocks => &[Sample::Runs, Sample::Zigzag, Sample::Sat],
         Net::Fork => &[Sample::Inc, Sample::Copy],
         Net::Five => &[
@@ -189,8 +250,9 @@ fn shape(named: Net) -> (usize, usize, Scalar, Scalar) {
     match named {
         Net::Ring | Net::Itself | Net::Empty => (0, 0, BYTE, BYTE),
         Net::Fork | Net::LowTraps | Net::HighTraps | Net::BothTrap => (1, 2, BYTE, BYTE),
-        Net::Blocks => (1, 1, SHORT, BYTE),
-        Net::Wide => (1, 1, SHORT, SHORT),
+        Net::Blocks => (1, 1, INT16, BYTE),
+        Net::Wide => (1, 1, INT16, INT16),
+        Net::TwoBytes => (1, 1, UINT16, BYTE),
         _ => (1, 1, BYTE, BYTE),
     }
 }
