@@ -4,8 +4,11 @@ use crate::rows::hold;
 use network_answers::Told;
 
 #[test]
-fn levels(rt: HostRuntime) {
+fn networks_have_their_actors_and_links(rt: HostRuntime) {
     hold(&rt, rt.alloc(), Told::Whole, LEVELS);
+    hold(&rt, rt.alloc(), Told::Whole, CONNECTIONS);
+    hold(&rt, rt.alloc(), Told::Whole, VALUES);
+    hold(&rt, rt.alloc(), Told::Whole, EXPRESSIONS);
 }
 
 /// Networks in networks.
@@ -32,11 +35,6 @@ net Down <XDF name='Down'><Port kind='Input' name='In'><Type name='bool'/></Port
 net Sink <XDF name='Sink'><Port kind='Input' name='In'><Type name='bool'/></Port><Instance id='r'><Class name='End'/></Instance><Connection src='' src-port='In' dst='r' dst-port='In'><Attribute name='bufferSize'><Expr kind='Literal' literal-kind='Integer' value='5'/></Attribute></Connection></XDF>
 actor Begin  ; Out:bool
 actor End In:bool ;";
-
-#[test]
-fn connections(rt: HostRuntime) {
-    hold(&rt, rt.alloc(), Told::Whole, CONNECTIONS);
-}
 
 /// Links and their capacities.
 const CONNECTIONS: &str = "
@@ -71,11 +69,6 @@ actor A In:bool ; Out:bool
 = ; ; ; 
 net T <XDF name='T'/>";
 
-#[test]
-fn values(rt: HostRuntime) {
-    hold(&rt, rt.alloc(), Told::Whole, VALUES);
-}
-
 /// What networks and actors are given.
 const VALUES: &str = "
 # one network at two levels, and what it is given at each: names are those of the network that gives
@@ -98,11 +91,6 @@ net T <XDF name='T'><Decl kind='Param' name='p'><Type name='bool'/><Expr kind='L
 = m/a:A p=[ 1 255 ] ; ; ; 
 net T <XDF name='T'><Decl kind='Variable' name='l'><Type name='List'><Entry kind='Type' name='type'><Type name='int'/></Entry><Entry kind='Expr' name='size'><Expr kind='Literal' literal-kind='Integer' value='2'/></Entry></Type><Expr kind='List'><Expr kind='Literal' literal-kind='Integer' value='1'/><Expr kind='Literal' literal-kind='Integer' value='-1'/></Expr></Decl><Instance id='m'><Class name='M'/><Parameter name='p'><Expr kind='Var' name='l'/></Parameter></Instance></XDF>
 net M <XDF name='M'><Decl kind='Param' name='p'><Type name='List'><Entry kind='Type' name='type'><Type name='uint'><Entry kind='Expr' name='size'><Expr kind='Literal' literal-kind='Integer' value='8'/></Entry></Type></Entry><Entry kind='Expr' name='size'><Expr kind='Literal' literal-kind='Integer' value='2'/></Entry></Type></Decl><Instance id='a'><Class name='A'/><Parameter name='p'><Expr kind='Var' name='p'/></Parameter></Instance></XDF>";
-
-#[test]
-fn expressions(rt: HostRuntime) {
-    hold(&rt, rt.alloc(), Told::Whole, EXPRESSIONS);
-}
 
 /// Expressions of parameters and of types.
 const EXPRESSIONS: &str = "

@@ -5,8 +5,10 @@ use crate::rows::hold;
 use network_answers::Told;
 
 #[test]
-fn refused_names(rt: HostRuntime) {
+fn refused(rt: HostRuntime) {
     hold(&rt, rt.alloc(), Told::Whole, REFUSED_NAMES);
+    hold(&rt, rt.alloc(), Told::Whole, REFUSED_CONNECTIONS);
+    hold(&rt, rt.alloc(), Told::Whole, REFUSED_VALUES);
 }
 
 /// Names that are unknown, stand twice or lead in a circle.
@@ -31,11 +33,6 @@ net T <XDF version=\"1\" name=\"T\"><Port kind=\"Input\" name=\"In\"><Type name=
 # ..
 = S1 1 231
 net T <XDF version=\"1\" name=\"T\"><Port kind=\"Input\" name=\"In\"><Type name=\"uint\"><Entry kind=\"Expr\" name=\"size\"> <Expr kind=\"Literal\" literal-kind=\"Integer\" value=\"8\"/></Entry></Type></Port><Decl kind=\"Variable\" name=\"v\"><Type name=\"int\"/><Expr kind=\"Var\" name=\"nope\"/></Decl><Port kind=\"Output\" name=\"Out\"><Type name=\"uint\"><Entry kind=\"Expr\" name=\"size\"><Expr kind=\"Literal\" literal-kind=\"Integer\" value=\"8\"/></Entry>\t</Type></Port></XDF>";
-
-#[test]
-fn refused_connections(rt: HostRuntime) {
-    hold(&rt, rt.alloc(), Told::Whole, REFUSED_CONNECTIONS);
-}
 
 /// Connections that there can't be.
 const REFUSED_CONNECTIONS: &str = "
@@ -76,11 +73,6 @@ net T <XDF version=\"1\" name=\"T\"><Port kind=\"Input\" name=\"In\"><Type name=
 net T <XDF version=\"1\" name=\"T\"><Port kind=\"Input\" name=\"In\"><Type name=\"uint\"><Entry kind=\"Expr\" name=\"size\"><Expr kind=\"Literal\" literal-kind=\"Integer\" value=\"8\"/></Entry></Type></Port><Instance id=\"a\"><Class name=\"Copy\"/></Instance><Connection src=\"\" src-port=\"In\" dst=\"a\" dst-port=\"In\"><Attribute name=\"bufferSize\"><Expr kind=\"Literal\" literal-kind=\"Boolean\" value=\"true\"/></Attribute></Connection><Port kind=\"Output\" name=\"Out\"><Type name=\"uint\"><Entry kind=\"Expr\" name=\"size\"><Expr kind=\"Literal\" literal-kind=\"Integer\" value=\"8\"/>\n</Entry></Type></Port><!-- c --></XDF>
 actor Copy In:u8 ; Out:u8";
 
-#[test]
-fn refused_values(rt: HostRuntime) {
-    hold(&rt, rt.alloc(), Told::Whole, REFUSED_VALUES);
-}
-
 /// Types and values that there can't be.
 const REFUSED_VALUES: &str = "
 # ..
@@ -111,6 +103,7 @@ net T <XDF name=\"T\"><Port kind=\"Input\" name=\"In\">\n<Type name=\"uint\"> <E
 #[test]
 fn whole(rt: HostRuntime) {
     hold(&rt, rt.alloc(), Told::Outline, WHOLE);
+    hold(&rt, rt.alloc(), Told::Outline, WHOLE_IN_PACKAGES);
 }
 
 const WHOLE: &str = "
@@ -125,11 +118,6 @@ net dec.sub.B0 <XDF name=\"B0\"><Port kind=\"Input\" name=\"X2\"><Type name=\"ui
 actor dec.sub.x1 In:u8 ; q:u8
 actor B2 A:i16 B:i16 ; Out:i16
 actor B3 X:u8 ; size:i16";
-
-#[test]
-fn whole_in_packages(rt: HostRuntime) {
-    hold(&rt, rt.alloc(), Told::Outline, WHOLE_IN_PACKAGES);
-}
 
 const WHOLE_IN_PACKAGES: &str = "
 # ..

@@ -4,8 +4,10 @@ use crate::rows::hold;
 use network_answers::Told;
 
 #[test]
-fn texts(rt: HostRuntime) {
+fn files_and_parameters(rt: HostRuntime) {
     hold(&rt, rt.alloc(), Told::Whole, TEXTS);
+    hold(&rt, rt.alloc(), Told::Whole, PARAMETERS);
+    hold(&rt, rt.alloc(), Told::Whole, CIRCLES);
 }
 
 /// Texts that are no networks, or not those of their classes.
@@ -33,11 +35,6 @@ net T <XDF name='U'/>
 = S5 2 0
 net T <XDF name='T'><Instance id='m'><Class name='p.M'/></Instance></XDF>
 net p.M <XDF name='N'/>";
-
-#[test]
-fn parameters(rt: HostRuntime) {
-    hold(&rt, rt.alloc(), Told::Whole, PARAMETERS);
-}
 
 /// Parameters of networks: unknown, given twice, or missed.
 const PARAMETERS: &str = "
@@ -74,11 +71,6 @@ net N <XDF name='N'><Decl kind='Param' name='p'><Type name='int'/></Decl></XDF>
 = N2 0 0
 net T <XDF name='T'><Decl kind='Param' name='p'><Type name='int'/></Decl></XDF>";
 
-#[test]
-fn circles(rt: HostRuntime) {
-    hold(&rt, rt.alloc(), Told::Whole, CIRCLES);
-}
-
 /// Networks inside themselves.
 const CIRCLES: &str = "
 # ..
@@ -101,8 +93,13 @@ net A <XDF name='A'><Instance id='b'><Class name='B'/></Instance><Instance id='a
 net B <XDF name='B'><Instance id='x'><Class name='X'/></Instance></XDF>";
 
 #[test]
-fn writers(rt: HostRuntime) {
+fn connections(rt: HostRuntime) {
     hold(&rt, rt.alloc(), Told::Whole, WRITERS);
+    hold(&rt, rt.alloc(), Told::Whole, ENDS);
+    hold(&rt, rt.alloc(), Told::Whole, KINDS);
+    hold(&rt, rt.alloc(), Told::Whole, STRAIGHT);
+    hold(&rt, rt.alloc(), Told::Whole, TWICE);
+    hold(&rt, rt.alloc(), Told::Whole, SIZES);
 }
 
 /// Second writers.
@@ -125,11 +122,6 @@ actor A In:bool ; Out:bool
 net T <XDF name='T'><Port kind='Input' name='In'><Type name='bool'/></Port><Instance id='m'><Class name='M'/></Instance><Connection src='' src-port='In' dst='m' dst-port='In'/></XDF>
 net M <XDF name='M'><Port kind='Input' name='In'><Type name='bool'/></Port><Port kind='Output' name='Out'><Type name='bool'/></Port><Instance id='b'><Class name='A'/></Instance><Connection src='' src-port='In' dst='b' dst-port='In'/><Connection src='b' src-port='Out' dst='' dst-port='Out'/><Connection src='b' src-port='Out' dst='' dst-port='Out'/></XDF>
 actor A In:bool ; Out:bool";
-
-#[test]
-fn ends(rt: HostRuntime) {
-    hold(&rt, rt.alloc(), Told::Whole, ENDS);
-}
 
 /// Ends that there aren't.
 const ENDS: &str = "
@@ -189,11 +181,6 @@ net T <XDF name='T'><Port kind='Output' name='Out'><Type name='bool'/></Port><In
 net M <XDF name='M'><Port kind='Input' name='In'><Type name='bool'/></Port></XDF>
 actor A In:bool ; Out:bool";
 
-#[test]
-fn kinds(rt: HostRuntime) {
-    hold(&rt, rt.alloc(), Told::Whole, KINDS);
-}
-
 /// Truth values and numbers.
 const KINDS: &str = "
 # ..
@@ -220,11 +207,6 @@ net T <XDF name='T'><Port kind='Input' name='In'><Type name='int'/></Port><Insta
 net M <XDF name='M'><Port kind='Input' name='In'><Type name='int'/></Port><Instance id='a'><Class name='A'/></Instance><Connection src='' src-port='In' dst='a' dst-port='In'/></XDF>
 actor A In:bool ; Out:bool";
 
-#[test]
-fn straight(rt: HostRuntime) {
-    hold(&rt, rt.alloc(), Told::Whole, STRAIGHT);
-}
-
 /// Inputs passed straight to outputs.
 const STRAIGHT: &str = "
 # ..
@@ -234,11 +216,6 @@ net T <XDF name='T'><Port kind='Input' name='In'><Type name='bool'/></Port><Port
 = N7 2 126
 net T <XDF name='T'><Port kind='Input' name='In'><Type name='bool'/></Port><Port kind='Output' name='Out'><Type name='bool'/></Port><Instance id='m'><Class name='M'/></Instance><Connection src='' src-port='In' dst='m' dst-port='In'/><Connection src='m' src-port='Out' dst='' dst-port='Out'/></XDF>
 net M <XDF name='M'><Port kind='Input' name='In'><Type name='bool'/></Port><Port kind='Output' name='Out'><Type name='bool'/></Port><Connection src='' src-port='In' dst='' dst-port='Out'/></XDF>";
-
-#[test]
-fn twice(rt: HostRuntime) {
-    hold(&rt, rt.alloc(), Told::Whole, TWICE);
-}
 
 /// Names that stand twice.
 const TWICE: &str = "
@@ -264,11 +241,6 @@ net T <XDF name='T'><Instance id='x'><Class name='A'/></Instance><Instance id='y
 = N8 2 59
 net T <XDF name='T'><Instance id='m'><Class name='M'/></Instance></XDF>
 net M <XDF name='M'><Instance id='x'><Class name='A'/></Instance><Instance id='x'><Class name='A'/></Instance></XDF>";
-
-#[test]
-fn sizes(rt: HostRuntime) {
-    hold(&rt, rt.alloc(), Told::Whole, SIZES);
-}
 
 /// Sizes of connections.
 const SIZES: &str = "

@@ -4,8 +4,9 @@ use crate::rows::hold;
 use network_answers::Told;
 
 #[test]
-fn unknown(rt: HostRuntime) {
+fn values_that_do_not_fit(rt: HostRuntime) {
     hold(&rt, rt.alloc(), Told::Whole, UNKNOWN);
+    hold(&rt, rt.alloc(), Told::Whole, CONSTANTS);
 }
 
 /// Names that are unknown.
@@ -33,11 +34,6 @@ net M <XDF name='M'><Instance id='a'><Class name='A'/><Parameter name='k'><Expr 
 = S1 1 113
 net T <XDF name='T'><Instance id='m'><Class name='M'/></Instance><Instance id='a'><Class name='A'/><Parameter name='k'><Expr kind='Var' name='n'/></Parameter></Instance></XDF>
 net M <XDF name='M'><Decl kind='Variable' name='n'><Type name='int'/><Expr kind='Literal' literal-kind='Integer' value='1'/></Decl></XDF>";
-
-#[test]
-fn constants(rt: HostRuntime) {
-    hold(&rt, rt.alloc(), Told::Whole, CONSTANTS);
-}
 
 /// Kinds, types and values.
 const CONSTANTS: &str = "

@@ -252,8 +252,10 @@ fn hold(rt: &impl Abort, alloc: Global, rows: &[Row]) {
 }
 
 #[test]
-fn links(rt: HostRuntime) {
+fn networks(rt: HostRuntime) {
     hold(&rt, rt.alloc(), LINKS);
+    hold(&rt, rt.alloc(), REFUSALS);
+    hold(&rt, rt.alloc(), NOT_WHOLE);
 }
 
 const COPY: &str = "In:u8:1 ; Out:u8:1";
@@ -314,11 +316,6 @@ const LINKS: &[Row] = &[
     // no instance
     (&["In:u8 ; Out:u8 ; ;"], &[], ""),
 ];
-
-#[test]
-fn refusals(rt: HostRuntime) {
-    hold(&rt, rt.alloc(), REFUSALS);
-}
 
 const REFUSALS: &[Row] = &[
     (&["In:u8 ; Out:u8 ; a=l0 ; In>Out"], &[COPY], "N7 1 10"),
@@ -429,11 +426,6 @@ const LIMITS: &[(u32, u32, &str, &str)] = &[
     (4, 1_048_576, "", "16 links"),
     (5, 1_048_576, "", "Z9 1 0"),
 ];
-
-#[test]
-fn trees_that_are_not_whole(rt: HostRuntime) {
-    hold(&rt, rt.alloc(), NOT_WHOLE);
-}
 
 const NOT_WHOLE: &[Row] = &[
     // one actor or one network in two places, and one in none

@@ -5,9 +5,9 @@
 #![tactic(auto)]
 
 mod networks;
-mod ready;
+mod readiness;
 mod runs;
 
 pub use networks::Net;
-pub use ready::ready;
+pub use readiness::ready;
 pub use runs::{Case, MUCH, Rounds, Trace, Want, plain, run, run_past};

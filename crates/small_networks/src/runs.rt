@@ -8,7 +8,7 @@ ghost use Rattle.rvc_io.specs.MemFeeds.{inputs_of};
 ghost use Rattle.runner_rows.specs.Outside.{AreChannelsOpen, AreFeedsOpen};
 
 use crate::networks::Net;
-use crate::ready::ready;
+use crate::readiness::ready;
 use net_model::Wiring;
 use round_plan::{AllPolicy, SeedPolicy, TurnPolicy};
 use round_runner::{Plan, RunEnd};

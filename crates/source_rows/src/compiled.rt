@@ -3,8 +3,6 @@
 use crate::sources::hold;
 use built_actors::code_of;
 use cell_texts::fire_twice;
-use rvc_base::Memory;
-use std::test::Fail;
 
 const ACTIONS: &str = "
 # The initialize action comes first.
@@ -193,21 +191,15 @@ fn turns_run_out(rt: HostRuntime) {
 }
 
 #[test]
-fn queues_go_round(rt: HostRuntime) -> Result<(), Fail> {
+fn queues_go_round(rt: HostRuntime) {
     let source =
         "actor Rep() uint(size=8) In ==> uint(size=8) Out : action In:[a, b] repeat 2 ==> Out:[b, a] repeat 2 end end";
-    let Some(code) = code_of(rt.alloc(), source)? else {
-        return Err(Fail::from(Memory));
-    };
-    let Some((first, second)) = fire_twice(rt.alloc(), code, "1 2 3 4 5", "6 7 8")? else {
-        return Err(Fail::from(Memory));
-    };
-    assert!(rt;
-        first.as_str() == "fires 0, sends 2 1 4 3, goes on, 1 left"
-            && second.as_str() == "fires 0, sends 6 5 8 7, goes on, 0 left",
-        "{first}, {second}"
-    );
-    Ok(())
+    let code = code_of(rt.alloc(), source).expect(&rt, "memory");
+    let code = code.expect(&rt, "an actor");
+    let fired = fire_twice(rt.alloc(), code, "1 2 3 4 5", "6 7 8").expect(&rt, "memory");
+    let (first, second) = fired.expect(&rt, "two firings");
+    assert_eq!(rt; first.as_str(), "fires 0, sends 2 1 4 3, goes on, 1 left");
+    assert_eq!(rt; second.as_str(), "fires 0, sends 6 5 8 7, goes on, 0 left");
 }
 
 const STORES: &str = "

@@ -8,15 +8,15 @@
 //! texts and expressions alone.
 #![tactic(auto)]
 
-mod action_text;
+mod actions;
 mod canonical;
 mod constants;
-mod expr_text;
-mod file_text;
+mod expressions;
+mod files;
 mod framed;
-mod member_text;
+mod members;
 mod reading;
-mod stmt_text;
+mod statements;
 mod whole;
 mod writer;
 
