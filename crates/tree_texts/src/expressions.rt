@@ -53,9 +53,20 @@ fn show_form(form: &ExprForm, out: &mut Writer) {
             show_gens(gens, out);
             out.put(")");
         }
-        ExprForm::Index { base, place } => show_two("index", base, place, out),
+        ExprForm::Index { base, place } => {
+            out.put("(index");
+            show_behind(base, out);
+            show_behind(place, out);
+            out.put(")");
+        }
         ExprForm::Prefix { op, of } => show_one(prefix(*op), of, out),
-        ExprForm::Binary { op, left, right } => show_two(binary(*op), left, right, out),
+        ExprForm::Binary { op, left, right } => {
+            out.put("(");
+            out.put(binary(*op));
+            show_behind(left, out);
+            show_behind(right, out);
+            out.put(")");
+        }
     }
 }
 
@@ -64,15 +75,6 @@ fn show_one(head: &str, part: &Expr, out: &mut Writer) {
     out.put("(");
     out.put(head);
     show_behind(part, out);
-    out.put(")");
-}
-
-#[cycle(show_expr)]
-fn show_two(head: &str, left: &Expr, right: &Expr, out: &mut Writer) {
-    out.put("(");
-    out.put(head);
-    show_behind(left, out);
-    show_behind(right, out);
     out.put(")");
 }
 

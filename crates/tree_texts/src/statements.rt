@@ -94,11 +94,19 @@ fn show_each(args: &[Expr], out: &mut Writer) {
 #[cycle(show_stmt)]
 fn show_stmts(stmts: &[Stmt], out: &mut Writer) {
     out.put(" [");
-    let mut gap = "";
-    for stmt in stmts {
-        out.put(gap);
-        show_stmt(stmt, out);
-        gap = " ";
-    }
+    show_between(stmts, out);
     out.put("]");
+}
+
+/// Statements with a blank between each two.
+#[cycle(show_stmt)]
+fn show_between(stmts: &[Stmt], out: &mut Writer) {
+    let Some((first, others)) = stmts.split_first() else {
+        return;
+    };
+    show_stmt(first, out);
+    for stmt in others {
+        out.put(" ");
+        show_stmt(stmt, out);
+    }
 }
