@@ -2,10 +2,6 @@
 -- Trusted: part of what a promise means.
 use Rattle.rvc_base.specs.declared.refusal.Rule.{Rule}
 
--- Y1: a form isn't built yet. Place: its first token. Nothing is refused so: each form is built.
-abbrev pub not_built : Rule
-not_built = record { 0 = 1 }
-
 -- L1: a byte stands outside the alphabet, or a `!` without `=` at once behind it. Place: that byte.
 abbrev pub foreign_byte : Rule
 foreign_byte = record { 0 = 101 }
@@ -170,6 +166,10 @@ name_too_long = record { 0 = 611 }
 abbrev pub grown_too_much : Rule
 grown_too_much = record { 0 = 612 }
 
+-- Z13: one period of a network of static actors has more than 16,777,216 firings. Place: the words.
+abbrev pub period_too_long : Rule
+period_too_long = record { 0 = 613 }
+
 -- F1: the text isn't of the closed grammar of networks. Place: the first byte that can't follow, or the end.
 abbrev pub spells_no_network : Rule
 spells_no_network = record { 0 = 701 }
@@ -225,6 +225,14 @@ network_name_twice = record { 0 = 808 }
 -- N9: a `bufferSize` isn't a number from 1 to 1,048,576. Place: its `Attribute`.
 abbrev pub wrong_buffer_size : Rule
 wrong_buffer_size = record { 0 = 809 }
+
+-- N10: a network declares a parameter behind a variable, which its text can't say. Place: the parameter.
+abbrev pub parameter_behind_variable : Rule
+parameter_behind_variable = record { 0 = 810 }
+
+-- N11: the file that an edit names isn't found. Place: the edit's number among the words of edits.
+abbrev pub edit_file_missing : Rule
+edit_file_missing = record { 0 = 811 }
 
 -- P1: a port word names no port that the command opens. Place: its number among the port words.
 abbrev pub unknown_port : Rule

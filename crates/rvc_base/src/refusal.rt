@@ -8,7 +8,7 @@ use thiserror::Error;
 
 /// The number of a rule: its group's hundred plus its own number.
 ///
-/// It prints as the letter of its group and its own number, as `Y1` or `Z11`. Each rule has its name as a
+/// It prints as the letter of its group and its own number, as `L1` or `Z11`. Each rule has its name as a
 /// constant of this type.
 #[derive(Clone, Copy, Debug, PartialEq, Eq)]
 pub struct Rule(pub u16);
@@ -47,7 +47,6 @@ fn group_letter(rule: u16) -> &'static str
     ensures { result.now ≡ letter_of_group (rule / 100) }
 {
     match rule / 100 {
-        0 => "Y",
         1 => "L",
         2 => "G",
         3 => "S",

@@ -3,10 +3,6 @@
 use crate::refusal::Rule;
 
 impl Rule {
-    /// Y1: a form isn't built yet.
-    ///
-    /// Place: its first token. Nothing is refused so: each form is built.
-    pub const NOT_BUILT: Rule = Rule(1);
     /// L1: a byte stands outside the alphabet, or a `!` without `=` at once behind it.
     ///
     /// Place: that byte.
@@ -171,6 +167,10 @@ impl Rule {
     ///
     /// Place: the words.
     pub const GROWN_TOO_MUCH: Rule = Rule(612);
+    /// Z13: one period of a network of static actors has more than 16,777,216 firings.
+    ///
+    /// Place: the words.
+    pub const PERIOD_TOO_LONG: Rule = Rule(613);
     /// F1: the text isn't of the closed grammar of networks.
     ///
     /// Place: the first byte that can't follow, or the end.
@@ -227,6 +227,14 @@ impl Rule {
     ///
     /// Place: its `Attribute`.
     pub const WRONG_BUFFER_SIZE: Rule = Rule(809);
+    /// N10: a network declares a parameter behind a variable, which its text can't say.
+    ///
+    /// Place: the parameter.
+    pub const PARAMETER_BEHIND_VARIABLE: Rule = Rule(810);
+    /// N11: the file that an edit names isn't found.
+    ///
+    /// Place: the edit's number among the words of edits.
+    pub const EDIT_FILE_MISSING: Rule = Rule(811);
     /// P1: a port word names no port that the command opens.
     ///
     /// Place: its number among the port words.
