@@ -1,5 +1,5 @@
 #!/usr/bin/env python3
-"""Prints what the tables of crates/round_rows/src ask for. Of policies.rt: of a network of three actors in a row (runs of
+"""Prints what the tables of crates/test_rounds/src ask for. Of policies.rt: of a network of three actors in a row (runs of
 zeros, a zigzag, numbers cut to a byte), by policy and burst, how many rounds its run takes and the FNV-1a number of 64
 bits of its trace. Of crews.rt: the same of five actors in a row that add one, by burst and budget, with how many firings
 are made and what goes out, and in how many rounds as many workers start as are asked for, and one. It follows the rules of

@@ -10,7 +10,7 @@ echo "lowering the actors, which takes some minutes" >&2
 bash "$top/bench/lowering/lowered.sh" "$top" "$work" "$here/actors" Inc.cal AddNet.xdf FlipNet.xdf dec/Rld.cal dec/Zigzag.cal \
     Wheel.cal >"$work/lowered.txt"
 
-make_driver firing_bench rvc_base code_ir schedule_fsm priority_order lowered_actor net_model kept_facts actor_cell
+make_driver firing_bench rvc_base code_ir schedule_fsm priority_order lowered_actor net_model lower_scratch actor_cell
 {
     printf '//! The code and the tables of actors.\n\nuse code_ir::Instr;\nuse rvc_base::{Num, Scalar};\n\n'
     awk -v apart=1 -f "$top/bench/lowering/tables.awk" "$work/lowered.txt"

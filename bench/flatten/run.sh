@@ -6,7 +6,7 @@ set -eu
 . "$(dirname -- "${BASH_SOURCE[0]}")/../common.sh"
 rounds=${1:-5}
 
-make_driver flatten_bench rvc_base net_set fnl_read fnl_tree fnl_walk fnl_flatten flatten_rows
+make_driver flatten_bench rvc_base fnl_bind fnl_read fnl_tree fnl_walk fnl_flatten test_fnl_flatten
 echo "building, which takes up to half an hour if nothing was proved before" >&2
 build_driver flatten_bench
 

@@ -8,7 +8,7 @@ set -eu
 rounds=${1:-5}
 
 make_driver rounds_bench rvc_base rvc_io code_ir schedule_fsm priority_order lowered_actor net_model round_plan \
-    round_runner actor_cell runner_rows
+    round_runner actor_cell kit_runs
 echo "building, which takes up to half an hour if nothing was proved before" >&2
 build_driver rounds_bench
 

@@ -9,10 +9,10 @@ use Rattle.cal_model.specs.Rates.{need, taken_on}
 use Rattle.cal_model.specs.Sound.{IsAction, IsSound, max_rate}
 use Rattle.cal_model.specs.View.{action_view, actor_of}
 use Rattle.cal_model.proofs.KeptByFirings.{action-at}
-use Rattle.expr_lower.specs.declared.draft.Draft.{Draft}
-use Rattle.expr_lower.specs.Callees.{Function}
-use Rattle.expr_lower.specs.Lowered.{Adds}
-use Rattle.expr_lower.specs.Names.{Name}
+use Rattle.lower_base.specs.declared.draft.Draft.{Draft}
+use Rattle.lower_base.specs.Callees.{Function}
+use Rattle.lower_base.specs.Lowered.{Adds}
+use Rattle.lower_base.specs.Names.{Name}
 use Rattle.action_lower.specs.GuardWords.{AddsGuards, left_out_action, left_out_guards}
 use Rattle.action_lower.specs.Guarding.{AreGuards}
 use Rattle.action_lower.specs.Seats.{seen_seats}

@@ -11,28 +11,28 @@ use Rattle.cal_model.specs.Value.{Shape, Single, IsType, scalars_of_type}
 use Rattle.cal_model.specs.View.{local_view}
 use Rattle.code_ir.specs.declared.instr.Instr.{Instr}
 use Rattle.code_ir.specs.declared.instr.Instr.TheVariants as op
-use Rattle.expr_lower.specs.declared.draft.Draft.{Draft}
-use Rattle.expr_lower.specs.declared.fault.LowerFault.{LowerFault}
-use Rattle.expr_lower.specs.declared.fault.LowerFault.TheVariants.{Memory, NotLowered, TooLong, TooManyCells}
-use Rattle.expr_lower.specs.Callees.{Function}
-use Rattle.expr_lower.specs.Growing.{IsFault, left_out_in, ◌or_else◌}
-use Rattle.expr_lower.specs.Held.{AreBelow, SeatIsBelow}
-use Rattle.expr_lower.specs.Lowered.{Adds, IsPut}
-use Rattle.expr_lower.specs.Names.{Name, local, named}
-use Rattle.expr_lower.specs.Routining.{LocalsSized}
-use Rattle.expr_lower.proofs.Erased.{erase, out_erased}
-use Rattle.expr_lower.proofs.Keeping.{below_more}
-use Rattle.stmt_lower.specs.Bodies.{IsExecutedCalling}
-use Rattle.stmt_lower.specs.Changing.{AreTyped}
-use Rattle.stmt_lower.specs.Procedures.{Routines}
-use Rattle.stmt_lower.specs.StmtGrowing.{left_out_all}
-use Rattle.stmt_lower.specs.StmtWords.{body_of}
-use Rattle.stmt_lower.proofs.ErasedStmts.{all_erased}
-use Rattle.list_lower.proofs.Erased.{fills_erased}
-use Rattle.stmt_lower.specs.ListStarting.{local_of}
-use Rattle.stmt_lower.proofs.Executed.{grows_start}
-use Rattle.stmt_lower.proofs.ListStarting.{grows_list_start}
-use Rattle.stmt_lower.proofs.Scoping.{choose_name}
+use Rattle.lower_base.specs.declared.draft.Draft.{Draft}
+use Rattle.lower_base.specs.declared.fault.LowerFault.{LowerFault}
+use Rattle.lower_base.specs.declared.fault.LowerFault.TheVariants.{Memory, NotLowered, TooLong, TooManyCells}
+use Rattle.lower_base.specs.Callees.{Function}
+use Rattle.lower_base.specs.Growing.{IsFault, left_out_in, ◌or_else◌}
+use Rattle.lower_base.specs.Held.{AreBelow, SeatIsBelow}
+use Rattle.lower_base.specs.Lowered.{Adds, IsPut}
+use Rattle.lower_base.specs.Names.{Name, local, named}
+use Rattle.lower_base.specs.Routining.{LocalsSized}
+use Rattle.lower_base.proofs.Erased.{erase, out_erased}
+use Rattle.lower_base.proofs.Keeping.{below_more}
+use Rattle.lower_stmt.specs.Bodies.{IsExecutedCalling}
+use Rattle.lower_stmt.specs.Changing.{AreTyped}
+use Rattle.lower_stmt.specs.Procedures.{Routines}
+use Rattle.lower_stmt.specs.StmtGrowing.{left_out_all}
+use Rattle.lower_stmt.specs.StmtWords.{body_of}
+use Rattle.lower_stmt.proofs.ErasedStmts.{all_erased}
+use Rattle.expr_lower.proofs.Erased.{fills_erased}
+use Rattle.lower_stmt.specs.ListStarting.{local_of}
+use Rattle.lower_stmt.proofs.Executed.{grows_start}
+use Rattle.lower_stmt.proofs.ListStarting.{grows_list_start}
+use Rattle.lower_stmt.proofs.Scoping.{choose_name}
 use Rattle.action_lower.specs.FiringCode.{IsFiringCode}
 use Rattle.action_lower.specs.FiringWords.{IsBehindCode, behind_locals, left_out_behind, left_out_firing}
 use Rattle.action_lower.specs.LocalCode.{AreStarted, left_out_locals, list_more, none_started, start_more}

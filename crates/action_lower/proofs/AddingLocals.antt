@@ -3,15 +3,15 @@ use Rattle.std.proofs.Common.{◌≡◌, ℕ, ◌+◌, List, [], ◌∷◌, ◌+
 use Rattle.cal_model.specs.Actor.{Local}
 use Rattle.cal_model.specs.Value.{Shape}
 use Rattle.code_ir.specs.declared.instr.Instr.{Instr}
-use Rattle.expr_lower.specs.declared.draft.Draft.{Draft}
-use Rattle.expr_lower.specs.Callees.{Function}
-use Rattle.expr_lower.specs.Growing.{◌or_else◌}
-use Rattle.expr_lower.specs.Lowered.{Adds}
-use Rattle.expr_lower.specs.Names.{Name}
-use Rattle.expr_lower.proofs.Adding.{then_adds}
-use Rattle.expr_lower.proofs.Erased.{both_same, erase}
-use Rattle.stmt_lower.specs.ListStarting.{StartsLocal, left_out_local, local_of, starts_list, starts_one}
-use Rattle.stmt_lower.proofs.StartingLists.{local_erased}
+use Rattle.lower_base.specs.declared.draft.Draft.{Draft}
+use Rattle.lower_base.specs.Callees.{Function}
+use Rattle.lower_base.specs.Growing.{◌or_else◌}
+use Rattle.lower_base.specs.Lowered.{Adds}
+use Rattle.lower_base.specs.Names.{Name}
+use Rattle.lower_base.proofs.Adding.{then_adds}
+use Rattle.lower_base.proofs.Erased.{both_same, erase}
+use Rattle.lower_stmt.specs.ListStarting.{StartsLocal, left_out_local, local_of, starts_list, starts_one}
+use Rattle.lower_stmt.proofs.StartingLists.{local_erased}
 use Rattle.action_lower.specs.LocalCode.{AreStarted, left_out_locals, list_more, none_started, start_more}
 
 pub none_adds : (fs : List Function) (names : List Name) (old : Draft) → Adds (AreStarted fs names [] names) old old

@@ -8,17 +8,17 @@ use Rattle.cal_model.specs.Sound.{AreStatements, known_local, with_locals}
 use Rattle.cal_model.specs.Value.{Shape, Single, scalars_of_type}
 use Rattle.code_ir.specs.declared.instr.Instr.{Instr}
 use Rattle.code_ir.specs.declared.instr.Instr.TheVariants as op
-use Rattle.expr_lower.specs.Allowing.{Allowed, Allows, AreAllowed, MayWrite}
-use Rattle.expr_lower.specs.Names.{Name}
-use Rattle.expr_lower.specs.Parted.{number_of}
-use Rattle.expr_lower.proofs.AllowedCode.{allowed_then, allows_local, allows_more, code_allowed, own_all, own_one, start_allowed}
-use Rattle.expr_lower.proofs.Coded.{grows}
-use Rattle.list_lower.proofs.AllowedFills.{fill_allowed, fills_allowed, list_start_allowed}
-use Rattle.stmt_lower.specs.AllowingRuns.{AllowsRuns, ChangesAreWritten}
-use Rattle.stmt_lower.specs.Procedures.{Routines}
-use Rattle.stmt_lower.proofs.AllowedStmts.{changes_more, runs_local, runs_more}
-use Rattle.stmt_lower.proofs.Executed.{grows_start}
-use Rattle.stmt_lower.proofs.ListStarting.{grows_list_start}
+use Rattle.lower_base.specs.Allowing.{Allowed, Allows, AreAllowed, MayWrite}
+use Rattle.lower_base.specs.Names.{Name}
+use Rattle.lower_base.specs.Parted.{number_of}
+use Rattle.lower_base.proofs.AllowedCode.{allowed_then, allows_local, allows_more, code_allowed, own_all, own_one, start_allowed}
+use Rattle.lower_base.proofs.Coded.{grows}
+use Rattle.expr_lower.proofs.AllowedFills.{fill_allowed, fills_allowed, list_start_allowed}
+use Rattle.lower_stmt.specs.AllowingRuns.{AllowsRuns, ChangesAreWritten}
+use Rattle.lower_stmt.specs.Procedures.{Routines}
+use Rattle.lower_stmt.proofs.AllowedStmts.{changes_more, runs_local, runs_more}
+use Rattle.lower_stmt.proofs.Executed.{grows_start}
+use Rattle.lower_stmt.proofs.ListStarting.{grows_list_start}
 use Rattle.action_lower.specs.FiringCode.{IsFiringCode}
 use Rattle.action_lower.specs.LocalCode.{AreStarted, list_more, none_started, start_more}
 use Rattle.action_lower.specs.Sending.{AreOutputs, AreStored, IsRepeated, IsSentList, in_turns, item_stores, items_of_any, list_output_more, no_output, no_value, one_list, output_more, turn_stores, value_more}

@@ -9,9 +9,9 @@ use Rattle.cal_model.specs.Rates.{parts_times, taken_on}
 use Rattle.cal_model.specs.Selection.{kind_of_port}
 use Rattle.cal_model.specs.Sound.{AreDistinct, Each, kind_of_tokens, known_of, names_of, with_pattern, with_patterns}
 use Rattle.cal_model.specs.Value.{Kind, scalars_of_type}
-use Rattle.expr_lower.specs.Allowing.{Allowed, AreRead, MayRead, MayWrite, SeatIsRead}
-use Rattle.expr_lower.specs.Names.{Name, named}
-use Rattle.stmt_lower.specs.AllowingRuns.{ChangesAreWritten, SeatIsWritten}
+use Rattle.lower_base.specs.Allowing.{Allowed, AreRead, MayRead, MayWrite, SeatIsRead}
+use Rattle.lower_base.specs.Names.{Name, named}
+use Rattle.lower_stmt.specs.AllowingRuns.{ChangesAreWritten, SeatIsWritten}
 use Rattle.action_lower.specs.Seats.{pattern_seat, pattern_seats, pattern_seats_from, pattern_shape, seen_seats, var_seat, var_seats}
 use Rattle.action_lower.proofs.PatternRates.{TakesItsOwn, take-their-own}
 

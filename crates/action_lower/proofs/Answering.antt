@@ -22,16 +22,16 @@ use Rattle.code_ir.specs.Code.{Code}
 use Rattle.code_ir.specs.Effect.{zeroed}
 use Rattle.code_ir.specs.Running.{Ends, Over, step, stop}
 use Rattle.code_ir.proofs.Ends.{one-end}
-use Rattle.expr_lower.specs.declared.draft.Draft.{Draft}
-use Rattle.expr_lower.specs.Following.{CutsOff, Follows, MayUse, Pushes}
-use Rattle.expr_lower.specs.Callees.{Function}
-use Rattle.expr_lower.specs.Calling.{IsLoweredWith, Prepared}
-use Rattle.expr_lower.specs.Held.{Keeps}
-use Rattle.expr_lower.specs.Lowered.{Adds}
-use Rattle.expr_lower.specs.Names.{Name}
-use Rattle.expr_lower.specs.Placed.{StandsAt, World, state}
-use Rattle.expr_lower.proofs.Effects.{same_number, true_again}
-use Rattle.expr_lower.proofs.Runs.{ends_join, obeys, stands_left, stands_right}
+use Rattle.lower_base.specs.declared.draft.Draft.{Draft}
+use Rattle.lower_base.specs.Following.{CutsOff, Follows, MayUse, Pushes}
+use Rattle.lower_base.specs.Callees.{Function}
+use Rattle.lower_base.specs.Calling.{IsLoweredWith, Prepared}
+use Rattle.lower_base.specs.Held.{Keeps}
+use Rattle.lower_base.specs.Lowered.{Adds}
+use Rattle.lower_base.specs.Names.{Name}
+use Rattle.lower_base.specs.Placed.{StandsAt, World, state}
+use Rattle.lower_base.proofs.Effects.{same_number, true_again}
+use Rattle.lower_base.proofs.Runs.{ends_join, obeys, stands_left, stands_right}
 use Rattle.action_lower.specs.FiringCode.{globals_of, round}
 use Rattle.action_lower.specs.GuardWords.{ClearsBehind}
 use Rattle.action_lower.specs.Guarding.{AnswerAs, AnswersAs, AreGuards, AreGuardsOf, HasFunctionsOf, IsGuardOf, IsHead, clearing, guard_more, no_guard, no_head}

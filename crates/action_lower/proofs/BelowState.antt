@@ -7,8 +7,8 @@ use Rattle.cal_model.specs.Actor.{Action, Actor, Held, Pattern, Port}
 use Rattle.cal_model.specs.Selection.{kind_of_port}
 use Rattle.cal_model.specs.Sound.{scalars_of_vars}
 use Rattle.cal_model.specs.Value.{scalars_of_type}
-use Rattle.expr_lower.specs.Held.{AreBelow, SeatIsBelow}
-use Rattle.expr_lower.specs.Names.{Name, named}
+use Rattle.lower_base.specs.Held.{AreBelow, SeatIsBelow}
+use Rattle.lower_base.specs.Names.{Name, named}
 use Rattle.action_lower.specs.Seats.{pattern_seats, pattern_seats_from, seen_seats, state_cells, var_seats}
 
 module _ (n : ℕ) where

@@ -9,13 +9,13 @@ use Rattle.cal_model.specs.Rates.{give, given_on}
 use Rattle.cal_model.specs.Sound.{Each, IsAction, IsSound, max_rate, names_of, with_locals, with_patterns}
 use Rattle.cal_model.specs.View.{action_view, actor_of}
 use Rattle.cal_model.proofs.ActorStates.{first-sized}
-use Rattle.expr_lower.specs.declared.draft.Draft.{Draft}
-use Rattle.expr_lower.specs.Lowered.{Adds}
-use Rattle.expr_lower.specs.Names.{Name}
-use Rattle.expr_lower.specs.Routining.{LocalsSized}
-use Rattle.stmt_lower.specs.Changing.{AreTyped}
-use Rattle.stmt_lower.specs.Procedures.{Routines}
-use Rattle.stmt_lower.proofs.Scoping.{laid_typed}
+use Rattle.lower_base.specs.declared.draft.Draft.{Draft}
+use Rattle.lower_base.specs.Lowered.{Adds}
+use Rattle.lower_base.specs.Names.{Name}
+use Rattle.lower_base.specs.Routining.{LocalsSized}
+use Rattle.lower_stmt.specs.Changing.{AreTyped}
+use Rattle.lower_stmt.specs.Procedures.{Routines}
+use Rattle.lower_stmt.proofs.Scoping.{laid_typed}
 use Rattle.action_lower.specs.FiringCode.{IsFiringCode, globals_of}
 use Rattle.action_lower.specs.FiringWords.{AddsFired, AddsFiring, left_out_firing, left_out_of}
 use Rattle.action_lower.specs.Laws.{FiringsAreFired}

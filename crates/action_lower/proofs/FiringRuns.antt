@@ -28,16 +28,16 @@ use Rattle.code_ir.specs.declared.outcome.Outcome.TheVariants as outcome
 use Rattle.code_ir.specs.Code.{Code}
 use Rattle.code_ir.specs.Running.{Ends, State, stop}
 use Rattle.code_ir.proofs.Ends.{one-end}
-use Rattle.expr_lower.specs.Calling.{outside}
-use Rattle.expr_lower.specs.Following.{CutsOff, Follows}
-use Rattle.expr_lower.specs.Names.{Name}
-use Rattle.expr_lower.specs.Placed.{StandsAt, World, state}
-use Rattle.expr_lower.specs.Routining.{LocalsSized}
-use Rattle.expr_lower.proofs.Runs.{ends_join, follows_then, obeys, stands_left, stands_right}
-use Rattle.stmt_lower.specs.Bodies.{AreLaid, CutShort, GoesOn, IsReady}
-use Rattle.stmt_lower.specs.Changing.{HoldsVars}
-use Rattle.stmt_lower.specs.Procedures.{Routines}
-use Rattle.stmt_lower.proofs.Scoping.{inside_still, laid_more}
+use Rattle.lower_base.specs.Calling.{outside}
+use Rattle.lower_base.specs.Following.{CutsOff, Follows}
+use Rattle.lower_base.specs.Names.{Name}
+use Rattle.lower_base.specs.Placed.{StandsAt, World, state}
+use Rattle.lower_base.specs.Routining.{LocalsSized}
+use Rattle.lower_base.proofs.Runs.{ends_join, follows_then, obeys, stands_left, stands_right}
+use Rattle.lower_stmt.specs.Bodies.{AreLaid, CutShort, GoesOn, IsReady}
+use Rattle.lower_stmt.specs.Changing.{HoldsVars}
+use Rattle.lower_stmt.specs.Procedures.{Routines}
+use Rattle.lower_stmt.proofs.Scoping.{inside_still, laid_more}
 use Rattle.action_lower.specs.FiringCode.{EndsAsFiring, Fires, FiresAs, HasRoutinesOf, HoldSent, IsFiringCode, first_on, globals_of, round}
 use Rattle.action_lower.specs.LocalCode.{Starts}
 use Rattle.action_lower.specs.Seats.{HoldVars, numbers_of_vars, pattern_seats, seen_seats, state_cells, taken}

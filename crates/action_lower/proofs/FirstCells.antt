@@ -8,8 +8,8 @@ use Rattle.cal_model.specs.Sound.{Each, IsSound, scalars_of_vars}
 use Rattle.cal_model.specs.Value.{IsOf, IsType, Value, kind_of_type}
 use Rattle.cal_model.specs.View.{in_order}
 use Rattle.cal_model.proofs.KindValues.{of-type}
-use Rattle.expr_lower.specs.Flat.{flat, flat_all}
-use Rattle.expr_lower.proofs.Keeping.{flat_length, scalars_same}
+use Rattle.lower_base.specs.Flat.{flat, flat_all}
+use Rattle.lower_base.proofs.Keeping.{flat_length, scalars_same}
 use Rattle.action_lower.specs.Seats.{HoldVars, numbers_of_vars, state_cells}
 
 first-taken : {X Y : Type 0} (f : X → Y) (xs : List X) (x : X) (i : ℕ) → i < length xs → x ≡ get_or xs i x → map f (take (i + 1) xs) ≡ map f (take i xs) ++ f x ∷ []

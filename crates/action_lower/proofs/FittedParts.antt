@@ -9,23 +9,23 @@ use Rattle.cal_model.specs.Value.{Shape, scalars_of_type}
 use Rattle.code_ir.specs.declared.instr.Instr.{Instr}
 use Rattle.code_ir.specs.declared.instr.Instr.TheVariants as op
 use Rattle.code_ir.specs.Code.{Code}
-use Rattle.expr_lower.specs.Held.{AreBelow}
-use Rattle.expr_lower.specs.Names.{Name}
-use Rattle.expr_lower.specs.Parted.{number_of}
-use Rattle.expr_lower.specs.Placed.{StandsAt}
-use Rattle.expr_lower.specs.Routining.{LocalsSized}
-use Rattle.expr_lower.proofs.Coded.{grows}
-use Rattle.expr_lower.proofs.Fitted.{Plain, fits_in, fits_one, plain_then}
-use Rattle.expr_lower.proofs.Keeping.{below_more}
-use Rattle.expr_lower.proofs.Runs.{stands_left, stands_right}
-use Rattle.list_lower.proofs.Filled.{grows_fill, grows_fills}
-use Rattle.list_lower.proofs.Fitted.{fits_fill, fits_fills}
-use Rattle.list_lower.proofs.FittedJumps.{fits_none}
-use Rattle.stmt_lower.specs.Calls.{HasRunRoutines}
-use Rattle.stmt_lower.specs.Procedures.{Routines}
-use Rattle.stmt_lower.proofs.Executed.{grows_start}
-use Rattle.stmt_lower.proofs.FittedStmts.{cell_below, cells_below, fits_list_start, fits_start}
-use Rattle.stmt_lower.proofs.ListStarting.{grows_list_start}
+use Rattle.lower_base.specs.Held.{AreBelow}
+use Rattle.lower_base.specs.Names.{Name}
+use Rattle.lower_base.specs.Parted.{number_of}
+use Rattle.lower_base.specs.Placed.{StandsAt}
+use Rattle.lower_base.specs.Routining.{LocalsSized}
+use Rattle.lower_base.proofs.Coded.{grows}
+use Rattle.lower_base.proofs.Fitted.{Plain, fits_in, fits_one, plain_then}
+use Rattle.lower_base.proofs.Keeping.{below_more}
+use Rattle.lower_base.proofs.Runs.{stands_left, stands_right}
+use Rattle.expr_lower.proofs.Filled.{grows_fill, grows_fills}
+use Rattle.expr_lower.proofs.Fitted.{fits_fill, fits_fills}
+use Rattle.expr_lower.proofs.FittedJumps.{fits_none}
+use Rattle.lower_stmt.specs.Calls.{HasRunRoutines}
+use Rattle.lower_stmt.specs.Procedures.{Routines}
+use Rattle.lower_stmt.proofs.Executed.{grows_start}
+use Rattle.lower_stmt.proofs.FittedStmts.{cell_below, cells_below, fits_list_start, fits_start}
+use Rattle.lower_stmt.proofs.ListStarting.{grows_list_start}
 use Rattle.action_lower.specs.Laws.{LocalsFit, OutputsFit}
 use Rattle.action_lower.specs.LocalCode.{AreStarted, list_more, none_started, start_more}
 use Rattle.action_lower.specs.Sending.{AreOutputs, AreStored, IsRepeated, IsSentList, in_turns, item_stores, items_of_any, list_output_more, no_output, no_value, one_list, output_more, turn_stores, value_more}

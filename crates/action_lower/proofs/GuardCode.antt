@@ -5,17 +5,17 @@ use Rattle.std.proofs.lemmas.List.{map-append, take_more, take-append-drop}
 use Rattle.cal_ast.specs.Tree.{Tree}
 use Rattle.code_ir.specs.declared.instr.Instr.{Instr}
 use Rattle.code_ir.specs.declared.instr.Instr.TheVariants as op
-use Rattle.expr_lower.specs.declared.draft.Draft.{Draft}
-use Rattle.expr_lower.specs.declared.fault.LowerFault.{LowerFault}
-use Rattle.expr_lower.specs.declared.fault.LowerFault.TheVariants.{Memory, NotLowered, TooLong, TooManyCells}
-use Rattle.expr_lower.specs.Callees.{Function}
-use Rattle.expr_lower.specs.Calling.{IsLoweredWith}
-use Rattle.expr_lower.specs.Growing.{IsFault, left_out_in, ◌or_else◌}
-use Rattle.expr_lower.specs.Held.{AreBelow}
-use Rattle.expr_lower.specs.Lowered.{Adds, IsPut}
-use Rattle.expr_lower.specs.Names.{Name}
-use Rattle.expr_lower.proofs.Adding.{then_put}
-use Rattle.expr_lower.proofs.Keeping.{below_more}
+use Rattle.lower_base.specs.declared.draft.Draft.{Draft}
+use Rattle.lower_base.specs.declared.fault.LowerFault.{LowerFault}
+use Rattle.lower_base.specs.declared.fault.LowerFault.TheVariants.{Memory, NotLowered, TooLong, TooManyCells}
+use Rattle.lower_base.specs.Callees.{Function}
+use Rattle.lower_base.specs.Calling.{IsLoweredWith}
+use Rattle.lower_base.specs.Growing.{IsFault, left_out_in, ◌or_else◌}
+use Rattle.lower_base.specs.Held.{AreBelow}
+use Rattle.lower_base.specs.Lowered.{Adds, IsPut}
+use Rattle.lower_base.specs.Names.{Name}
+use Rattle.lower_base.proofs.Adding.{then_put}
+use Rattle.lower_base.proofs.Keeping.{below_more}
 use Rattle.action_lower.specs.GuardWords.{AddsGuard, ClearsWithin, SetsZero, left_out_guards}
 use Rattle.action_lower.specs.Guarding.{AreGuards, IsGuardCode, IsHead, clearing, guard_more, no_guard, no_head}
 

@@ -20,11 +20,11 @@ use Rattle.cal_model.proofs.ActorStates.{first-sized}
 use Rattle.cal_model.proofs.KeptByFirings.{action-at}
 use Rattle.cal_model.proofs.KindValues.{of-type, single-is-num}
 use Rattle.code_ir.proofs.Tables.{get-before}
-use Rattle.expr_lower.specs.Flat.{flat, flat_all}
-use Rattle.expr_lower.specs.Held.{Holds, StandAt}
-use Rattle.expr_lower.specs.Names.{Name, named}
-use Rattle.expr_lower.specs.declared.names.Seat.TheVariants.{Tokens}
-use Rattle.expr_lower.proofs.Keeping.{flat_length, scalars_same}
+use Rattle.lower_base.specs.Flat.{flat, flat_all}
+use Rattle.lower_base.specs.Held.{Holds, StandAt}
+use Rattle.lower_base.specs.Names.{Name, named}
+use Rattle.lower_base.specs.declared.names.Seat.TheVariants.{Tokens}
+use Rattle.lower_base.proofs.Keeping.{flat_length, scalars_same}
 use Rattle.action_lower.specs.Seats.{HoldVars, numbers_of_vars, pattern_seat, pattern_seats, pattern_seats_from, pattern_shape, seen_seats, state_cells, taken, var_seats}
 use Rattle.action_lower.proofs.PatternRates.{TakesItsOwn, take-their-own}
 

@@ -13,24 +13,24 @@ use Rattle.code_ir.specs.declared.instr.Instr.{Instr}
 use Rattle.code_ir.specs.declared.instr.Instr.TheVariants as op
 use Rattle.code_ir.specs.Effect.{copied, stored as in_cell}
 use Rattle.code_ir.specs.Running.{State, Reaches}
-use Rattle.expr_lower.specs.Callees.{Function}
-use Rattle.expr_lower.specs.Calling.{Serves}
-use Rattle.expr_lower.specs.Flat.{flat, flat_all}
-use Rattle.expr_lower.specs.Following.{CutsOff, Follows}
-use Rattle.expr_lower.specs.Held.{AreApart, Keeps}
-use Rattle.expr_lower.specs.Names.{Name}
-use Rattle.expr_lower.specs.Placed.{StandsAt, World, state}
-use Rattle.expr_lower.proofs.Keeping.{keeps_join}
-use Rattle.expr_lower.proofs.Runs.{follows_then, reaches_join, stands_left, stands_right}
-use Rattle.expr_lower.proofs.Written.{Written, written_keeps}
-use Rattle.list_lower.specs.Filled.{Fills}
-use Rattle.list_lower.specs.Shaped.{AreShaped, IsShaped}
-use Rattle.list_lower.proofs.Filled.{grows_fill}
-use Rattle.list_lower.proofs.Moving.{AreMoved, copied_are, copy_leaves}
-use Rattle.list_lower.proofs.Steps.{straight_reaches}
-use Rattle.stmt_lower.specs.Procedures.{Routines}
-use Rattle.stmt_lower.proofs.FillingRuns.{fills_there}
-use Rattle.stmt_lower.proofs.Scoping.{AreLaid, HoldsInside}
+use Rattle.lower_base.specs.Callees.{Function}
+use Rattle.lower_base.specs.Calling.{Serves}
+use Rattle.lower_base.specs.Flat.{flat, flat_all}
+use Rattle.lower_base.specs.Following.{CutsOff, Follows}
+use Rattle.lower_base.specs.Held.{AreApart, Keeps}
+use Rattle.lower_base.specs.Names.{Name}
+use Rattle.lower_base.specs.Placed.{StandsAt, World, state}
+use Rattle.lower_base.proofs.Keeping.{keeps_join}
+use Rattle.lower_base.proofs.Runs.{follows_then, reaches_join, stands_left, stands_right}
+use Rattle.lower_base.proofs.Written.{Written, written_keeps}
+use Rattle.expr_lower.specs.Filled.{Fills}
+use Rattle.expr_lower.specs.Shaped.{AreShaped, IsShaped}
+use Rattle.expr_lower.proofs.Filled.{grows_fill}
+use Rattle.expr_lower.proofs.Moving.{AreMoved, copied_are, copy_leaves}
+use Rattle.expr_lower.proofs.Steps.{straight_reaches}
+use Rattle.lower_stmt.specs.Procedures.{Routines}
+use Rattle.lower_stmt.proofs.FillingRuns.{fills_there}
+use Rattle.lower_stmt.proofs.Scoping.{AreLaid, HoldsInside}
 use Rattle.action_lower.specs.Sending.{IsSentList, StandFrom, items_of_any}
 
 pub list-grows : {fs : List Function} {names : List Name} {e : Tree} {t : Shape} {kind : Scalar} {base n m : ℕ} {part : List Instr} → IsSentList fs names e t kind base n part m → n ≤ m

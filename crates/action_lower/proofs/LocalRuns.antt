@@ -14,27 +14,27 @@ use Rattle.code_ir.specs.declared.instr.Instr.{Instr}
 use Rattle.code_ir.specs.declared.outcome.Outcome.{Outcome}
 use Rattle.code_ir.specs.Running.{State, Reaches, Ends, here}
 use Rattle.code_ir.proofs.Ends.{one-end}
-use Rattle.expr_lower.specs.Calling.{Serves, outside}
-use Rattle.expr_lower.specs.Following.{Follows}
-use Rattle.expr_lower.specs.Held.{AreApart, Keeps}
-use Rattle.expr_lower.specs.Names.{Name, local}
-use Rattle.expr_lower.specs.Placed.{StandsAt, World, state}
-use Rattle.expr_lower.specs.Routining.{LocalsSized}
-use Rattle.expr_lower.specs.Starting.{IsStart}
-use Rattle.expr_lower.proofs.Keeping.{apart_first, apart_last, keeps_all, keeps_join, keeps_wider}
-use Rattle.expr_lower.proofs.Runs.{ends_back, ends_join, follows_more, follows_then, reaches_join, stands_left, stands_right}
-use Rattle.stmt_lower.specs.Bodies.{CutShort, HoldLocals, IsReady, KeepsOver}
-use Rattle.stmt_lower.specs.Changing.{HoldsVars}
-use Rattle.stmt_lower.specs.Procedures.{Routines}
-use Rattle.stmt_lower.proofs.Blocking.{Started, start_moves}
-use Rattle.stmt_lower.specs.ListStarting.{IsListStart, local_of}
-use Rattle.stmt_lower.proofs.Evaluating.{may}
-use Rattle.stmt_lower.proofs.Executed.{grows_start}
-use Rattle.stmt_lower.proofs.ListStarting.{StartedList, grows_list_start, list_start_moves}
-use Rattle.stmt_lower.proofs.Locals.{any_held, but_any, but_local, local_held}
-use Rattle.stmt_lower.proofs.Performing.{but_join, but_wider, keeps_but}
-use Rattle.stmt_lower.proofs.ProcServed.{globals_behind}
-use Rattle.stmt_lower.proofs.Scoping.{AreLaid, HoldsInside, inside_still}
+use Rattle.lower_base.specs.Calling.{Serves, outside}
+use Rattle.lower_base.specs.Following.{Follows}
+use Rattle.lower_base.specs.Held.{AreApart, Keeps}
+use Rattle.lower_base.specs.Names.{Name, local}
+use Rattle.lower_base.specs.Placed.{StandsAt, World, state}
+use Rattle.lower_base.specs.Routining.{LocalsSized}
+use Rattle.lower_base.specs.Starting.{IsStart}
+use Rattle.lower_base.proofs.Keeping.{apart_first, apart_last, keeps_all, keeps_join, keeps_wider}
+use Rattle.lower_base.proofs.Runs.{ends_back, ends_join, follows_more, follows_then, reaches_join, stands_left, stands_right}
+use Rattle.lower_stmt.specs.Bodies.{CutShort, HoldLocals, IsReady, KeepsOver}
+use Rattle.lower_stmt.specs.Changing.{HoldsVars}
+use Rattle.lower_stmt.specs.Procedures.{Routines}
+use Rattle.lower_stmt.proofs.Blocking.{Started, start_moves}
+use Rattle.lower_stmt.specs.ListStarting.{IsListStart, local_of}
+use Rattle.lower_stmt.proofs.Evaluating.{may}
+use Rattle.lower_stmt.proofs.Executed.{grows_start}
+use Rattle.lower_stmt.proofs.ListStarting.{StartedList, grows_list_start, list_start_moves}
+use Rattle.lower_stmt.proofs.Locals.{any_held, but_any, but_local, local_held}
+use Rattle.lower_stmt.proofs.Performing.{but_join, but_wider, keeps_but}
+use Rattle.lower_stmt.proofs.ProcServed.{globals_behind}
+use Rattle.lower_stmt.proofs.Scoping.{AreLaid, HoldsInside, inside_still}
 use Rattle.action_lower.specs.LocalCode.{AreStarted, EndsStarted, Starts, StartsAs, list_more, none_started, start_more}
 
 pub started_grows : (rs : Routines) {names behind : List Name} {xs : List Local} {base n m : ℕ} {code : List Instr} → AreStarted rs.functions names xs behind base n code m → n ≤ m

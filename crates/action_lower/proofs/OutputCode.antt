@@ -13,22 +13,22 @@ use Rattle.cal_model.specs.Sound.{Each, max_rate}
 use Rattle.cal_model.specs.View.{output_view}
 use Rattle.code_ir.specs.declared.instr.Instr.{Instr}
 use Rattle.code_ir.specs.declared.instr.Instr.TheVariants as op
-use Rattle.expr_lower.specs.declared.draft.Draft.{Draft}
-use Rattle.expr_lower.specs.declared.fault.LowerFault.{LowerFault}
-use Rattle.expr_lower.specs.declared.fault.LowerFault.TheVariants.{Memory, NotLowered, TooLong, TooManyCells}
-use Rattle.expr_lower.specs.Callees.{Function}
-use Rattle.expr_lower.specs.Coding.{IsCode}
-use Rattle.expr_lower.specs.Growing.{IsFault, left_out_in, ◌or_else◌}
-use Rattle.expr_lower.specs.Lowered.{Adds, IsPut}
-use Rattle.expr_lower.specs.Names.{Name}
-use Rattle.expr_lower.proofs.Adding.{same_adds, then_put}
-use Rattle.expr_lower.proofs.PartValues.{sized_is}
-use Rattle.expr_lower.specs.Parted.{sized}
-use Rattle.list_lower.specs.Filling.{AreFills, IsFill, no_item}
-use Rattle.list_lower.specs.LeftOut.{left_out_fill, left_out_fills}
+use Rattle.lower_base.specs.declared.draft.Draft.{Draft}
+use Rattle.lower_base.specs.declared.fault.LowerFault.{LowerFault}
+use Rattle.lower_base.specs.declared.fault.LowerFault.TheVariants.{Memory, NotLowered, TooLong, TooManyCells}
+use Rattle.lower_base.specs.Callees.{Function}
+use Rattle.lower_base.specs.Coding.{IsCode}
+use Rattle.lower_base.specs.Growing.{IsFault, left_out_in, ◌or_else◌}
+use Rattle.lower_base.specs.Lowered.{Adds, IsPut}
+use Rattle.lower_base.specs.Names.{Name}
+use Rattle.lower_base.proofs.Adding.{same_adds, then_put}
+use Rattle.lower_base.proofs.PartValues.{sized_is}
+use Rattle.lower_base.specs.Parted.{sized}
+use Rattle.expr_lower.specs.Filling.{AreFills, IsFill, no_item}
+use Rattle.expr_lower.specs.LeftOut.{left_out_fill, left_out_fills}
 use Rattle.action_lower.specs.declared.turns.Area.{Area}
-use Rattle.list_lower.specs.declared.starts.Row.{Row}
-use Rattle.stmt_lower.specs.StartWords.{HasTakenList}
+use Rattle.expr_lower.specs.declared.starts.Row.{Row}
+use Rattle.lower_stmt.specs.StartWords.{HasTakenList}
 use Rattle.action_lower.specs.SendWords.{AddsOutput, AddsOutputs, AddsSent, HasArea, HasTaken, IsSendFault, left_out_output, left_out_outputs, left_out_repeated, left_out_values}
 use Rattle.action_lower.specs.Sending.{AreOutputs, AreStored, IsListOutput, IsOutputCode, IsRepeated, IsSentList, IsStored, in_turns, items_of_any, list_output_more, no_output, no_value, one_list, output_more, turn_stores, value_more}
 use Rattle.action_lower.proofs.Storing.{sends-as}

@@ -15,16 +15,16 @@ use Rattle.cal_model.specs.Selection.{kind_of_port, pattern_var, pattern_vars, p
 use Rattle.cal_model.specs.Sound.{AreDistinct, Each, IsPattern, IsRepeat, IsSound, max_rate, scalars_of_vars}
 use Rattle.cal_model.specs.Value.{IsOf, IsType, Shape, kind_of_type, scalars_of_type}
 use Rattle.cal_model.proofs.KindValues.{of-type}
-use Rattle.expr_lower.specs.declared.names.Seat.{Seat}
-use Rattle.expr_lower.specs.declared.names.Seat.TheVariants.{Cell, Tokens}
-use Rattle.expr_lower.specs.Calling.{outside}
-use Rattle.expr_lower.specs.Flat.{flat}
-use Rattle.expr_lower.specs.Held.{AllApart, AreBelow, Holds, HoldsName, SeatIsApart, SeatIsBelow}
-use Rattle.expr_lower.specs.Names.{Name, named}
-use Rattle.expr_lower.proofs.Keeping.{flat_length, scalars_same}
-use Rattle.stmt_lower.specs.Bodies.{AreLaid, HoldLocals, SeatLies}
-use Rattle.stmt_lower.specs.Changing.{AreStored, AreTyped, HoldsVars, NamesApart, SeatsApart, var_named}
-use Rattle.stmt_lower.proofs.Scoping.{choose_name}
+use Rattle.lower_base.specs.declared.names.Seat.{Seat}
+use Rattle.lower_base.specs.declared.names.Seat.TheVariants.{Cell, Tokens}
+use Rattle.lower_base.specs.Calling.{outside}
+use Rattle.lower_base.specs.Flat.{flat}
+use Rattle.lower_base.specs.Held.{AllApart, AreBelow, Holds, HoldsName, SeatIsApart, SeatIsBelow}
+use Rattle.lower_base.specs.Names.{Name, named}
+use Rattle.lower_base.proofs.Keeping.{flat_length, scalars_same}
+use Rattle.lower_stmt.specs.Bodies.{AreLaid, HoldLocals, SeatLies}
+use Rattle.lower_stmt.specs.Changing.{AreStored, AreTyped, HoldsVars, NamesApart, SeatsApart, var_named}
+use Rattle.lower_stmt.proofs.Scoping.{choose_name}
 use Rattle.action_lower.specs.Seats.{numbers_of_vars, pattern_seat, pattern_seats, pattern_seats_from, pattern_shape, var_seat, var_seats}
 use Rattle.action_lower.proofs.BelowState.{each-below, vars-below}
 use Rattle.action_lower.proofs.Holding.{AreHeld, Found, held-found}

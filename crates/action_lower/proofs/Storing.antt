@@ -20,24 +20,24 @@ use Rattle.code_ir.specs.Effect.{Leaves}
 use Rattle.code_ir.specs.declared.outcome.Outcome.{Outcome}
 use Rattle.code_ir.specs.Running.{Ends, Reaches, State, after, go_on, here, step}
 use Rattle.code_ir.proofs.Ends.{one-end}
-use Rattle.expr_lower.specs.Flat.{flat}
-use Rattle.expr_lower.specs.Following.{CutsOff, Follows, MayUse, Pushes}
-use Rattle.expr_lower.specs.Callees.{Function}
-use Rattle.expr_lower.specs.Calling.{Serves}
-use Rattle.expr_lower.specs.Held.{AreApart, Keeps}
-use Rattle.expr_lower.specs.Names.{Name}
-use Rattle.expr_lower.specs.Placed.{StandsAt, World, state}
-use Rattle.expr_lower.proofs.Coded.{grows}
-use Rattle.expr_lower.proofs.Singles.{IsSingleValue}
-use Rattle.expr_lower.proofs.Effects.{same_number}
-use Rattle.expr_lower.proofs.Keeping.{keeps_all, keeps_join, keeps_wider, apart_first, apart_last}
-use Rattle.expr_lower.proofs.Runs.{ends_back, ends_join, follows_then, obeys, reaches_join, stands_left, stands_right}
-use Rattle.expr_lower.proofs.Written.{Written, written_keeps}
-use Rattle.expr_lower.proofs.Storing.{set_there, set_written, store_leaves}
-use Rattle.stmt_lower.specs.Bodies.{IsReady}
-use Rattle.stmt_lower.specs.Procedures.{Routines}
-use Rattle.stmt_lower.proofs.Evaluating.{does_there, may, singles_there}
-use Rattle.stmt_lower.proofs.Scoping.{AreLaid, HoldsInside, inside_still, laid_more}
+use Rattle.lower_base.specs.Flat.{flat}
+use Rattle.lower_base.specs.Following.{CutsOff, Follows, MayUse, Pushes}
+use Rattle.lower_base.specs.Callees.{Function}
+use Rattle.lower_base.specs.Calling.{Serves}
+use Rattle.lower_base.specs.Held.{AreApart, Keeps}
+use Rattle.lower_base.specs.Names.{Name}
+use Rattle.lower_base.specs.Placed.{StandsAt, World, state}
+use Rattle.lower_base.proofs.Coded.{grows}
+use Rattle.lower_base.proofs.Singles.{IsSingleValue}
+use Rattle.lower_base.proofs.Effects.{same_number}
+use Rattle.lower_base.proofs.Keeping.{keeps_all, keeps_join, keeps_wider, apart_first, apart_last}
+use Rattle.lower_base.proofs.Runs.{ends_back, ends_join, follows_then, obeys, reaches_join, stands_left, stands_right}
+use Rattle.lower_base.proofs.Written.{Written, written_keeps}
+use Rattle.lower_base.proofs.Storing.{set_there, set_written, store_leaves}
+use Rattle.lower_stmt.specs.Bodies.{IsReady}
+use Rattle.lower_stmt.specs.Procedures.{Routines}
+use Rattle.lower_stmt.proofs.Evaluating.{does_there, may, singles_there}
+use Rattle.lower_stmt.proofs.Scoping.{AreLaid, HoldsInside, inside_still, laid_more}
 use Rattle.action_lower.specs.Sending.{AreOutputs, AreStored, EndsSent, IsStored, Sends, SendsAs, StandFrom, list_output_more, no_output, no_value, output_more, value_more}
 use Rattle.action_lower.proofs.ListSending.{SendsList}
 use Rattle.action_lower.proofs.TurnSending.{repeated-grows, repeated_sent}

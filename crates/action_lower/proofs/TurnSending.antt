@@ -14,26 +14,26 @@ use Rattle.code_ir.specs.declared.instr.Instr.{Instr}
 use Rattle.code_ir.specs.declared.instr.Instr.TheVariants as op
 use Rattle.code_ir.specs.Effect.{copied, stored as in_cell}
 use Rattle.code_ir.specs.Running.{State, Reaches, here}
-use Rattle.expr_lower.specs.Callees.{Function}
-use Rattle.expr_lower.specs.Calling.{Serves}
-use Rattle.expr_lower.specs.Flat.{flat, flat_all}
-use Rattle.expr_lower.specs.Following.{CutsOff, Follows}
-use Rattle.expr_lower.specs.Held.{AreApart}
-use Rattle.expr_lower.specs.Names.{Name}
-use Rattle.expr_lower.specs.Parted.{number_of}
-use Rattle.expr_lower.specs.Placed.{StandsAt, World, state}
-use Rattle.expr_lower.proofs.Keeping.{apart_last, keeps_join, keeps_wider}
-use Rattle.expr_lower.proofs.Runs.{follows_more, reaches_join, stands_left, stands_right}
-use Rattle.expr_lower.proofs.Written.{Written, written_keeps}
-use Rattle.list_lower.specs.Shaped.{AreShaped}
-use Rattle.list_lower.proofs.Filled.{grows_fills}
-use Rattle.list_lower.proofs.Forms.{FillsAll}
-use Rattle.list_lower.proofs.Moving.{AreMoved, copied_are, copy_leaves}
-use Rattle.list_lower.proofs.Shapes.{flat_shaped}
-use Rattle.list_lower.proofs.Steps.{cut_on, straight_reaches}
-use Rattle.stmt_lower.specs.Procedures.{Routines}
-use Rattle.stmt_lower.proofs.FillingRuns.{all_there}
-use Rattle.stmt_lower.proofs.Scoping.{AreLaid, HoldsInside, laid_more}
+use Rattle.lower_base.specs.Callees.{Function}
+use Rattle.lower_base.specs.Calling.{Serves}
+use Rattle.lower_base.specs.Flat.{flat, flat_all}
+use Rattle.lower_base.specs.Following.{CutsOff, Follows}
+use Rattle.lower_base.specs.Held.{AreApart}
+use Rattle.lower_base.specs.Names.{Name}
+use Rattle.lower_base.specs.Parted.{number_of}
+use Rattle.lower_base.specs.Placed.{StandsAt, World, state}
+use Rattle.lower_base.proofs.Keeping.{apart_last, keeps_join, keeps_wider}
+use Rattle.lower_base.proofs.Runs.{follows_more, reaches_join, stands_left, stands_right}
+use Rattle.lower_base.proofs.Written.{Written, written_keeps}
+use Rattle.expr_lower.specs.Shaped.{AreShaped}
+use Rattle.expr_lower.proofs.Filled.{grows_fills}
+use Rattle.expr_lower.proofs.Forms.{FillsAll}
+use Rattle.expr_lower.proofs.Moving.{AreMoved, copied_are, copy_leaves}
+use Rattle.expr_lower.proofs.Shapes.{flat_shaped}
+use Rattle.expr_lower.proofs.Steps.{cut_on, straight_reaches}
+use Rattle.lower_stmt.specs.Procedures.{Routines}
+use Rattle.lower_stmt.proofs.FillingRuns.{all_there}
+use Rattle.lower_stmt.proofs.Scoping.{AreLaid, HoldsInside, laid_more}
 use Rattle.action_lower.specs.Sending.{IsRepeated, StandFrom, in_turns, item_stores, items_of_any, one_list, turn_stores}
 use Rattle.action_lower.proofs.ListSending.{SendsList, list-grows, list_number, list_sent}
 

@@ -15,13 +15,13 @@ use Rattle.code_ir.specs.declared.outcome.Outcome.{Outcome}
 use Rattle.code_ir.specs.declared.outcome.Outcome.TheVariants as outcome
 use Rattle.code_ir.specs.Code.{Code}
 use Rattle.code_ir.specs.Running.{runs}
-use Rattle.expr_lower.specs.Calling.{Serves}
-use Rattle.expr_lower.specs.Names.{Name}
-use Rattle.expr_lower.specs.Placed.{StandsAt, World}
-use Rattle.expr_lower.specs.Routining.{world_of}
-use Rattle.stmt_lower.specs.Acting.{ServesRuns}
-use Rattle.stmt_lower.specs.Bodies.{IsExecutedCalling}
-use Rattle.stmt_lower.specs.Procedures.{Routines}
+use Rattle.lower_base.specs.Calling.{Serves}
+use Rattle.lower_base.specs.Names.{Name}
+use Rattle.lower_base.specs.Placed.{StandsAt, World}
+use Rattle.lower_base.specs.Routining.{world_of}
+use Rattle.lower_stmt.specs.Acting.{ServesRuns}
+use Rattle.lower_stmt.specs.Bodies.{IsExecutedCalling}
+use Rattle.lower_stmt.specs.Procedures.{Routines}
 use Rattle.action_lower.specs.LocalCode.{AreStarted}
 use Rattle.action_lower.specs.Seats.{HoldVars, state_cells, taken, var_seats}
 use Rattle.action_lower.specs.Sending.{AreOutputs, StandFrom}

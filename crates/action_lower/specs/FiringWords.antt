@@ -8,19 +8,19 @@ use Rattle.cal_model.specs.Actor.{Action, Actor, Local, Port}
 use Rattle.cal_model.specs.View.{action_view, actor_of, local_view, port_view}
 use Rattle.code_ir.specs.declared.instr.Instr.{Instr}
 use Rattle.code_ir.specs.declared.instr.Instr.TheVariants as op
-use Rattle.expr_lower.specs.declared.callees.Callee.{Callee}
-use Rattle.expr_lower.specs.declared.draft.Draft.{Draft}
-use Rattle.expr_lower.specs.declared.fault.LowerFault.{LowerFault}
-use Rattle.expr_lower.specs.declared.names.Named.{Named}
-use Rattle.expr_lower.specs.Growing.{◌or_else◌}
-use Rattle.expr_lower.specs.Lowered.{Adds}
-use Rattle.expr_lower.specs.Names.{Name, names_view}
-use Rattle.stmt_lower.specs.Bodies.{IsExecutedCalling}
-use Rattle.stmt_lower.specs.ListStarting.{local_of}
-use Rattle.stmt_lower.specs.declared.callees.ProcCallee.{ProcCallee}
-use Rattle.stmt_lower.specs.Procedures.{Routines, routines_of}
-use Rattle.stmt_lower.specs.StmtGrowing.{left_out_all}
-use Rattle.stmt_lower.specs.StmtWords.{body_of}
+use Rattle.lower_base.specs.declared.callees.Callee.{Callee}
+use Rattle.lower_base.specs.declared.draft.Draft.{Draft}
+use Rattle.lower_base.specs.declared.fault.LowerFault.{LowerFault}
+use Rattle.lower_base.specs.declared.names.Named.{Named}
+use Rattle.lower_base.specs.Growing.{◌or_else◌}
+use Rattle.lower_base.specs.Lowered.{Adds}
+use Rattle.lower_base.specs.Names.{Name, names_view}
+use Rattle.lower_stmt.specs.Bodies.{IsExecutedCalling}
+use Rattle.lower_stmt.specs.ListStarting.{local_of}
+use Rattle.lower_stmt.specs.declared.callees.ProcCallee.{ProcCallee}
+use Rattle.lower_stmt.specs.Procedures.{Routines, routines_of}
+use Rattle.lower_stmt.specs.StmtGrowing.{left_out_all}
+use Rattle.lower_stmt.specs.StmtWords.{body_of}
 use Rattle.action_lower.specs.FiringCode.{FiresAs, IsFiringCode}
 use Rattle.action_lower.specs.LocalCode.{left_out_locals}
 use Rattle.action_lower.specs.Seats.{seen_seats}

@@ -10,14 +10,14 @@ use Rattle.cal_model.specs.View.{actor_of}
 use Rattle.code_ir.specs.declared.instr.Instr.{Instr}
 use Rattle.code_ir.specs.declared.instr.Instr.TheVariants as op
 use Rattle.code_ir.specs.Code.{Code}
-use Rattle.expr_lower.specs.declared.callees.Callee.{Callee}
-use Rattle.expr_lower.specs.declared.draft.Draft.{Draft}
-use Rattle.expr_lower.specs.declared.fault.LowerFault.{LowerFault}
-use Rattle.expr_lower.specs.declared.names.Named.{Named}
-use Rattle.expr_lower.specs.Callees.{Function, functions_view}
-use Rattle.expr_lower.specs.Growing.{IsFault, left_out_in, ◌or_else◌}
-use Rattle.expr_lower.specs.Lowered.{Adds}
-use Rattle.expr_lower.specs.Names.{Name, names_view}
+use Rattle.lower_base.specs.declared.callees.Callee.{Callee}
+use Rattle.lower_base.specs.declared.draft.Draft.{Draft}
+use Rattle.lower_base.specs.declared.fault.LowerFault.{LowerFault}
+use Rattle.lower_base.specs.declared.names.Named.{Named}
+use Rattle.lower_base.specs.Callees.{Function, functions_view}
+use Rattle.lower_base.specs.Growing.{IsFault, left_out_in, ◌or_else◌}
+use Rattle.lower_base.specs.Lowered.{Adds}
+use Rattle.lower_base.specs.Names.{Name, names_view}
 use Rattle.action_lower.specs.Guarding.{AnswerAs, AreGuards, IsGuardCode}
 use Rattle.action_lower.specs.Seats.{seen_seats, state_cells}
 

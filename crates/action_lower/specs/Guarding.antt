@@ -16,9 +16,9 @@ use Rattle.code_ir.specs.declared.outcome.Outcome.{Outcome}
 use Rattle.code_ir.specs.declared.outcome.Outcome.TheVariants as outcome
 use Rattle.code_ir.specs.Code.{Code}
 use Rattle.code_ir.specs.Running.{runs}
-use Rattle.expr_lower.specs.Callees.{Function}
-use Rattle.expr_lower.specs.Calling.{HasRoom, IsLoweredWith, Serves}
-use Rattle.expr_lower.specs.Names.{Name}
+use Rattle.lower_base.specs.Callees.{Function}
+use Rattle.lower_base.specs.Calling.{HasRoom, IsLoweredWith, Serves}
+use Rattle.lower_base.specs.Names.{Name}
 use Rattle.action_lower.specs.FiringCode.{globals_of, round}
 use Rattle.action_lower.specs.Seats.{HoldVars, state_cells, taken}
 

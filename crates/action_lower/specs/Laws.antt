@@ -8,13 +8,13 @@ use Rattle.cal_model.specs.Selection.{State, has_its_tokens, kind_of_port, seen_
 use Rattle.cal_model.specs.Sound.{IsSound}
 use Rattle.code_ir.specs.declared.instr.Instr.{Instr}
 use Rattle.code_ir.specs.Code.{Code}
-use Rattle.expr_lower.specs.Fitting.{Fits}
-use Rattle.expr_lower.specs.Held.{AreBelow, Holds}
-use Rattle.expr_lower.specs.Names.{Name}
-use Rattle.expr_lower.specs.Placed.{StandsAt}
-use Rattle.expr_lower.specs.Routining.{LocalsSized}
-use Rattle.stmt_lower.specs.Calls.{HasRunRoutines}
-use Rattle.stmt_lower.specs.Procedures.{Routines}
+use Rattle.lower_base.specs.Fitting.{Fits}
+use Rattle.lower_base.specs.Held.{AreBelow, Holds}
+use Rattle.lower_base.specs.Names.{Name}
+use Rattle.lower_base.specs.Placed.{StandsAt}
+use Rattle.lower_base.specs.Routining.{LocalsSized}
+use Rattle.lower_stmt.specs.Calls.{HasRunRoutines}
+use Rattle.lower_stmt.specs.Procedures.{Routines}
 use Rattle.action_lower.specs.FiringCode.{FiresAs, IsFiringCode}
 use Rattle.action_lower.specs.LocalCode.{AreStarted, StartsAs}
 use Rattle.action_lower.specs.Sending.{AreOutputs, SendsAs}

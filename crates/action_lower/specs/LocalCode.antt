@@ -15,22 +15,22 @@ use Rattle.code_ir.specs.declared.instr.Instr.{Instr}
 use Rattle.code_ir.specs.declared.outcome.Outcome.{Outcome}
 use Rattle.code_ir.specs.declared.outcome.Outcome.TheVariants as outcome
 use Rattle.code_ir.specs.Running.{State, Reaches, Ends}
-use Rattle.expr_lower.specs.declared.draft.Draft.{Draft}
-use Rattle.expr_lower.specs.declared.callees.Callee.{Callee}
-use Rattle.expr_lower.specs.declared.fault.LowerFault.{LowerFault}
-use Rattle.expr_lower.specs.declared.names.Named.{Named}
-use Rattle.expr_lower.specs.Callees.{Function, functions_view}
-use Rattle.expr_lower.specs.Following.{Follows}
-use Rattle.expr_lower.specs.Growing.{IsFault, ◌or_else◌}
-use Rattle.expr_lower.specs.Held.{Keeps}
-use Rattle.expr_lower.specs.Lowered.{Adds}
-use Rattle.expr_lower.specs.Names.{Name, local, names_view}
-use Rattle.expr_lower.specs.Placed.{StandsAt, World, state}
-use Rattle.expr_lower.specs.Routining.{LocalsSized}
-use Rattle.expr_lower.specs.Starting.{IsStart}
-use Rattle.stmt_lower.specs.Bodies.{AreLaid, CutShort, HoldsBody, IsReady, KeepsOver}
-use Rattle.stmt_lower.specs.ListStarting.{IsListStart, left_out_local, local_of}
-use Rattle.stmt_lower.specs.Procedures.{Routines}
+use Rattle.lower_base.specs.declared.draft.Draft.{Draft}
+use Rattle.lower_base.specs.declared.callees.Callee.{Callee}
+use Rattle.lower_base.specs.declared.fault.LowerFault.{LowerFault}
+use Rattle.lower_base.specs.declared.names.Named.{Named}
+use Rattle.lower_base.specs.Callees.{Function, functions_view}
+use Rattle.lower_base.specs.Following.{Follows}
+use Rattle.lower_base.specs.Growing.{IsFault, ◌or_else◌}
+use Rattle.lower_base.specs.Held.{Keeps}
+use Rattle.lower_base.specs.Lowered.{Adds}
+use Rattle.lower_base.specs.Names.{Name, local, names_view}
+use Rattle.lower_base.specs.Placed.{StandsAt, World, state}
+use Rattle.lower_base.specs.Routining.{LocalsSized}
+use Rattle.lower_base.specs.Starting.{IsStart}
+use Rattle.lower_stmt.specs.Bodies.{AreLaid, CutShort, HoldsBody, IsReady, KeepsOver}
+use Rattle.lower_stmt.specs.ListStarting.{IsListStart, left_out_local, local_of}
+use Rattle.lower_stmt.specs.Procedures.{Routines}
 
 -- ---- code
 

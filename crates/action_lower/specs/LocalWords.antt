@@ -3,9 +3,9 @@
 use Rattle.std.specs.Prelude.{◌≡◌, ℕ, List, ◌∷◌, string_bytes}
 use Rattle.cal_model.specs.declared.bound.BoundLocal.{BoundLocal}
 use Rattle.cal_model.specs.View.{shape_view}
-use Rattle.expr_lower.specs.declared.names.Named.{Named}
-use Rattle.expr_lower.specs.Names.{names_view}
-use Rattle.stmt_lower.specs.ListStarting.{local_of}
+use Rattle.lower_base.specs.declared.names.Named.{Named}
+use Rattle.lower_base.specs.Names.{names_view}
+use Rattle.lower_stmt.specs.ListStarting.{local_of}
 
 -- the name of a local, which stands in the cells from one on, was put in front of names
 abbrev pub IsInFrontAt : BoundLocal → ℕ → List Named → List Named → Type 0

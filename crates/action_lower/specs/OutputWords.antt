@@ -8,16 +8,16 @@ use Rattle.cal_model.specs.declared.bound.Port.{Port}
 use Rattle.cal_model.specs.declared.bound.BoundOutput.{BoundOutput}
 use Rattle.cal_model.specs.declared.kind.Shape.{Shape}
 use Rattle.cal_model.specs.View.{output_view, port_view, shape_view}
-use Rattle.expr_lower.specs.declared.callees.Callee.{Callee}
-use Rattle.expr_lower.specs.declared.draft.Draft.{Draft}
-use Rattle.expr_lower.specs.declared.fault.LowerFault.{LowerFault}
-use Rattle.expr_lower.specs.declared.names.Named.{Named}
-use Rattle.expr_lower.specs.Callees.{functions_view}
-use Rattle.expr_lower.specs.Growing.{IsFault}
-use Rattle.expr_lower.specs.Lowered.{Adds}
-use Rattle.expr_lower.specs.Names.{names_view}
-use Rattle.expr_lower.specs.PartView.{places_of}
-use Rattle.list_lower.specs.LeftOut.{left_out_fill, left_out_fills}
+use Rattle.lower_base.specs.declared.callees.Callee.{Callee}
+use Rattle.lower_base.specs.declared.draft.Draft.{Draft}
+use Rattle.lower_base.specs.declared.fault.LowerFault.{LowerFault}
+use Rattle.lower_base.specs.declared.names.Named.{Named}
+use Rattle.lower_base.specs.Callees.{functions_view}
+use Rattle.lower_base.specs.Growing.{IsFault}
+use Rattle.lower_base.specs.Lowered.{Adds}
+use Rattle.lower_base.specs.Names.{names_view}
+use Rattle.lower_base.specs.PartView.{places_of}
+use Rattle.expr_lower.specs.LeftOut.{left_out_fill, left_out_fills}
 use Rattle.action_lower.specs.Sending.{AreStored, IsStored}
 use Rattle.action_lower.specs.SendWords.{AddsOutput, AddsOutputs, AddsRepeated, AddsSent, AddsSentList, IsSendFault}
 use Rattle.action_lower.specs.SendWords.{left_out_output, left_out_outputs, left_out_repeated, left_out_values}

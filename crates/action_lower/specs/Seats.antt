@@ -8,9 +8,9 @@ use Rattle.cal_model.specs.Actor.{Port, Held, Pattern, Action, Actor}
 use Rattle.cal_model.specs.Rates.{need}
 use Rattle.cal_model.specs.Selection.{State, kind_of_port, tokens_on}
 use Rattle.cal_model.specs.Sound.{scalars_of_vars}
-use Rattle.expr_lower.specs.declared.names.Seat.TheVariants.{Cell, Tokens}
-use Rattle.expr_lower.specs.Names.{Name}
-use Rattle.expr_lower.specs.Flat.{flat}
+use Rattle.lower_base.specs.declared.names.Seat.TheVariants.{Cell, Tokens}
+use Rattle.lower_base.specs.Names.{Name}
+use Rattle.lower_base.specs.Flat.{flat}
 
 -- ---- names
 

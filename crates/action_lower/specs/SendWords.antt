@@ -9,16 +9,16 @@ use Rattle.cal_model.specs.declared.bound.BoundOutput.{BoundOutput}
 use Rattle.cal_model.specs.Actor.{Output, Port}
 use Rattle.cal_model.specs.Sound.{max_rate}
 use Rattle.cal_model.specs.Value.{Shape}
-use Rattle.expr_lower.specs.declared.draft.Draft.{Draft}
-use Rattle.expr_lower.specs.declared.fault.LowerFault.{LowerFault}
-use Rattle.expr_lower.specs.declared.fault.LowerFault.TheVariants.{Memory, NotLowered, TooLong, TooManyCells}
-use Rattle.expr_lower.specs.Callees.{Function}
-use Rattle.expr_lower.specs.Growing.{left_out_in, ◌or_else◌}
-use Rattle.expr_lower.specs.Lowered.{Adds}
-use Rattle.expr_lower.specs.Names.{Name}
-use Rattle.expr_lower.specs.Parted.{sized}
-use Rattle.list_lower.specs.LeftOut.{left_out_fills}
-use Rattle.stmt_lower.specs.Procedures.{Procedure}
+use Rattle.lower_base.specs.declared.draft.Draft.{Draft}
+use Rattle.lower_base.specs.declared.fault.LowerFault.{LowerFault}
+use Rattle.lower_base.specs.declared.fault.LowerFault.TheVariants.{Memory, NotLowered, TooLong, TooManyCells}
+use Rattle.lower_base.specs.Callees.{Function}
+use Rattle.lower_base.specs.Growing.{left_out_in, ◌or_else◌}
+use Rattle.lower_base.specs.Lowered.{Adds}
+use Rattle.lower_base.specs.Names.{Name}
+use Rattle.lower_base.specs.Parted.{sized}
+use Rattle.expr_lower.specs.LeftOut.{left_out_fills}
+use Rattle.lower_stmt.specs.Procedures.{Procedure}
 use Rattle.action_lower.specs.declared.turns.Area.{Area}
 use Rattle.action_lower.specs.Sending.{AreOutputs, IsListOutput, IsOutputCode, IsRepeated, IsSentList, SendsAs, items_of_any}
 

@@ -16,15 +16,15 @@ use Rattle.code_ir.specs.declared.instr.Instr.TheVariants as op
 use Rattle.code_ir.specs.declared.outcome.Outcome.{Outcome}
 use Rattle.code_ir.specs.declared.outcome.Outcome.TheVariants as outcome
 use Rattle.code_ir.specs.Running.{State, Reaches, Ends}
-use Rattle.expr_lower.specs.Callees.{Function}
-use Rattle.expr_lower.specs.Coding.{IsCode}
-use Rattle.expr_lower.specs.Following.{Follows, CutsOff}
-use Rattle.expr_lower.specs.Held.{Keeps}
-use Rattle.expr_lower.specs.Names.{Name}
-use Rattle.expr_lower.specs.Placed.{StandsAt, World, state}
-use Rattle.list_lower.specs.Filling.{AreFills, IsFill}
-use Rattle.stmt_lower.specs.Bodies.{IsReady}
-use Rattle.stmt_lower.specs.Procedures.{Routines}
+use Rattle.lower_base.specs.Callees.{Function}
+use Rattle.lower_base.specs.Coding.{IsCode}
+use Rattle.lower_base.specs.Following.{Follows, CutsOff}
+use Rattle.lower_base.specs.Held.{Keeps}
+use Rattle.lower_base.specs.Names.{Name}
+use Rattle.lower_base.specs.Placed.{StandsAt, World, state}
+use Rattle.expr_lower.specs.Filling.{AreFills, IsFill}
+use Rattle.lower_stmt.specs.Bodies.{IsReady}
+use Rattle.lower_stmt.specs.Procedures.{Routines}
 
 -- ---- code
 

@@ -3,11 +3,11 @@
 ghost use Rattle.std.specs.Prelude.{◌≡◌, ◌<◌, ◌≤◌, IfErr, IfOk, None, OnOk, length};
 ghost use Rattle.cal_model.specs.Sound.{Each, IsSound, max_rate};
 ghost use Rattle.cal_model.specs.View.{action_view, actor_of};
-ghost use Rattle.expr_lower.specs.Held.{AreBelow};
-ghost use Rattle.expr_lower.specs.Names.{names_view};
-ghost use Rattle.expr_lower.specs.Routining.{LocalsSized};
-ghost use Rattle.stmt_lower.specs.Changing.{AreTyped};
-ghost use Rattle.stmt_lower.specs.Procedures.{routines_of};
+ghost use Rattle.lower_base.specs.Held.{AreBelow};
+ghost use Rattle.lower_base.specs.Names.{names_view};
+ghost use Rattle.lower_base.specs.Routining.{LocalsSized};
+ghost use Rattle.lower_stmt.specs.Changing.{AreTyped};
+ghost use Rattle.lower_stmt.specs.Procedures.{routines_of};
 ghost use Rattle.action_lower.specs.FiringWords.{AddsBehind, AddsFiredOver, AddsFiringCode, AddsFiringOver};
 ghost use Rattle.action_lower.specs.FiringWords.{IsBehindFault, IsFiringFault, IsFiringFaultAt, IsWholeBehind, IsWholeFiring};
 ghost use Rattle.action_lower.specs.FiringWords.{left_out_of};
@@ -19,9 +19,9 @@ use crate::outputs::lower_outputs;
 use crate::seats::seen_names;
 use cal_model::{Bound, BoundAction, Port};
 use code_ir::Instr;
-use expr_lower::{Callee, Draft, LowerFault, Named, next_place, put};
+use lower_base::{Callee, Draft, LowerFault, Named, next_place, put};
+use lower_stmt::{ProcCallee, lower_calling_stmts};
 use std::alloc::Global;
-use stmt_lower::{ProcCallee, lower_calling_stmts};
 
 /// Where the code of a firing begins, and where it leaves what the action sends.
 #[derive(Drop)]
@@ -43,7 +43,7 @@ pub struct Firing {
 /// # Errors
 ///
 /// `NotLowered` with the offset of the first part for which no code is made, as
-/// [`lower_locals`](crate::lower_locals), [`lower_calling_stmts`](stmt_lower::lower_calling_stmts) and
+/// [`lower_locals`](crate::lower_locals), [`lower_calling_stmts`](lower_stmt::lower_calling_stmts) and
 /// [`lower_outputs`](crate::lower_outputs) say (`fault`). `TooLong` if the draft has 2 to the power of 32 instructions.
 /// `TooManyCells` if the numbers of the cells that are used don't fit. `Memory` if memory runs out.
 pub fn lower_firing(

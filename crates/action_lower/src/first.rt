@@ -4,7 +4,7 @@ ghost use Rattle.std.specs.Prelude.{◌≡◌, ◌++◌, IfOk, OnOk, length};
 ghost use Rattle.cal_model.specs.Selection.{start_of};
 ghost use Rattle.cal_model.specs.Sound.{IsSound};
 ghost use Rattle.cal_model.specs.View.{actor_of, value_view, values_view};
-ghost use Rattle.expr_lower.specs.Flat.{flat, flat_all};
+ghost use Rattle.lower_base.specs.Flat.{flat, flat_all};
 ghost use Rattle.action_lower.specs.Seats.{HoldVars, numbers_of_vars, state_cells};
 
 use cal_model::{Bound, Value, Values};

@@ -4,10 +4,10 @@ ghost use Rattle.std.specs.Prelude.{◌≡◌, ◌<◌, ◌≤◌, IfErr, IfOk, 
 ghost use Rattle.cal_ast.specs.View.{expr_tree};
 ghost use Rattle.cal_model.specs.Sound.{IsSound};
 ghost use Rattle.cal_model.specs.View.{actor_of};
-ghost use Rattle.expr_lower.specs.Callees.{functions_view};
-ghost use Rattle.expr_lower.specs.Held.{AreBelow};
-ghost use Rattle.expr_lower.specs.Names.{names_view};
-ghost use Rattle.expr_lower.specs.Words.{IsFaultWith, IsWholeWith};
+ghost use Rattle.lower_base.specs.Callees.{functions_view};
+ghost use Rattle.lower_base.specs.Held.{AreBelow};
+ghost use Rattle.lower_base.specs.Names.{names_view};
+ghost use Rattle.lower_base.specs.Words.{IsFaultWith, IsWholeWith};
 ghost use Rattle.action_lower.specs.GuardWords.{AddsGuardCode, AddsGuardOver, AddsGuards, AddsGuardsOver, AnswerAsGuards};
 ghost use Rattle.action_lower.specs.GuardWords.{AreWholeGuards, ClearsBehind, ClearsWithin, IsActionFault, IsGuardsFault, IsWholeAction, SetsZero};
 ghost use Rattle.action_lower.specs.Seats.{state_cells};
@@ -16,8 +16,8 @@ use crate::seats::seen_names;
 use cal_ast::Expr;
 use cal_model::{Bound, actions_fire_or_trap};
 use code_ir::Instr;
-use expr_lower::{Callee, Draft, LowerFault, Named, next_place, put};
-use list_lower::lower_calling;
+use expr_lower::lower_calling;
+use lower_base::{Callee, Draft, LowerFault, Named, next_place, put};
 use std::alloc::Global;
 
 /// Appends the code of the guards of an action, one after the other: for each that of its expression, and an answer.
@@ -33,7 +33,7 @@ use std::alloc::Global;
 /// # Errors
 ///
 /// `NotLowered` with the offset of the first part of a guard for which no code is made, as
-/// [`lower_calling`](list_lower::lower_calling) says (`fault`). `TooLong` if the draft has 2 to the power of 32
+/// [`lower_calling`](lower_base::lower_calling) says (`fault`). `TooLong` if the draft has 2 to the power of 32
 /// instructions. `Memory` if memory runs out.
 pub fn lower_guards(
     alloc: Global,

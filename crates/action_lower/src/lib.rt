@@ -1,5 +1,7 @@
-//! Actions as code: the guards of an action become code that answers as they do, and its locals, its body and its outputs
-//! code that does what the firing does.
+//! Actions as code: guards that answer, and firings that do what the source says.
+//!
+//! The guards of an action become code that answers as they do, and its locals, its body and its outputs code that does
+//! what the firing does.
 //!
 //! A name that an action sees stands for a value in cells or tokens. The actor's variables stand in its state cells,
 //! from cell 0 on, one after the other and scalar by scalar. A pattern variable stands in the tokens of its port: that

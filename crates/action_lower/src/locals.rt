@@ -1,14 +1,14 @@
 //! The locals of an action as code.
 
 ghost use Rattle.std.specs.Prelude.{◌≡◌, ◌∷◌, [], IfErr, OnOk};
-ghost use Rattle.expr_lower.specs.declared.fault.LowerFault.TheVariants.{Memory};
+ghost use Rattle.lower_base.specs.declared.fault.LowerFault.TheVariants.{Memory};
 ghost use Rattle.action_lower.specs.LocalCode.{AddsLocals, AreWholeLocals, IsLocalFault, IsLocalsFault, IsWholeLocal};
 ghost use Rattle.action_lower.specs.LocalWords.{IsInFront, IsInFrontAt};
 
 use crate::shapes::copy_shape;
 use cal_model::BoundLocal;
-use expr_lower::{Callee, Draft, LowerFault, Named, Scope, Seat};
-use stmt_lower::start_local;
+use lower_base::{Callee, Draft, LowerFault, Named, Scope, Seat};
+use lower_stmt::start_local;
 
 /// Appends the code of locals, one after the other, and puts the name of each in front of `names`.
 ///

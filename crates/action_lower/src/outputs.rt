@@ -4,8 +4,8 @@ ghost use Rattle.std.specs.Prelude.{◌≡◌, ◌+◌, ◌≤◌, ◌^◌, IfEr
 ghost use Rattle.cal_ast.specs.View.{expr_tree};
 ghost use Rattle.cal_model.specs.Sound.{Each, max_rate};
 ghost use Rattle.cal_model.specs.View.{shape_view};
-ghost use Rattle.expr_lower.specs.declared.fault.LowerFault.TheVariants.{TooManyCells};
-ghost use Rattle.expr_lower.specs.Words.{IsFaultWith, IsWholeWith};
+ghost use Rattle.lower_base.specs.declared.fault.LowerFault.TheVariants.{TooManyCells};
+ghost use Rattle.lower_base.specs.Words.{IsFaultWith, IsWholeWith};
 ghost use Rattle.action_lower.specs.OutputWords.{AddsListOver, AddsListsOver, AddsOutputOver, AddsOutputsOver, AddsSentOver};
 ghost use Rattle.action_lower.specs.OutputWords.{AddsValueOver, AddsValuesOver, AreWholeLists, AreWholeOutputs, AreWholeRepeated};
 ghost use Rattle.action_lower.specs.OutputWords.{AreWholeValues, IsListFault, IsListsFault, IsOutputFault, IsOutputsFault};
@@ -19,11 +19,11 @@ use crate::turns::{put_turns, take_area};
 use cal_ast::Expr;
 use cal_model::{BoundOutput, Port, Shape};
 use code_ir::Instr;
-use expr_lower::{Callee, Draft, LowerFault, Named, Scope, put};
-use list_lower::{fill, fill_all, lower};
+use expr_lower::{fill, fill_all, lower};
+use lower_base::{Callee, Draft, LowerFault, Named, Scope, put};
+use lower_stmt::take_list;
 use rvc_base::Scalar;
 use std::alloc::Global;
-use stmt_lower::take_list;
 
 /// Appends the code of outputs, one after the other. The first cell of each comes back.
 ///
@@ -35,7 +35,7 @@ use stmt_lower::take_list;
 /// # Errors
 ///
 /// `NotLowered` with the offset of the first part for which no code is made: such a part of a value, as
-/// [`lower_calling`](list_lower::lower_calling) or, of a list that is repeated, [`lower_list`](list_lower::lower_list)
+/// [`lower_calling`](lower_base::lower_calling) or, of a list that is repeated, [`lower_list`](lower_base::lower_list)
 /// says. `TooLong` if the draft has 2 to the power of 32 instructions. `TooManyCells` if it has so many cells that those
 /// of an output don't fit. `Memory` if memory runs out.
 pub fn lower_outputs(

@@ -6,13 +6,13 @@ ghost use Rattle.cal_model.specs.Rates.{taken_on};
 ghost use Rattle.cal_model.specs.Sound.{Each, IsAction, IsSound, max_rate, max_variable_scalars, scalars_of_vars};
 ghost use Rattle.cal_model.specs.Value.{IsOf, IsType};
 ghost use Rattle.cal_model.specs.View.{action_view, actor_of, pattern_view, port_view, var_view};
-ghost use Rattle.expr_lower.specs.Names.{name_view, names_view};
+ghost use Rattle.lower_base.specs.Names.{name_view, names_view};
 ghost use Rattle.action_lower.specs.FiringCode.{globals_of};
 ghost use Rattle.action_lower.specs.Seats.{pattern_seat, pattern_seats, pattern_seats_from, seen_seats, var_seat, var_seats};
 
 use crate::shapes::{copy_shape, pattern_shape, scalars};
 use cal_model::{Bound, BoundAction, BoundPattern, BoundVar, Port};
-use expr_lower::{Named, Seat};
+use lower_base::{Named, Seat};
 use rvc_base::Scalar;
 use std::alloc::{AllocError, Global};
 

@@ -2,14 +2,14 @@
 
 ghost use Rattle.std.specs.Prelude.{◌≡◌, ◌+◌, ◌*◌, ◌<◌, ◌≤◌, ◌^◌, IfErr, IfOk, IfSome, OnOk};
 ghost use Rattle.cal_model.specs.View.{shape_view};
-ghost use Rattle.expr_lower.specs.declared.fault.LowerFault.TheVariants.{Memory, TooManyCells};
-ghost use Rattle.expr_lower.specs.Lowered.{IsPut};
+ghost use Rattle.lower_base.specs.declared.fault.LowerFault.TheVariants.{Memory, TooManyCells};
+ghost use Rattle.lower_base.specs.Lowered.{IsPut};
 ghost use Rattle.action_lower.specs.Sending.{item_stores, turn_stores};
 ghost use Rattle.action_lower.specs.SendWords.{HasArea, IsArea};
 
 use cal_model::Shape;
 use code_ir::Instr;
-use expr_lower::{Draft, LowerFault, put, scalars};
+use lower_base::{Draft, LowerFault, put, scalars};
 use rvc_base::Scalar;
 
 /// The cells of what lists send, those of the lists behind them, one list behind the other, the cell behind all of these,

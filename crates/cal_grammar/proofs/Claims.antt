@@ -1,13 +1,13 @@
 -- Whatever is spelled is read: the claims.
 use Rattle.std.proofs.Common.{◌≡◌, ℕ, suc, true, false, List, refl, ◌∙◌, arith}
-use Rattle.look_ahead.specs.Program.{Gave, ahead}
+use Rattle.cal_grammar.specs.Program.{Gave, ahead}
 use Rattle.cal_ast.specs.Tree.{Tree}
 use Rattle.cal_lexer.specs.Lexeme.{Lexeme, Placed}
 use Rattle.cal_grammar.specs.Token.{here, same_word}
 use Rattle.cal_grammar.specs.Spells.{Part, level, a_postfix, a_primary, a_labelled, a_member}
 use Rattle.cal_grammar.specs.Rules
 use Rattle.cal_grammar.specs.Rules.{Rule, part, chain, places, type_tail, var_tail, whole, Step, size, rule_rank, rank, starts, on, expect, named, finish, ident_of, part_body, body}
-use Rattle.look_ahead.specs.Program.{exec}
+use Rattle.cal_grammar.specs.Program.{exec}
 use Rattle.cal_grammar.specs.Rules.{read}
 use Rattle.cal_grammar.proofs.Reading.{read_is}
 use Rattle.cal_grammar.proofs.Follow

@@ -1,6 +1,6 @@
 -- Whatever is spelled is read.
 use Rattle.std.proofs.Common.{◌≡◌, ℕ, suc, ◌-◌, ◌≤◌, Bool, true, false, List, ◌∷◌, not, refl, sym, ap, ◌∙◌, arith}
-use Rattle.look_ahead.specs.Program.{Outcome, give, fail, ask, take, check, invoke, enter, Gave, Refused, TooHigh, Spent, ahead}
+use Rattle.cal_grammar.specs.Program.{Outcome, give, fail, ask, take, check, invoke, enter, Gave, Refused, TooHigh, Spent, ahead}
 use Rattle.cal_ast.specs.Tree.{Tree, absent, present, nil, cons, ident, actor, unit, param, function, procedure, action, schedule, priority, while_stmt, foreach_stmt, block, if_expr, list, comp, index, binary}
 use Rattle.cal_lexer.specs.Lexeme.{Lexeme, Placed, placed}
 use Rattle.cal_grammar.specs.Token.{here, same_word}
@@ -11,7 +11,7 @@ use Rattle.cal_grammar.specs.Rules.{part, chain, places, type_tail, var_tail, st
 use Rattle.cal_grammar.proofs.Costs.{height-group_any, height-inside, height-with_tag, height-onto, height-import_at, height-with_package}
 use Rattle.std.proofs.Common.{nat_le}
 use Rattle.std.proofs.lemmas.Bool.{le-leb, eq-eqb}
-use Rattle.look_ahead.specs.Program.{exec, after}
+use Rattle.cal_grammar.specs.Program.{exec, after}
 use Rattle.cal_grammar.specs.Rules.{read, at_level, goes_on_tag, goes_on_type, starts_member, starts_stmt}
 use Rattle.cal_grammar.proofs.Follow
 use Rattle.cal_grammar.proofs.Reading.{read_is}

@@ -1,7 +1,7 @@
 -- What may follow a part, and with what a part begins.
 use Rattle.std.proofs.Common.{◌≡◌, ℕ, zero, suc, ◌≤◌, Bool, true, false, List, Option, None, Some, not, ◌&&◌, ◌||◌, nat_lt, refl, ap, ◌∙◌, arith}
 use Rattle.std.proofs.lemmas.Bool.{eqb-true}
-use Rattle.look_ahead.specs.Program.{ahead}
+use Rattle.cal_grammar.specs.Program.{ahead}
 use Rattle.cal_ast.specs.Tree.{Tree}
 use Rattle.cal_lexer.specs.Lexeme.{Lexeme, Placed, placed}
 use Rattle.cal_grammar.specs.Token.{here, names, same_word, kind_of}

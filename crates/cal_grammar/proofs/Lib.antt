@@ -10,3 +10,8 @@ pub mod Claims
 pub mod Complete
 pub mod Whole
 pub mod Rows
+pub mod Gets
+pub mod Ending
+pub mod Frames
+pub mod Looser
+pub mod Refusals

@@ -1,7 +1,7 @@
 -- What each rule keeps to, and how that is shown of a program step by step.
 use Rattle.std.proofs.Common.{◌≡◌, ℕ, suc, ◌+◌, ◌-◌, ◌*◌, ◌<◌, ◌≤◌, Bool, true, false, List, [], ◌∷◌, length, Option, refl, sym, subst, arith}
-use Rattle.look_ahead.specs.Program.{Outcome, give, fail, ask, take, check, jump, invoke, enter, Gave, Refused, TooHigh, Spent, ahead}
-use Rattle.look_ahead.proofs.Gets.{Gets}
+use Rattle.cal_grammar.specs.Program.{Outcome, give, fail, ask, take, check, jump, invoke, enter, Gave, Refused, TooHigh, Spent, ahead}
+use Rattle.cal_grammar.proofs.Gets.{Gets}
 use Rattle.cal_ast.specs.Tree.{Tree}
 use Rattle.cal_lexer.specs.Lexeme.{Lexeme, Placed, placed}
 use Rattle.cal_grammar.specs.Token.{here, names, counts, same_word}

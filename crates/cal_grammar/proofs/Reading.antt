@@ -1,8 +1,8 @@
 -- The reader: reading a rule is running its program, and what is read keeps to the rule.
 use Rattle.std.proofs.Common.{◌≡◌, ℕ, ◌<◌, List}
-use Rattle.look_ahead.specs.Program.{exec}
-use Rattle.look_ahead.proofs.Gets.{Gets}
-use Rattle.look_ahead.proofs.Ending
+use Rattle.cal_grammar.specs.Program.{exec}
+use Rattle.cal_grammar.proofs.Gets.{Gets}
+use Rattle.cal_grammar.proofs.Ending
 use Rattle.cal_lexer.specs.Lexeme.{Placed}
 use Rattle.cal_grammar.specs.Spells.{Part, separated, rest, any, repeated, level, a_postfix, a_primary, a_gen, a_type, a_type_arg, a_var, some_vars, a_param, a_port, a_name, a_tag, a_place, a_stmt, otherwise, a_function, a_procedure, some_guards, some_repeat, a_body, an_in, an_out, an_action, a_labelled, a_move, a_schedule, a_chain, a_priority, a_member, members, a_unit_member, a_path, an_import, an_actor, a_unit, some_imports, a_file}
 use Rattle.cal_grammar.specs.Rules.{Rule, part, chain, places, type_tail, var_tail, whole, size, body, read}

@@ -1,6 +1,6 @@
 -- Small sources, as the definitions have them: worked examples that are computed.
 use Rattle.std.proofs.Common.{◌≡◌, ℕ, zero, suc, List, [], ◌∷◌, codes, length, ◌+◌, refl}
-use Rattle.look_ahead.specs.Program.{Outcome, Gave, Refused, TooHigh, Spent, read as read_rules}
+use Rattle.cal_grammar.specs.Program.{Outcome, Gave, Refused, TooHigh, Spent, read as read_rules}
 use Rattle.cal_ast.specs.Tree.{Tree, absent, present, nil, cons, number, variable, paren, binary, if_stmt}
 use Rattle.cal_ast.specs.declared.expr.BinOp.TheVariants as binaries
 use Rattle.cal_lexer.specs.Lexeme.{Lexeme, Placed, placed}

@@ -1,7 +1,7 @@
 -- Lists, expressions and types: what their rules keep to.
 use Rattle.std.proofs.Common.{◌≡◌, ℕ, zero, suc, ◌<◌, ◌≤◌, true, List, ◌∷◌, length, Option, None, Some, refl, arith}
 use Rattle.std.proofs.lemmas.Bool.{eqb-true}
-use Rattle.look_ahead.specs.Program.{ahead}
+use Rattle.cal_grammar.specs.Program.{ahead}
 use Rattle.cal_ast.specs.Tree.{Tree}
 use Rattle.cal_lexer.specs.Lexeme.{Lexeme, Placed, placed}
 use Rattle.cal_grammar.specs.Token.{here, names, counts, same_word}

@@ -1,6 +1,6 @@
 -- Members and files: what their rules keep to.
 use Rattle.std.proofs.Common.{◌≡◌, ℕ, suc, ◌+◌, ◌*◌, ◌<◌, ◌≤◌, Bool, true, false, List, [], ◌∷◌, length, refl, subst, arith}
-use Rattle.look_ahead.specs.Program.{give, invoke, ahead}
+use Rattle.cal_grammar.specs.Program.{give, invoke, ahead}
 use Rattle.cal_ast.specs.Tree.{Tree, absent, nil, cons, ident, tag, action}
 use Rattle.cal_lexer.specs.Lexeme.{Lexeme, Placed, placed}
 use Rattle.cal_grammar.specs.Operators.{ends, onto, height}

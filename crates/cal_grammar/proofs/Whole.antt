@@ -1,7 +1,7 @@
 -- A whole file: what its reading says.
 use Rattle.std.proofs.Common.{◌≡◌, ℕ, ◌≤◌, List, [], refl}
-use Rattle.look_ahead.specs.Program.{Gave, Refused, TooHigh, exec}
-use Rattle.look_ahead.proofs.Refusals as refusals
+use Rattle.cal_grammar.specs.Program.{Gave, Refused, TooHigh, exec}
+use Rattle.cal_grammar.proofs.Refusals as refusals
 use Rattle.cal_ast.specs.Tree.{Tree}
 use Rattle.cal_lexer.specs.Lexeme.{Placed}
 use Rattle.cal_grammar.specs.Operators.{height, max_height}

@@ -5,7 +5,7 @@ use Rattle.rvc_base.specs.Rules.{spells_no_file, too_high}
 use Rattle.rvc_base.specs.declared.refusal.Rule.{Rule}
 use Rattle.rvc_base.specs.declared.refusal.Front.{Front as Answer}
 use Rattle.rvc_base.specs.declared.refusal.Front.TheVariants.{Refused, Memory}
-use Rattle.look_ahead.specs.Reading.{IsRefused, IsTooHigh}
+use Rattle.cal_grammar.specs.Reading.{IsRefused, IsTooHigh}
 use Rattle.cal_lexer.specs.Lexeme.{Placed}
 use Rattle.cal_grammar.specs.Operators.{height, max_height}
 use Rattle.cal_grammar.specs.Spells.{spells}

@@ -2,7 +2,7 @@
 use Rattle.std.proofs.Common.{◌≡◌, ℕ, ◌≤◌, List, [], ◌∷◌, refl, sym, subst, ap, ◌∙◌, arith}
 use Rattle.rvc_base.specs.declared.refusal.Front.{Front as Answer}
 use Rattle.rvc_base.specs.declared.refusal.Front.TheVariants.{Memory}
-use Rattle.look_ahead.specs.Program.{Gave, Refused, TooHigh}
+use Rattle.cal_grammar.specs.Program.{Gave, Refused, TooHigh}
 use Rattle.cal_ast.specs.Tree.{Tree}
 use Rattle.cal_lexer.specs.Lexeme.{Placed, plain_tokens}
 use Rattle.cal_lexer.specs.declared.token.Token.{Token}
@@ -10,9 +10,9 @@ use Rattle.cal_grammar.specs.Operators.{height, max_height}
 use Rattle.rvc_base.specs.Rules.{spells_no_file, too_high}
 use Rattle.cal_grammar.specs.Refusals.{Breaks, breaks_off, grows_high, IsRightly, place_in}
 use Rattle.cal_parser.specs.Answers.{answer_of}
-use Rattle.cal_cursor.specs.Tells.{TellsFault}
-use Rattle.cal_cursor.specs.declared.fault.Fault.{Fault}
-use Rattle.cal_cursor.specs.declared.fault.Fault.TheVariants as faults
+use Rattle.cal_parse_base.specs.Tells.{TellsFault}
+use Rattle.cal_parse_base.specs.declared.fault.Fault.{Fault}
+use Rattle.cal_parse_base.specs.declared.fault.Fault.TheVariants as faults
 use Rattle.cal_grammar.specs.Rules.{whole, read}
 use Rattle.cal_grammar.specs.Spells.{spells}
 use Rattle.cal_grammar.proofs.Meets.{MeetsWhole, IsFar}

@@ -1,21 +1,21 @@
 -- What follows the first name of an import, read one name after the other.
 use Rattle.std.proofs.Common.{◌≡◌, ℕ, true, false, List, [], ◌∷◌, ◌++◌, map, string_bytes, Err, refl, ap, ◌∙◌, sym}
 use Rattle.std.proofs.lemmas.List.{map-append}
-use Rattle.look_ahead.specs.Program.{Outcome, Gave, Refused, TooHigh, Spent, ahead, exec, after}
+use Rattle.cal_grammar.specs.Program.{Outcome, Gave, Refused, TooHigh, Spent, ahead, exec, after}
 use Rattle.cal_ast.specs.Tree.{Tree, absent, present, nil, ident, import_part, listed}
 use Rattle.cal_ast.specs.View.{ident_tree}
 use Rattle.cal_ast.specs.declared.ident.Ident.{Ident}
 use Rattle.cal_lexer.specs.Lexeme.{Lexeme, Placed, placed, plain_tokens}
 use Rattle.cal_lexer.specs.declared.token.Token.{Token}
-use Rattle.cal_cursor.specs.Cursor.{stands, Took, TookName, TookWord}
+use Rattle.cal_parse_base.specs.Cursor.{stands, Took, TookName, TookWord}
 use Rattle.cal_parser.specs.ImportPath.{behind, path_behind, IsPathSoFar}
 use Rattle.cal_grammar.specs.Operators.{onto}
 use Rattle.cal_grammar.specs.Spells.{a_path}
 use Rattle.cal_grammar.specs.Token.{here, names, same_word}
 use Rattle.cal_grammar.specs.Rules.{part, read}
-use Rattle.cal_cursor.specs.Tells.{TellsFault}
-use Rattle.cal_cursor.specs.declared.fault.Fault.{Fault}
-use Rattle.cal_cursor.specs.declared.fault.Fault.TheVariants as faults
+use Rattle.cal_parse_base.specs.Tells.{TellsFault}
+use Rattle.cal_parse_base.specs.declared.fault.Fault.{Fault}
+use Rattle.cal_parse_base.specs.declared.fault.Fault.TheVariants as faults
 use Rattle.cal_grammar.proofs.Reading.{read_is}
 
 -- names in front of the last name or of `*`

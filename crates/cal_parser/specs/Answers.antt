@@ -4,8 +4,8 @@ use Rattle.std.specs.Prelude.{ℕ}
 use Rattle.rvc_base.specs.Rules.{spells_no_file, too_high}
 use Rattle.rvc_base.specs.declared.refusal.Front.{Front as Answer}
 use Rattle.rvc_base.specs.declared.refusal.Front.TheVariants.{Refused, Memory}
-use Rattle.cal_cursor.specs.declared.fault.Fault.{Fault}
-use Rattle.cal_cursor.specs.declared.fault.Fault.TheVariants as faults
+use Rattle.cal_parse_base.specs.declared.fault.Fault.{Fault}
+use Rattle.cal_parse_base.specs.declared.fault.Fault.TheVariants as faults
 
 -- the answer if a file isn't read, for this reason at this offset
 abbrev pub answer_of : Fault → ℕ → ℕ → Answer

@@ -1,13 +1,13 @@
 -- Parts of files: what follows the first name of an import, and what follows the imports.
 -- Not trusted: no promise is read with it.
 use Rattle.std.specs.Prelude.{◌≡◌, ℕ, List, [], ◌∷◌, map, option_map, cond}
-use Rattle.look_ahead.specs.Program.{Outcome, Gave, Refused, TooHigh, Spent}
+use Rattle.cal_grammar.specs.Program.{Outcome, Gave, Refused, TooHigh, Spent}
 use Rattle.cal_ast.specs.Tree.{Tree, import_part, listed}
 use Rattle.cal_ast.specs.View.{ident_tree, optional}
 use Rattle.cal_lexer.specs.Lexeme.{Lexeme, Placed, plain_tokens}
 use Rattle.cal_lexer.specs.declared.token.Token.{Token}
 use Rattle.cal_parser.specs.declared.files.Path.{Path}
-use Rattle.cal_cursor.specs.Cursor.{stands}
+use Rattle.cal_parse_base.specs.Cursor.{stands}
 use Rattle.cal_grammar.specs.Operators.{onto}
 use Rattle.cal_grammar.specs.Rules.{part, read}
 use Rattle.cal_grammar.specs.Spells.{Part, a_path, an_actor, a_unit}

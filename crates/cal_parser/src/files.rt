@@ -1,7 +1,7 @@
 //! Files: their package, their imports, and the actor or unit that they declare.
 
 ghost use Rattle.std.specs.Prelude.{◌≡◌, map};
-ghost use Rattle.look_ahead.specs.Program.{ahead};
+ghost use Rattle.cal_grammar.specs.Program.{ahead};
 ghost use Rattle.cal_ast.specs.Tree.{listed};
 ghost use Rattle.cal_ast.specs.View.{actor_tree, file_body_tree, file_tree, import_tree, unit_tree};
 ghost use Rattle.cal_grammar.specs.Operators.{first_place};
@@ -9,16 +9,16 @@ ghost use Rattle.cal_lexer.specs.Lexeme.{plain_tokens};
 ghost use Rattle.cal_parser.specs.ImportPath.{body_part, path_tree};
 ghost use Rattle.cal_grammar.specs.Rules.{at_end, part, whole as a_whole_file};
 ghost use Rattle.cal_grammar.specs.Spells.{a_file, a_path, a_unit, an_actor, an_import, some_imports};
-ghost use Rattle.cal_cursor.specs.Tells.{Tells};
+ghost use Rattle.cal_parse_base.specs.Tells.{Tells};
 
 use cal_ast::{Actor, Body, File, Ident, Import, UnitFile};
-use cal_cursor::cursor::{expect, finish, is_word, name, take_word};
-use cal_cursor::fault::Fault;
 use cal_lexer::{Token, Word};
-use cal_member::members::{UnitMemberPart, members};
-use cal_stmt::decls::{params, ports};
-use cal_stmt::lists::{Read, repeated};
-use cal_stmt::names::tag;
+use cal_parse_base::cursor::{expect, finish, is_word, name, take_word};
+use cal_parse_base::fault::Fault;
+use cal_parse_member::members::{UnitMemberPart, members};
+use cal_parse_stmt::decls::{params, ports};
+use cal_parse_stmt::lists::{Read, repeated};
+use cal_parse_stmt::names::tag;
 use std::alloc::Global;
 
 /// What follows the first name of an import.

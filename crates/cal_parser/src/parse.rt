@@ -11,8 +11,8 @@ ghost use Rattle.cal_grammar.specs.Spells.{spells};
 
 use crate::files::whole;
 use cal_ast::File;
-use cal_cursor::fault::Fault;
 use cal_lexer::Token;
+use cal_parse_base::fault::Fault;
 use rvc_base::{Front, Place, Refusal, Rule};
 use std::alloc::Global;
 

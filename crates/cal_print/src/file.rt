@@ -4,15 +4,15 @@ ghost use Rattle.std.specs.Prelude.{◌≡◌, IfOk, map, option_map};
 ghost use Rattle.cal_ast.specs.Tree.{listed};
 ghost use Rattle.cal_ast.specs.View.{actor_tree, file_body_tree, file_tree, ident_tree, import_tree, optional, tag_tree, unit_tree};
 ghost use Rattle.cal_print.specs.Canon.{canon};
-ghost use Rattle.member_print.specs.Tokens.{words, dotted, last_name, packaged};
-ghost use Rattle.member_print.specs.Writes.{Writes};
+ghost use Rattle.cal_print.specs.Tokens.{words, dotted, last_name, packaged};
+ghost use Rattle.cal_print.specs.Writes.{Writes};
 
+use crate::member::print_members;
+use crate::name::{print_ident, print_tag};
+use crate::part::print_joined;
+use crate::writer::Writer;
 use cal_ast::{Actor, Body, File, Ident, Import, Tag, UnitFile};
 use cal_lexer::Word;
-use member_print::member::print_members;
-use member_print::name::{print_ident, print_tag};
-use member_print::part::print_joined;
-use member_print::writer::Writer;
 use rvc_base::Memory;
 use std::alloc::Global;
 

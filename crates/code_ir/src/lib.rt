@@ -1,4 +1,6 @@
-//! Code of actors: instructions, what running them means, and the test that code must pass before it runs.
+//! Code of actors: instructions, what they do, and the test before code runs.
+//!
+//! Instructions, what running them means, and the test that code must pass before it runs.
 #![tactic(auto)]
 
 mod admission;

@@ -1,7 +1,9 @@
+//! What constant expressions are judged and evaluated over: names with values, and functions.
+//!
 //! What constant expressions are judged and evaluated over, and what is done with their values and kinds one by one.
 //!
-//! An environment ([`Env`]) holds constants and functions; [`Names`] are these with what is declared round an expression.
-//! Above it the crate `expr_eval` goes through expressions, and `const_eval` has what callers use.
+//! An environment ([`Env`]) holds constants and functions; [`Names`] are these with what is declared round an
+//! expression. Above it the crate `const_expr` goes through expressions, and `const_eval` has what callers use.
 #![tactic(auto)]
 
 mod env;

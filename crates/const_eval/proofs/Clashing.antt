@@ -12,7 +12,7 @@ use Rattle.cal_model.specs.Kinding.{Known, known_as}
 use Rattle.cal_model.specs.Laws.{KindIsKept}
 use Rattle.cal_model.specs.Sound.{Each}
 use Rattle.const_env.specs.Constants.{Constant, Constants, known_of, var_of}
-use Rattle.expr_eval.specs.Evaluable.{IsEvaluable, IsOfOneKind, env_of, names_with, value_of}
+use Rattle.const_expr.specs.Evaluable.{IsEvaluable, IsOfOneKind, env_of, names_with, value_of}
 
 same : {v w : Value} → Some v ≡ Some w → v ≡ w
 same e = cc

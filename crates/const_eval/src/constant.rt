@@ -9,14 +9,14 @@ ghost use Rattle.cal_model.specs.Kinding.{Broken, Fine, kind};
 ghost use Rattle.cal_model.specs.Outcome.{Clashes, Gives, Lacks, Traps};
 ghost use Rattle.cal_model.specs.View.{kind_view, value_view};
 ghost use Rattle.const_env.specs.Constants.{Constants};
-ghost use Rattle.expr_eval.specs.Evaluable.{HasNoValue, IsEvaluable, value_of};
+ghost use Rattle.const_expr.specs.Evaluable.{HasNoValue, IsEvaluable, value_of};
 ghost use Rattle.const_env.specs.Held.{held, names_in};
 
 use crate::ending::eval_to_end;
 use cal_ast::Expr;
 use cal_model::{Kind, Value, kinds_are_kept};
 use const_env::{Env, KindFault, Names, Stop};
-use expr_eval::kind;
+use const_expr::kind;
 use rvc_base::Trap;
 use std::alloc::Global;
 

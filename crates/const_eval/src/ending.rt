@@ -4,15 +4,15 @@ ghost use Rattle.std.specs.Prelude.{◌≡◌, ℕ, IfErr, IfOk};
 ghost use Rattle.cal_ast.specs.View.{expr_tree};
 ghost use Rattle.cal_model.specs.Outcome.{Gives};
 ghost use Rattle.cal_model.specs.View.{value_view};
-ghost use Rattle.expr_eval.specs.Evaluable.{value_of};
+ghost use Rattle.const_expr.specs.Evaluable.{value_of};
 ghost use Rattle.const_env.specs.Held.{held};
 ghost use Rattle.const_env.specs.Outcome.{Stops};
 
 use cal_ast::Expr;
 use cal_model::Value;
 use const_env::{Env, Stop};
-use expr_eval::scope::Scope;
-use expr_eval::{all_turns, eval};
+use const_expr::scope::Scope;
+use const_expr::{all_turns, eval};
 use std::alloc::Global;
 
 /// What the evaluation of an expression over the constants and functions of the environment ends with (ISO/IEC 23001-4,

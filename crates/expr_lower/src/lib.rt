@@ -1,33 +1,34 @@
-//! What code for expressions and functions is made of, and what it does: what evaluating an expression or calling a
-//! function does.
+//! Code for expressions and functions.
 //!
-//! Code is appended to a [`Draft`]. Names stand for cells or tokens that hold their values, number by number. Of
-//! expressions without parts code is made here; the crate `list_lower` makes that of all others and of functions, and
-//! `stmt_lower` that of statements, over what is public here.
+//! Instructions that push the single value, or fill cells with the list, that evaluating an expression gives, and
+//! routines that do what calling a function does.
+//!
+//! It stands on [`lower_base`], which says what such code does, and makes that of expressions without parts. Code is
+//! appended to a [`Draft`](lower_base::Draft).
 #![tactic(auto)]
 
-mod callees;
-mod draft;
+mod apart;
+mod bounds;
+mod counting;
 mod exprs;
-mod fault;
+mod fixed;
+mod generators;
+mod indexes;
 pub mod laws;
-mod names;
-mod operators;
-mod parts;
-mod scope;
+mod lists;
+mod meanings;
+mod routines;
 mod sizes;
-mod sorts;
+mod starts;
+mod taking;
+mod truths;
+mod types;
 
-pub use callees::{Callee, Formal, function_for, put_call, put_formals};
-pub use draft::{Draft, next_place, put, put_all, put_const, take_cell};
-pub use exprs::{close, link, number, truth, variable, whole_offset};
-pub use fault::LowerFault;
-pub use names::{
-    ItemList, Named, OneCell, OneSeat, Seat, list_called, list_named, one_named, shape_called,
-    single,
-};
-pub use operators::{binary_instr, item_instr, negative, prefix_instr};
-pub use parts::{Part, Rows, deep_item_named, part_named, rows_named, scalars, whole_called};
-pub use scope::{Frame, Scope};
-pub use sizes::type_size;
-pub use sorts::Sort;
+pub use bounds::bound_of;
+pub use exprs::{lower, lower_args, lower_calling, lower_expr, lower_test, offset};
+pub use lists::{fill, fill_all, lower_list};
+pub use meanings::shape_meant;
+pub use routines::{lower_function, take_formals};
+pub use sizes::alike;
+pub use starts::{Row, leaf_of, start, start_list, start_local, take_list};
+pub use types::single_meant;

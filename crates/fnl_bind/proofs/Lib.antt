@@ -4,3 +4,4 @@ pub mod Counted
 pub mod InOrder
 pub mod Told
 mod Conforming
+pub mod Found

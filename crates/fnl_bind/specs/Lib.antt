@@ -5,3 +5,4 @@ pub mod Networks
 pub mod Trees
 pub mod Answers
 pub mod Sound
+pub mod View

@@ -1,8 +1,8 @@
-//! Expressions of network files: what the attributes of an element give, and how a row of operands
-//! and operators is grouped.
+//! Expressions of network files, from elements and rows of operands.
 //!
-//! A text, a literal or an operator is given by attributes. What elements make of them is
-//! `fnl_read`'s.
+//! What the attributes of an element give, and how a row of operands and operators is grouped.
+//!
+//! A text, a literal or an operator is given by attributes. What elements make of them is `fnl_read`'s.
 #![tactic(auto)]
 
 mod attributes;

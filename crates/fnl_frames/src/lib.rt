@@ -1,5 +1,7 @@
-//! Elements of a network file that are open: what was read of each, which elements may come next in
-//! it, and what becomes of it where one inside it ends.
+//! Open elements of a network file: what was read of each, and what may come next.
+//!
+//! Elements of a network file that are open: what was read of each, which elements may come next in it, and what
+//! becomes of it where one inside it ends.
 //!
 //! What tags bring is `fnl_read`'s; the networks that are read are given on by it too.
 #![tactic(auto)]

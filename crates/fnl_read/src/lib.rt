@@ -1,8 +1,9 @@
-//! The reader of networks: from the bytes of a file to what it declares, its instances and its
-//! connections.
+//! The reader of networks: from the bytes of a file to what it declares.
 //!
-//! The markup is read by `fnl_markup`. The elements are read here, one tag at a time, with what is
-//! open on a stack: no call goes deeper where a source does.
+//! From the bytes of a file to what it declares, its instances and its connections.
+//!
+//! The markup is read by `fnl_markup`. The elements are read here, one tag at a time, with what is open on a stack: no
+//! call goes deeper where a source does.
 #![tactic(auto)]
 
 mod closing;

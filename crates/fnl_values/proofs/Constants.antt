@@ -21,13 +21,13 @@ use Rattle.cal_model.specs.declared.value.Value.{Value as DeclaredValue}
 use Rattle.cal_model.proofs.KindNames.{find-constant}
 use Rattle.cal_model.proofs.KindLaws.{kind-kept}
 use Rattle.const_env.specs.Constants.{Constant, constants_among, other_constants, var_of}
-use Rattle.expr_eval.specs.Evaluable.{HasNoValue, value_of}
+use Rattle.const_expr.specs.Evaluable.{HasNoValue, value_of}
 use Rattle.const_env.specs.Held.{Kept, globals_of, held, names_in}
 use Rattle.const_env.specs.Judging.{Breaks, Judges}
 use Rattle.const_env.specs.declared.fault.KindFault.{KindFault}
 use Rattle.const_env.specs.declared.fault.KindFault.TheVariants as fault
 use Rattle.cal_check.specs.Constants.{has_kind}
-use Rattle.typed_values.proofs.Kept.{test_passes}
+use Rattle.check_values.proofs.Kept.{test_passes}
 use Rattle.fnl_bind.specs.Values.{value_of_kind, value_judged}
 use Rattle.fnl_values.specs.Judging.{outcome_judged}
 use Rattle.fnl_values.specs.Steady.{IsConstant, IsSteady}

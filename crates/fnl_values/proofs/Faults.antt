@@ -12,7 +12,7 @@ use Rattle.const_env.specs.declared.fault.KindFault.TheVariants as fault
 use Rattle.cal_check.specs.Violations.{Violation, broken, all_broken, fine, all_fine, and_all}
 use Rattle.cal_check.specs.Variables.{Found, found_in}
 use Rattle.fnl_values.specs.Causes.{Refuses}
-use Rattle.given_values.specs.Causes.{IsCause}
+use Rattle.check_given.specs.Causes.{IsCause}
 use Rattle.fnl_values.specs.Judging.{behind}
 
 -- ---- contained

@@ -19,7 +19,7 @@ use Rattle.cal_check.specs.Violations.{Violation, said, violation}
 use Rattle.cal_check.specs.Variables.{Spot, found_in, Given, VarDecl, Valued, come, value_of, param_broken, held_if, is_none, value_or, seen, with_var, with_type, valued}
 use Rattle.fnl_values.proofs.Faults.{cause_in_first, cause_in_others}
 use Rattle.fnl_values.specs.Causes.{Refuses}
-use Rattle.given_values.specs.Causes.{IsCause}
+use Rattle.check_given.specs.Causes.{IsCause}
 use Rattle.fnl_values.specs.Judging.{Comes, Settles, fine_so_far, value_breaks}
 use Rattle.fnl_values.specs.Steady.{IsConstant, IsSteady, names_of}
 

@@ -20,7 +20,7 @@ use Rattle.const_env.specs.declared.fault.KindFault.TheVariants as fault
 use Rattle.cal_check.specs.Constants.{constant_place, early_kind, not_yet, stored_kind, value_given}
 use Rattle.cal_check.specs.Violations.{violation}
 use Rattle.cal_check.specs.Variables.{Come, come, come_of, come_if}
-use Rattle.typed_values.proofs.Kept.{test_passes}
+use Rattle.check_values.proofs.Kept.{test_passes}
 use Rattle.fnl_values.proofs.Constants.{keeps}
 use Rattle.fnl_values.specs.Causes.{Refuses}
 use Rattle.fnl_values.specs.Judging.{Starts, outcome_judged}

@@ -11,7 +11,7 @@ use Rattle.fnl_tree.specs.View.{own_of, wire_of}
 use Rattle.fnl_bind.specs.Library.{ports_of}
 use Rattle.fnl_bind.specs.Values.{ends_of, wires_of}
 use Rattle.fnl_bind.specs.Networks.{Place, names_at, values_found}
-use Rattle.given_values.specs.Causes.{IsCause}
+use Rattle.check_given.specs.Causes.{IsCause}
 use Rattle.fnl_values.specs.Visiting.{AreVisits, visit_of}
 use Rattle.fnl_values.specs.declared.network.NetValues.{NetValues}
 

@@ -27,7 +27,7 @@ use Rattle.fnl_tree.specs.Tree.{Own}
 use Rattle.fnl_tree.specs.View.{own_of}
 use Rattle.fnl_tree.specs.declared.tree.LeafValue.{LeafValue}
 use Rattle.fnl_tree.specs.declared.tree.NetEnd.{NetEnd}
-use Rattle.given_values.specs.Given.{all_given, given_of, spot_of}
+use Rattle.check_given.specs.Given.{all_given, given_of, spot_of}
 use Rattle.fnl_values.specs.Judging.{Comes, Declares, DeclaresAll, Settles, outcome_judged}
 use Rattle.fnl_values.specs.Visiting.{AreVisits, visit_of}
 use Rattle.fnl_values.specs.declared.declared.Told.{Told}

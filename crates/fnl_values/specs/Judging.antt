@@ -27,8 +27,8 @@ use Rattle.fnl_tree.specs.declared.tree.Wire.{Wire as DeclaredWire}
 use Rattle.fnl_bind.specs.Values as values
 use Rattle.fnl_bind.specs.Values.{parameters_judged, all_given, sizes_judged, sizes_of, largest, or_no, connections_broken, wires_of}
 use Rattle.fnl_values.specs.Causes.{Refuses}
-use Rattle.given_values.specs.Causes.{IsCause}
-use Rattle.given_values.specs.Given.{all_given as all_given_of}
+use Rattle.check_given.specs.Causes.{IsCause}
+use Rattle.check_given.specs.Given.{all_given as all_given_of}
 
 -- ---- values
 

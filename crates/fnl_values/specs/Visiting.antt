@@ -7,7 +7,7 @@ use Rattle.fnl_read.specs.Net.{Instance}
 use Rattle.fnl_frames.specs.Views.{instance_of}
 use Rattle.fnl_bind.specs.Library.{instance_parameters}
 use Rattle.fnl_bind.specs.Values.{all_given}
-use Rattle.given_values.specs.Given.{all_given as all_given_of}
+use Rattle.check_given.specs.Given.{all_given as all_given_of}
 use Rattle.fnl_values.specs.declared.visits.Visit.{Visit as DeclaredVisit}
 
 pub record Visit : Type 0 where

@@ -11,9 +11,9 @@ use crate::fault::in_file;
 use crate::given::value_of;
 use crate::start::start;
 use cal_model::{Kind, Shape, Value, kind_of_type};
+use check_given::GivenValues;
 use const_eval::Env;
 use fnl_read::NetDecl;
-use given_values::GivenValues;
 use rvc_base::{Front, Memory, Place};
 use std::alloc::Global;
 

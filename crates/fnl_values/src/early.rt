@@ -12,8 +12,8 @@ ghost use Rattle.cal_check.specs.Constants.{early_kind, early_type, stored_kind}
 use crate::constant::place_of;
 use cal_ast::{Expr, TypeExpr};
 use cal_model::{Kind, Shape, types_are_kept};
+use check_values::{constant_place, constant_place_in_type};
 use const_eval::{Env, KindFault, Names, kind_const, one_kind, type_judged};
-use constant_places::{constant_place, constant_place_in_type};
 use rvc_base::Rule;
 use std::alloc::Global;
 

@@ -4,7 +4,7 @@ ghost use Rattle.std.specs.Prelude.{List};
 ghost use Rattle.cal_check.specs.Variables.{found_in};
 ghost use Rattle.cal_check.specs.Violations.{Violation};
 ghost use Rattle.fnl_values.specs.Causes.{Refuses};
-ghost use Rattle.given_values.specs.Causes.{IsCause};
+ghost use Rattle.check_given.specs.Causes.{IsCause};
 
 use const_eval::KindFault;
 use rvc_base::{Front, Place, Refusal};

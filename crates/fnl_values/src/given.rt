@@ -9,16 +9,16 @@ ghost use Rattle.fnl_bind.specs.Library.{var_decl};
 ghost use Rattle.fnl_frames.specs.Views.{decl_of};
 ghost use Rattle.fnl_values.specs.InMemory.{SettlesDecl, params_in};
 ghost use Rattle.fnl_values.specs.Judging.{Settles, bare_broken};
-ghost use Rattle.given_values.specs.Causes.{Finds};
-ghost use Rattle.given_values.specs.Given.{all_given, spot_of};
-ghost use Rattle.given_values.specs.Judging.{with_declared};
+ghost use Rattle.check_given.specs.Causes.{Finds};
+ghost use Rattle.check_given.specs.Given.{all_given, spot_of};
+ghost use Rattle.check_given.specs.Judging.{with_declared};
 
 use cal_model::{Kind, Shape, Value};
+use check_given::{GivenValues, given_stored, refused};
+use check_used::NameSet;
 use fnl_read::NetDecl;
-use given_values::{GivenValues, given_stored, refused};
 use rvc_base::{Front, Memory, Place, Rule};
 use std::alloc::Global;
-use used_names::NameSet;
 
 // ---- which are given
 

@@ -1,4 +1,6 @@
-//! The values of a network: of its declarations, of what it gives to its instances, and of sizes of connections.
+//! The values of a network: of declarations, parameters and sizes of connections.
+//!
+//! Of its declarations, of what it gives to its instances, and of sizes of connections.
 //!
 //! [`evaluate`] takes one network where it stands, with the values that its parameters are given, and answers what the
 //! walk from the top down needs of it. `fnl_bind` says which rules its values break, and what they are.

@@ -6,7 +6,7 @@ ghost use Rattle.const_env.specs.Held.{names_in};
 ghost use Rattle.const_env.specs.Judging.{Judges};
 ghost use Rattle.fnl_bind.specs.Values.{given_as, parameter_judged};
 ghost use Rattle.fnl_frames.specs.Views.{parameter_of};
-ghost use Rattle.given_values.specs.Given.{given_of};
+ghost use Rattle.check_given.specs.Given.{given_of};
 ghost use Rattle.fnl_values.specs.InMemory.{value_given};
 ghost use Rattle.fnl_values.specs.Judging.{GivesAll};
 ghost use Rattle.fnl_values.specs.Steady.{IsSteady};

@@ -14,9 +14,9 @@ use crate::constant::outcome;
 use crate::early::early_kind;
 use cal_ast::Expr;
 use cal_model::{Kind, Shape, Value, constants_are_values};
+use check_values::{stored, zero_of};
 use const_eval::{Env, KindFault};
 use std::alloc::Global;
-use typed_values::{stored, zero_of};
 
 /// The value with which a declaration of a type and its kind starts, stored in the type. Without one that is 0, false,
 /// or lists of these.

@@ -14,7 +14,7 @@ use Rattle.fnl_read.specs.Net.{Net, Instance}
 use Rattle.fnl_bind.specs.Library.{is_among, instance_class, instance_class_at}
 use Rattle.fnl_bind.specs.Networks.{Place, found_behind, own_found, values_found}
 use Rattle.fnl_bind.specs.Scopes.{circles, keyed_decls, keyed_instances, keyed_ports, name_broken, named_twice, ports_broken, scope_broken, unknown_names}
-use Rattle.given_values.specs.Causes.{IsCause}
+use Rattle.check_given.specs.Causes.{IsCause}
 use Rattle.fnl_values.specs.Visiting.{Visit, AreVisits}
 
 -- ---- names in either order

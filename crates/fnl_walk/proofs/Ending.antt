@@ -10,7 +10,7 @@ use Rattle.fnl_bind.specs.Library.{Entry, network_of}
 use Rattle.fnl_bind.specs.Networks.{Place, own_found}
 use Rattle.fnl_bind.specs.Trees.{bound, found_at, grown_at, instances_at, passing, top_place, tree_of, tree_with, violations, violations_of, words}
 use Rattle.fnl_values.proofs.Faults.{cause_in_first, cause_in_others}
-use Rattle.given_values.specs.Causes.{IsCause}
+use Rattle.check_given.specs.Causes.{IsCause}
 use Rattle.fnl_walk.proofs.Opening.{found_opened, spots_opened, tree_opened}
 use Rattle.fnl_walk.specs.Steps.{Keeps, Opens, Stops, found, spots}
 use Rattle.fnl_walk.proofs.Visiting.{is_opened, own_in_found}

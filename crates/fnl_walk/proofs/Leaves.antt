@@ -5,7 +5,7 @@ use Rattle.fnl_tree.specs.Tree.{Binding, Leaf}
 use Rattle.fnl_tree.specs.View as view
 use Rattle.fnl_tree.specs.declared.tree.LeafValue.{LeafValue}
 use Rattle.fnl_bind.specs.Networks.{binding_of}
-use Rattle.given_values.specs.Given.{given_of}
+use Rattle.check_given.specs.Given.{given_of}
 
 pub bindings_same : (gs : List LeafValue) → map view.binding_of gs ≡ map binding_of (map given_of gs)
 bindings_same [] = refl

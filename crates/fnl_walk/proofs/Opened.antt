@@ -8,7 +8,7 @@ use Rattle.fnl_tree.specs.View.{own_of, wire_of}
 use Rattle.fnl_bind.specs.Library.{params_of}
 use Rattle.fnl_bind.specs.Networks.{Place, behind_decls, decls_at, names_at, net_with, own_found, valued_at, values_found}
 use Rattle.fnl_bind.specs.Scopes.{scope_broken}
-use Rattle.given_values.specs.Causes.{IsCause}
+use Rattle.check_given.specs.Causes.{IsCause}
 use Rattle.fnl_values.specs.Evaluated.{HasParts, alone}
 use Rattle.fnl_values.specs.Visiting.{visit_of}
 use Rattle.fnl_values.specs.declared.network.NetValues.{NetValues}

@@ -11,7 +11,7 @@ use Rattle.fnl_tree.specs.Tree.{InnerNet, InnerLeaf, Part}
 use Rattle.fnl_bind.specs.Library.{Entry, network_of, is_among, instance_class, instance_id, instance_at}
 use Rattle.fnl_bind.specs.Networks.{Place, StandsNet, StandsLeaf, standing_as, own_found, net_with, net_under, leaf_under}
 use Rattle.fnl_bind.specs.Trees.{Grown, filled_by, found_inside, found_or_inside, found_standing, found_at, grown_at, instances_at, instances_inside, instances_under, with_part}
-use Rattle.given_values.specs.Causes.{IsCause}
+use Rattle.check_given.specs.Causes.{IsCause}
 use Rattle.fnl_values.specs.Visiting.{Visit}
 use Rattle.fnl_walk.specs.Steps.{Goes, Keeps, Opens, Passes, Stops, opened, found, spots, steps_left}
 use Rattle.fnl_walk.specs.Visited.{VisitsNet, before, place_inside, with_inner, with_leaf}

@@ -11,8 +11,8 @@ use Rattle.fnl_tree.specs.declared.tree.Leaf.{Leaf}
 use Rattle.fnl_values.specs.Visiting.{Visit, visit_of}
 use Rattle.fnl_values.specs.declared.network.NetValues.{NetValues}
 use Rattle.fnl_values.specs.declared.visits.Visit.{Visit as DeclaredVisit}
-use Rattle.net_set.specs.View.{entry_under}
-use Rattle.net_set.specs.declared.entry.NetEntry.{NetEntry}
+use Rattle.fnl_bind.specs.View.{entry_under}
+use Rattle.fnl_bind.specs.declared.entry.NetEntry.{NetEntry}
 use Rattle.fnl_walk.specs.Opening.{bare_net, place_standing, with_net}
 use Rattle.fnl_walk.specs.Steps.{OpensTo, opened}
 use Rattle.fnl_walk.specs.View.{open_of, walk_view}

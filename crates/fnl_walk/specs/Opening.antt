@@ -4,9 +4,9 @@ use Rattle.std.specs.Prelude.{ℕ, List, [], ◌∷◌, ◌++◌, map}
 use Rattle.fnl_tree.specs.Tree.{Net as BoundNet}
 use Rattle.fnl_tree.specs.View.{own_of, wire_of}
 use Rattle.fnl_bind.specs.Networks.{Place}
-use Rattle.given_values.specs.Given.{all_given, spot_of}
+use Rattle.check_given.specs.Given.{all_given, spot_of}
 use Rattle.fnl_values.specs.declared.network.NetValues.{NetValues}
-use Rattle.net_set.specs.View.{entry_under}
+use Rattle.fnl_bind.specs.View.{entry_under}
 use Rattle.fnl_walk.specs.Walk.{Open, Walk}
 use Rattle.fnl_walk.specs.declared.open.Standing.{Standing}
 

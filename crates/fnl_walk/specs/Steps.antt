@@ -11,7 +11,7 @@ use Rattle.cal_model.specs.Sound.{Each}
 use Rattle.cal_check.specs.Variables.{Spot, Found}
 use Rattle.fnl_bind.specs.Library.{Entry, is_among, instance_class}
 use Rattle.fnl_bind.specs.Networks.{Place, names_at, net_with, own_found}
-use Rattle.given_values.specs.Causes.{IsCause}
+use Rattle.check_given.specs.Causes.{IsCause}
 use Rattle.fnl_values.specs.Visiting.{Visit, AreVisits}
 use Rattle.fnl_walk.specs.Walk.{Open, Walk, IsSteady, count_of, finished, found_left, spots_left}
 

@@ -5,18 +5,18 @@ ghost use Rattle.std.specs.Prelude.{◌≡◌, OnOk, length, map, reverse, strin
 ghost use Rattle.fnl_bind.specs.Scopes.{scope_broken};
 ghost use Rattle.cal_check.specs.Variables.{found_in};
 ghost use Rattle.fnl_frames.specs.Views.{net_of};
-ghost use Rattle.given_values.specs.Causes.{Finds};
+ghost use Rattle.check_given.specs.Causes.{Finds};
 ghost use Rattle.fnl_values.specs.Visiting.{visit_of};
 ghost use Rattle.fnl_walk.specs.InMemory.{OpensAt, opened_at, with_values};
 ghost use Rattle.fnl_walk.specs.Opening.{with_class};
 ghost use Rattle.fnl_walk.specs.View.{open_of, walk_view};
 
 use crate::walk::{Open, Walk};
+use fnl_bind::NetEntry;
 use fnl_read::NetFile;
 use fnl_scopes::{ScopeFault, check_scopes};
 use fnl_tree::{LeafValue, Net};
 use fnl_values::{NetValues, Visit, evaluate};
-use net_set::NetEntry;
 use rvc_base::{Front, Memory, Place, Refusal};
 use std::alloc::Global;
 use std::collections::VecDeque;

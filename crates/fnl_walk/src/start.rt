@@ -6,14 +6,13 @@ ghost use Rattle.fnl_bind.specs.Library.{network_of};
 ghost use Rattle.fnl_tree.specs.Sound.{IsSound};
 ghost use Rattle.fnl_tree.specs.View.{tree_of};
 ghost use Rattle.fnl_walk.specs.View.{walk_view};
-ghost use Rattle.net_set.specs.View.{networks};
+ghost use Rattle.fnl_bind.specs.View.{networks};
 
 use crate::open::{Standing, open_net};
 use crate::step::step;
 use crate::walk::Walk;
-use fnl_bind::bound_trees_are_sound;
+use fnl_bind::{NetSet, bound_trees_are_sound};
 use fnl_tree::Tree;
-use net_set::NetSet;
 use rvc_base::{Front, Place};
 use std::alloc::Global;
 

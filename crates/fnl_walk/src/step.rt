@@ -7,15 +7,15 @@ ghost use Rattle.fnl_walk.specs.InMemory.{VisitsEntry, leaf_put, net_put, untake
 ghost use Rattle.fnl_walk.specs.Steps.{Goes, StepsTo};
 ghost use Rattle.fnl_walk.specs.View.{open_of, walk_view};
 ghost use Rattle.fnl_walk.specs.Walk.{IsSteady};
-ghost use Rattle.net_set.specs.View.{networks};
+ghost use Rattle.fnl_bind.specs.View.{networks};
 
 use crate::leaf::leaf;
 use crate::open::{Standing, open_net};
 use crate::paths::path_under;
 use crate::walk::{Open, Walk, add_part};
+use fnl_bind::{NetEntry, NetSet};
 use fnl_tree::Inner;
 use fnl_values::Visit;
-use net_set::{NetEntry, NetSet};
 use rvc_base::{Front, InstId, Memory, Place, Refusal, Rule};
 
 /// The most instances, the top not counted.

@@ -14,12 +14,12 @@ use Rattle.fnl_tree.specs.Tree.{Leaf, Net, Tree}
 use Rattle.net_model.specs.Limits.{max_instances}
 use Rattle.fnl_tree.specs.View.{tree_of}
 use Rattle.fnl_tree.specs.declared.tree.Tree.{Tree as DeclaredTree}
-use Rattle.leaf_actors.specs.Leaves as leaves
-use Rattle.leaf_actors.specs.Leaves.{actors_at_leaves}
-use Rattle.leaf_actors.specs.declared.found.LeafActors.{LeafActors}
-use Rattle.source_network.specs.Actors.{head_of}
-use Rattle.source_network.specs.Answers.{BoundAreTrees}
-use Rattle.source_network.specs.Source.{Files}
+use Rattle.check_leaves.specs.Leaves as leaves
+use Rattle.check_leaves.specs.Leaves.{actors_at_leaves}
+use Rattle.check_leaves.specs.declared.found.LeafActors.{LeafActors}
+use Rattle.fnl_source.specs.Actors.{head_of}
+use Rattle.fnl_source.specs.Answers.{BoundAreTrees}
+use Rattle.fnl_source.specs.Source.{Files}
 use Rattle.rvc_engine.specs.Refused.{AreLeavesIn, in_leaves, in_links, in_networks, in_scope}
 use Rattle.rvc_engine.specs.Steps.{AreReady, IsBare, IsPeopled, IsWhy}
 

@@ -2,14 +2,14 @@
 use Rattle.std.proofs.Common.{◌≡◌, ℕ, zero, suc, ◌<◌, List, [], ◌∷◌, ◌++◌, length, map, Option, None, Some, refl, sym, ap, subst, ◌∙◌, arith}
 use Rattle.std.specs.Prelude.{All, slice_get, slice_index_or}
 use Rattle.std.proofs.lemmas.List.{append_assoc, append-nil}
-use Rattle.actor_lower.specs.Leaves.{StandForActors}
+use Rattle.lower_actor.specs.Leaves.{StandForActors}
 use Rattle.cal_model.specs.Actor.{Actor}
 use Rattle.cal_model.specs.Sound.{Each, IsSound}
 use Rattle.cal_model.specs.View.{actor_of}
 use Rattle.cal_model.specs.declared.bound.Bound.{Bound}
 use Rattle.determinacy_cert.specs.declared.fault.CertFault.{CertFault}
 use Rattle.lowered_actor.specs.Actor as coded
-use Rattle.leaf_actors.specs.Leaves.{at_places, with_first}
+use Rattle.check_leaves.specs.Leaves.{at_places, with_first}
 use Rattle.rvc_engine.specs.Built.{AreJudged}
 use Rattle.rvc_engine.specs.Compiling.{AddsCompiled, AreCompiled, IsCompiled}
 use Rattle.rvc_engine.specs.declared.compiling.Compiled.{Compiled}

@@ -5,7 +5,7 @@ use Rattle.std.proofs.lemmas.List.Elements.{All-head}
 use Rattle.std.specs.List.{All}
 use Rattle.std.specs.Prelude.{Option, None, Some, is_some, string_bytes}
 use Rattle.rvc_io.specs.Count.{HasRisen}
-use Rattle.actor_files.specs.Loading.{Counts}
+use Rattle.cal_files.specs.Loading.{Counts}
 use Rattle.cal_model.specs.Actor.{Actor}
 use Rattle.cal_model.specs.Selection.{State}
 use Rattle.net_model.specs.Network.{Leaf as NetLeaf, Network}
@@ -13,11 +13,11 @@ use Rattle.fnl_bind.specs.Library.{network_of}
 use Rattle.fnl_bind.specs.Trees.{bound}
 use Rattle.fnl_flatten.specs.declared.flat.Flat.{Flat}
 use Rattle.fnl_tree.specs.Tree.{Leaf, Tree}
-use Rattle.network_files.specs.Laws.{LeavesAreTried}
-use Rattle.network_files.specs.Requests.{AreTried}
-use Rattle.network_files.specs.Views.{HasFile}
-use Rattle.source_network.specs.Files.{Asked, a_class, a_network, an_actor, Read, asked_by_all, class_asked, files_of}
-use Rattle.source_network.specs.Source.{AreActors, Files, IsSourceNetwork, IsTree}
+use Rattle.fnl_files.specs.Laws.{LeavesAreTried}
+use Rattle.fnl_files.specs.Requests.{AreTried}
+use Rattle.fnl_files.specs.Views.{HasFile}
+use Rattle.fnl_source.specs.Files.{Asked, a_class, a_network, an_actor, Read, asked_by_all, class_asked, files_of}
+use Rattle.fnl_source.specs.Source.{AreActors, Files, IsSourceNetwork, IsTree}
 use Rattle.rvc_engine.specs.Checked.{CountsMisses, IsNetworkOf}
 
 -- ---- how many leaves there are

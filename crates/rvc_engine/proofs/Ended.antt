@@ -4,15 +4,15 @@ use Rattle.std.specs.Prelude.{Result, Ok, Err, IfErr, IfOk, IsErr, MatchResult}
 use Rattle.rvc_base.specs.declared.refusal.Front.{Front}
 use Rattle.rvc_base.specs.declared.refusal.Front.TheVariants as front
 use Rattle.rvc_base.specs.declared.refusal.Refusal.{Refusal}
-use Rattle.actor_files.specs.Loading.{Counts, Library, TellsAll}
+use Rattle.cal_files.specs.Loading.{Counts, Library, TellsAll}
 use Rattle.cal_model.specs.Selection.{State}
 use Rattle.net_model.specs.Network.{Network}
-use Rattle.leaf_actors.specs.Leaves.{actors_at_leaves}
-use Rattle.network_files.specs.Laws.{LeavesAreTried}
-use Rattle.network_files.specs.Views.{HasFile, HoldsLoaded, files_in}
-use Rattle.source_network.specs.Files.{Asked, class_asked, files_of}
-use Rattle.source_network.specs.Library.{IsLibraryNetwork, LibraryNetworksAreOne}
-use Rattle.source_network.specs.Source.{Files, IsSourceNetwork}
+use Rattle.check_leaves.specs.Leaves.{actors_at_leaves}
+use Rattle.fnl_files.specs.Laws.{LeavesAreTried}
+use Rattle.fnl_files.specs.Views.{HasFile, HoldsLoaded, files_in}
+use Rattle.fnl_source.specs.Files.{Asked, class_asked, files_of}
+use Rattle.fnl_source.specs.Library.{IsLibraryNetwork, LibraryNetworksAreOne}
+use Rattle.fnl_source.specs.Source.{Files, IsSourceNetwork}
 use Rattle.rvc_engine.specs.Checked.{HasNetwork, HasSource, IsChecked}
 use Rattle.rvc_engine.specs.Laws.{NetworksAreNotRefused}
 use Rattle.rvc_engine.specs.Refused.{Breaks, IsFault, IsOutside, RefusesTop, in_network}

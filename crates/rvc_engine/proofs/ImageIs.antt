@@ -3,11 +3,11 @@ use Rattle.std.proofs.Common.{◌≡◌, ℕ, ◌<◌, List, length, map, sym, s
 use Rattle.std.specs.Prelude.{All}
 use Rattle.std.specs.Arc.{arc_value}
 use Rattle.std.proofs.lemmas.List.{length-map}
-use Rattle.actor_lower.specs.Leaves.{StandForActors}
+use Rattle.lower_actor.specs.Leaves.{StandForActors}
 use Rattle.cal_model.specs.View.{actor_of}
-use Rattle.leaf_actors.specs.Leaves.{actors_at_leaves}
-use Rattle.leaf_actors.specs.declared.found.LeafActors.{LeafActors}
-use Rattle.source_network.specs.Source.{Files}
+use Rattle.check_leaves.specs.Leaves.{actors_at_leaves}
+use Rattle.check_leaves.specs.declared.found.LeafActors.{LeafActors}
+use Rattle.fnl_source.specs.Source.{Files}
 use Rattle.rvc_engine.specs.Built.{AreJudged, HasImage, IsImageOf}
 use Rattle.rvc_engine.specs.Checked.{HasSource, IsNetworkOf, StandAtLeaves}
 use Rattle.rvc_engine.specs.Compiling.{AreCompiled}

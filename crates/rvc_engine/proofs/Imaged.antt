@@ -2,12 +2,12 @@
 use Rattle.std.proofs.Common.{◌≡◌, ℕ, List, refl, sym, subst}
 use Rattle.std.specs.Prelude.{Result, Ok, Err, IfErr, IfOk, IsErr, MatchResult}
 use Rattle.rvc_base.specs.declared.refusal.Refusal.{Refusal}
-use Rattle.actor_files.specs.Loading.{Counts, Library, TellsAll}
+use Rattle.cal_files.specs.Loading.{Counts, Library, TellsAll}
 use Rattle.cal_model.specs.Selection.{State}
 use Rattle.net_model.specs.Network.{Network}
-use Rattle.network_files.specs.Views.{files_in}
-use Rattle.source_network.specs.Files.{Asked, class_asked}
-use Rattle.source_network.specs.Library.{IsLibraryNetwork, LibraryNetworksAreOne}
+use Rattle.fnl_files.specs.Views.{files_in}
+use Rattle.fnl_source.specs.Files.{Asked, class_asked}
+use Rattle.fnl_source.specs.Library.{IsLibraryNetwork, LibraryNetworksAreOne}
 use Rattle.rvc_engine.specs.Built.{IsBuilt, IsImageOf}
 use Rattle.rvc_engine.specs.Checked.{CountsMisses}
 use Rattle.rvc_engine.specs.Images.{MeansNet}

@@ -17,14 +17,14 @@ use Rattle.fnl_flatten.specs.Flattened.{IsRefusal, PassesLimit}
 use Rattle.fnl_flatten.specs.Head.{Head}
 use Rattle.fnl_flatten.specs.Links.{AreLinks}
 use Rattle.fnl_tree.specs.Tree.{Leaf, Tree}
-use Rattle.leaf_actors.specs.Leaves.{AreActorsOf, HasActor}
-use Rattle.network_files.specs.Laws.{LoadedIsNotRefused}
-use Rattle.source_network.specs.Actors.{IsActorOf, head_of}
-use Rattle.source_network.specs.Files.{class_asked, files_of}
-use Rattle.source_network.specs.Laws.{ActorsAreOne}
-use Rattle.source_network.specs.Library.{FilesAreOne}
-use Rattle.source_network.specs.Lone.{lone_leaf, lone_tree}
-use Rattle.source_network.specs.Source.{AreActors, Files, IsNamed, IsSourceNetwork, IsTree}
+use Rattle.check_leaves.specs.Leaves.{AreActorsOf, HasActor}
+use Rattle.fnl_files.specs.Laws.{LoadedIsNotRefused}
+use Rattle.fnl_source.specs.Actors.{IsActorOf, head_of}
+use Rattle.fnl_source.specs.Files.{class_asked, files_of}
+use Rattle.fnl_source.specs.Laws.{ActorsAreOne}
+use Rattle.fnl_source.specs.Library.{FilesAreOne}
+use Rattle.fnl_source.specs.Lone.{lone_leaf, lone_tree}
+use Rattle.fnl_source.specs.Source.{AreActors, Files, IsNamed, IsSourceNetwork, IsTree}
 use Rattle.rvc_engine.specs.Laws.{NetworksAreNotRefused, NetworksBreakNothing}
 use Rattle.rvc_engine.specs.Refused.{AreLeavesIn, Breaks, in_files, in_leaves, in_links, in_network, in_networks, in_scope}
 use Rattle.rvc_engine.proofs.OneOrder.{joined_are_links}

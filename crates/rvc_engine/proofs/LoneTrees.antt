@@ -5,11 +5,11 @@ use Rattle.cal_model.specs.Actor.{Actor}
 use Rattle.cal_model.specs.Sound.{Each, IsSound}
 use Rattle.fnl_bind.specs.Library.{network_of}
 use Rattle.fnl_tree.specs.Tree.{Leaf, Tree}
-use Rattle.leaf_actors.specs.Leaves.{AreActorsOf, IsWithin, actors_at_leaves}
-use Rattle.leaf_actors.specs.declared.found.LeafActors.{LeafActors}
-use Rattle.source_network.specs.Answers.{LoneTreesAreSound}
-use Rattle.source_network.specs.Lone.{lone_leaf, lone_tree}
-use Rattle.source_network.specs.Source.{Files, IsNamed, IsTree}
+use Rattle.check_leaves.specs.Leaves.{AreActorsOf, IsWithin, actors_at_leaves}
+use Rattle.check_leaves.specs.declared.found.LeafActors.{LeafActors}
+use Rattle.fnl_source.specs.Answers.{LoneTreesAreSound}
+use Rattle.fnl_source.specs.Lone.{lone_leaf, lone_tree}
+use Rattle.fnl_source.specs.Source.{Files, IsNamed, IsTree}
 use Rattle.rvc_engine.specs.Checked.{StandAtLeaves}
 use Rattle.rvc_engine.specs.Steps.{HasOne, IsPeopled}
 

@@ -1,11 +1,11 @@
 -- What was checked is at most one network.
 use Rattle.std.proofs.Common.{◌≡◌, ℕ, List, [], ◌∷◌, map, refl, sym, ap, ◌∙◌}
-use Rattle.actor_lower.specs.Leaves.{AreLeavesOf}
+use Rattle.lower_actor.specs.Leaves.{AreLeavesOf}
 use Rattle.cal_model.specs.Actor.{Actor}
 use Rattle.cal_model.specs.Laws.{BehaviourIsOne}
 use Rattle.cal_model.specs.Selection.{State}
 use Rattle.net_model.specs.Network.{Leaf as NetLeaf, Network}
-use Rattle.leaf_actors.specs.Leaves.{actors_at_leaves}
+use Rattle.check_leaves.specs.Leaves.{actors_at_leaves}
 use Rattle.rvc_engine.specs.Checked.{CheckedAreOne}
 
 leaf_same : (x y : NetLeaf State) → x.path ≡ y.path → x.class ≡ y.class → x.behaviour ≡ y.behaviour → x ≡ y

@@ -5,7 +5,7 @@ use Rattle.std.proofs.lemmas.List.Elements.{All-head}
 use Rattle.cal_model.specs.Actor.{Actor}
 use Rattle.cal_model.specs.View.{actor_of}
 use Rattle.cal_model.specs.declared.bound.Bound.{Bound}
-use Rattle.leaf_actors.specs.Leaves.{at_places, with_first}
+use Rattle.check_leaves.specs.Leaves.{at_places, with_first}
 
 -- ---- the one actor
 

@@ -2,14 +2,14 @@
 use Rattle.std.proofs.Common.{◌≡◌, ◌⊎◌, inl, inr, ℕ, true, List, refl, sym, subst}
 use Rattle.std.specs.Prelude.{is_some}
 use Rattle.cal_imports.specs.Sources.{source_named}
-use Rattle.actor_files.specs.Loading.{Counts, Library}
-use Rattle.distinct_names.specs.Names.{AreSpelled, NetworkFilesAreSpelled}
+use Rattle.cal_files.specs.Loading.{Counts, Library}
+use Rattle.law_sources.specs.Names.{AreSpelled, NetworkFilesAreSpelled}
 use Rattle.fnl_bind.specs.Library.{network_of}
-use Rattle.network_files.specs.Views.{HasFile, HoldsLoaded, asked_of}
-use Rattle.network_files.specs.declared.kind.FileKind.{FileKind}
-use Rattle.network_files.specs.declared.kind.FileKind.TheVariants as kinds
-use Rattle.source_network.specs.Files.{class_asked}
-use Rattle.source_network.specs.Source.{Files}
+use Rattle.fnl_files.specs.Views.{HasFile, HoldsLoaded, asked_of}
+use Rattle.fnl_files.specs.declared.kind.FileKind.{FileKind}
+use Rattle.fnl_files.specs.declared.kind.FileKind.TheVariants as kinds
+use Rattle.fnl_source.specs.Files.{class_asked}
+use Rattle.fnl_source.specs.Source.{Files}
 use Rattle.rvc_engine.specs.Steps.{AreReady}
 
 -- ---- the class that is asked for

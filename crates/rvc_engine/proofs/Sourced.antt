@@ -1,6 +1,6 @@
 -- The network that was checked is the source network of the files.
 use Rattle.std.proofs.Common.{◌≡◌, ℕ, List, [], ◌∷◌, map, refl, sym, ap, subst, ◌∙◌}
-use Rattle.actor_lower.specs.Leaves.{AreLeavesOf}
+use Rattle.lower_actor.specs.Leaves.{AreLeavesOf}
 use Rattle.cal_model.specs.Actor.{Actor}
 use Rattle.cal_model.specs.Selection.{State}
 use Rattle.cal_model.specs.Sound.{Each, IsSound}
@@ -10,13 +10,13 @@ use Rattle.fnl_flatten.specs.Flattened.{IsFlattened}
 use Rattle.fnl_flatten.specs.Whole.{IsWhole}
 use Rattle.fnl_flatten.specs.declared.flat.Flat.{Flat}
 use Rattle.fnl_tree.specs.Tree.{Leaf, Tree}
-use Rattle.leaf_actors.specs.Laws.{ActorsAreLeaves, HasLeaves}
-use Rattle.leaf_actors.specs.Leaves.{actors_at_leaves}
-use Rattle.leaf_actors.specs.declared.found.LeafActors.{LeafActors}
-use Rattle.source_network.specs.Actors.{head_of}
-use Rattle.source_network.specs.Answers.{ActorsMakeWhole, AnswersAreSource, HasWiring}
-use Rattle.source_network.specs.Laws.{ActorsAreOne}
-use Rattle.source_network.specs.Source.{AreActors, Files, IsSourceNetwork}
+use Rattle.check_leaves.specs.Laws.{ActorsAreLeaves, HasLeaves}
+use Rattle.check_leaves.specs.Leaves.{actors_at_leaves}
+use Rattle.check_leaves.specs.declared.found.LeafActors.{LeafActors}
+use Rattle.fnl_source.specs.Actors.{head_of}
+use Rattle.fnl_source.specs.Answers.{ActorsMakeWhole, AnswersAreSource, HasWiring}
+use Rattle.fnl_source.specs.Laws.{ActorsAreOne}
+use Rattle.fnl_source.specs.Source.{AreActors, Files, IsSourceNetwork}
 use Rattle.rvc_engine.specs.Checked.{HasSource, IsNetworkOf}
 use Rattle.rvc_engine.specs.Steps.{IsJoined, IsPeopled}
 use Rattle.rvc_engine.specs.declared.checked.Checked.{Checked}

@@ -5,8 +5,8 @@ use Rattle.std.specs.List.{position_or_len}
 use Rattle.std.specs.Str.{bytes_eq}
 use Rattle.std.proofs.lemmas.List.{append_cancel_left, drop-drop, take-append-drop}
 use Rattle.cal_imports.specs.Sources.{dot}
-use Rattle.actor_files.specs.FileNames.{class_of, path_of, replaced, slash}
-use Rattle.source_network.specs.Files.{a_network, an_actor, Choice, name_of, wanted}
+use Rattle.cal_files.specs.FileNames.{class_of, path_of, replaced, slash}
+use Rattle.fnl_source.specs.Files.{a_network, an_actor, Choice, name_of, wanted}
 use Rattle.rvc_engine.specs.Top.{TopsAreRead, ending_of}
 
 one_more : (n : ℕ) → 1 + n ≡ suc n

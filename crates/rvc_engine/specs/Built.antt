@@ -7,13 +7,13 @@ use Rattle.cal_model.specs.Certified.{IsCertified}
 use Rattle.cal_model.specs.Selection.{Priorities, State}
 use Rattle.cal_model.specs.Sound.{Each, IsSound}
 use Rattle.net_model.specs.Network.{Network}
-use Rattle.actor_files.specs.Loading.{Library}
-use Rattle.actor_lower.specs.Leaves.{StandForActors}
+use Rattle.cal_files.specs.Loading.{Library}
+use Rattle.lower_actor.specs.Leaves.{StandForActors}
 use Rattle.determinacy_cert.specs.Failing.{failures, first}
 use Rattle.determinacy_cert.specs.declared.fault.CertFault.{CertFault}
 use Rattle.determinacy_cert.specs.declared.fault.CertFault.TheVariants.{Uncertified, Memory}
-use Rattle.source_network.specs.Files.{Asked, class_asked, files_of, Read}
-use Rattle.source_network.specs.Source.{Files, IsSourceNetwork}
+use Rattle.fnl_source.specs.Files.{Asked, class_asked, files_of, Read}
+use Rattle.fnl_source.specs.Source.{Files, IsSourceNetwork}
 use Rattle.rvc_engine.specs.Checked.{AreRead, IsNetworkOf}
 use Rattle.rvc_engine.specs.declared.image.Image.{Image}
 

@@ -6,15 +6,15 @@ use Rattle.cal_model.specs.Selection.{State}
 use Rattle.cal_model.specs.Sound.{Each, IsSound}
 use Rattle.net_model.specs.Network.{Network}
 use Rattle.rvc_io.specs.Count.{HasRisen}
-use Rattle.actor_files.specs.Loading.{Counts, Library}
-use Rattle.actor_lower.specs.Leaves.{AreLeavesOf}
+use Rattle.cal_files.specs.Loading.{Counts, Library}
+use Rattle.lower_actor.specs.Leaves.{AreLeavesOf}
 use Rattle.fnl_flatten.specs.declared.flat.Flat.{Flat}
-use Rattle.leaf_actors.specs.Leaves.{HasSoundActors, IsWithin, actors_at_leaves}
-use Rattle.leaf_actors.specs.declared.found.LeafActors.{LeafActors}
-use Rattle.network_files.specs.Requests.{names_of}
-use Rattle.source_network.specs.Answers.{HasWiring}
-use Rattle.source_network.specs.Files.{AreLoaded, Asked, Read, a_class, a_network, an_actor, class_asked, files_of}
-use Rattle.source_network.specs.Source.{Files, IsSourceNetwork}
+use Rattle.check_leaves.specs.Leaves.{HasSoundActors, IsWithin, actors_at_leaves}
+use Rattle.check_leaves.specs.declared.found.LeafActors.{LeafActors}
+use Rattle.fnl_files.specs.Requests.{names_of}
+use Rattle.fnl_source.specs.Answers.{HasWiring}
+use Rattle.fnl_source.specs.Files.{AreLoaded, Asked, Read, a_class, a_network, an_actor, class_asked, files_of}
+use Rattle.fnl_source.specs.Source.{Files, IsSourceNetwork}
 use Rattle.rvc_engine.specs.declared.checked.Checked.{Checked}
 
 -- ---- the network that was checked

@@ -2,7 +2,7 @@
 -- Not trusted: no promise is read with it.
 use Rattle.std.specs.Prelude.{◌≡◌, List, [], ◌∷◌, ◌++◌}
 use Rattle.std.specs.Arc.{arc_value}
-use Rattle.actor_lower.specs.Standing.{StandsForActor}
+use Rattle.lower_actor.specs.Standing.{StandsForActor}
 use Rattle.cal_model.specs.Actor.{Actor}
 use Rattle.rvc_engine.specs.Built.{IsJudged}
 use Rattle.rvc_engine.specs.declared.compiling.Compiled.{Compiled}

@@ -4,7 +4,7 @@ use Rattle.std.specs.Prelude.{ℕ, List}
 use Rattle.cal_model.specs.Actor.{Actor}
 use Rattle.cal_model.specs.Selection.{State}
 use Rattle.net_model.specs.Network.{Network}
-use Rattle.source_network.specs.Source.{Files}
+use Rattle.fnl_source.specs.Source.{Files}
 use Rattle.rvc_engine.specs.Built.{HasImage}
 use Rattle.rvc_engine.specs.Checked.{HasSource}
 use Rattle.rvc_engine.specs.declared.checked.Checked.{Checked}

@@ -4,10 +4,10 @@ use Rattle.std.specs.Prelude.{ℕ, List}
 use Rattle.rvc_base.specs.declared.refusal.Refusal.{Refusal}
 use Rattle.cal_model.specs.Selection.{State}
 use Rattle.net_model.specs.Network.{Network}
-use Rattle.actor_files.specs.Loading.{Counts, Library, TellsAll}
-use Rattle.source_network.specs.Files.{Asked}
-use Rattle.source_network.specs.Library.{IsLibraryNetwork}
-use Rattle.source_network.specs.Source.{Files, IsSourceNetwork}
+use Rattle.cal_files.specs.Loading.{Counts, Library, TellsAll}
+use Rattle.fnl_source.specs.Files.{Asked}
+use Rattle.fnl_source.specs.Library.{IsLibraryNetwork}
+use Rattle.fnl_source.specs.Source.{Files, IsSourceNetwork}
 use Rattle.rvc_engine.specs.Refused.{Breaks, RefusesTop}
 
 -- files that mean a network break no rule

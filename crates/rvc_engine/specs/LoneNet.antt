@@ -3,7 +3,7 @@
 use Rattle.std.specs.Prelude.{ℕ, List, [], ◌∷◌, ◌++◌, map}
 use Rattle.cal_model.specs.Actor.{Actor}
 use Rattle.fnl_tree.specs.Tree.{InnerLeaf, Net, Part}
-use Rattle.source_network.specs.Lone.{own_of, wire_in, wire_out}
+use Rattle.fnl_source.specs.Lone.{own_of, wire_in, wire_out}
 
 abbrev pub lone_part : List ℕ → Part
 lone_part name = record { id = name; inner = InnerLeaf 0 }

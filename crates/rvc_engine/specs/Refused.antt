@@ -4,7 +4,7 @@ use Rattle.std.specs.Prelude.{◌≡◌, ℕ, List, [], ◌∷◌, map, None, So
 use Rattle.rvc_base.specs.declared.refusal.Front.TheVariants as front
 use Rattle.rvc_base.specs.declared.refusal.Refusal.{Refusal}
 use Rattle.rvc_io.specs.Count.{HasRisen}
-use Rattle.actor_files.specs.Loading.{Counts, Library}
+use Rattle.cal_files.specs.Loading.{Counts, Library}
 use Rattle.cal_imports.specs.Answer.{Refuses}
 use Rattle.cal_imports.specs.Resolved.{resolved}
 use Rattle.cal_model.specs.Actor.{Actor}
@@ -13,14 +13,14 @@ use Rattle.fnl_bind.specs.Library.{Entry, network_of}
 use Rattle.fnl_bind.specs.Trees.{bound, violations}
 use Rattle.fnl_flatten.specs.Flattened.{IsRefusal}
 use Rattle.fnl_tree.specs.Tree.{Leaf, Tree}
-use Rattle.leaf_actors.specs.Leaves as leaves
-use Rattle.leaf_actors.specs.Leaves.{AreActorsOf}
-use Rattle.network_files.specs.Loading.{IsFaulted, IsRefused}
-use Rattle.network_files.specs.Requests.{names_of}
-use Rattle.source_network.specs.Actors.{head_of}
-use Rattle.source_network.specs.Files.{AreLoaded, Asked, Read, class_asked, files_of}
-use Rattle.source_network.specs.Lone.{lone_leaf}
-use Rattle.source_network.specs.Source.{Files, IsNamed, IsTree}
+use Rattle.check_leaves.specs.Leaves as leaves
+use Rattle.check_leaves.specs.Leaves.{AreActorsOf}
+use Rattle.fnl_files.specs.Loading.{IsFaulted, IsRefused}
+use Rattle.fnl_files.specs.Requests.{names_of}
+use Rattle.fnl_source.specs.Actors.{head_of}
+use Rattle.fnl_source.specs.Files.{AreLoaded, Asked, Read, class_asked, files_of}
+use Rattle.fnl_source.specs.Lone.{lone_leaf}
+use Rattle.fnl_source.specs.Source.{Files, IsNamed, IsTree}
 use Rattle.rvc_engine.specs.declared.fault.BuildFault.{BuildFault}
 use Rattle.rvc_engine.specs.declared.fault.BuildFault.TheVariants.{Refused, ReadFault, Memory}
 

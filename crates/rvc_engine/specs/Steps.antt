@@ -3,22 +3,22 @@
 use Rattle.std.specs.Prelude.{◌≡◌, ◌⊎◌, ℕ, true, List, [], ◌∷◌, is_some, map}
 use Rattle.rvc_base.specs.declared.refusal.Front.{Front}
 use Rattle.rvc_base.specs.declared.refusal.Front.TheVariants as front
-use Rattle.actor_files.specs.Loading.{Counts, Library}
-use Rattle.actor_files.specs.declared.fault.LoadFault.{LoadFault}
-use Rattle.actor_files.specs.declared.fault.LoadFault.TheVariants as load
+use Rattle.cal_files.specs.Loading.{Counts, Library}
+use Rattle.cal_files.specs.declared.fault.LoadFault.{LoadFault}
+use Rattle.cal_files.specs.declared.fault.LoadFault.TheVariants as load
 use Rattle.cal_imports.specs.Sources.{source_named}
 use Rattle.cal_model.specs.Actor.{Actor}
 use Rattle.fnl_bind.specs.Library.{network_of}
 use Rattle.fnl_flatten.specs.Flattened.{IsFlattened, IsRefusal}
 use Rattle.fnl_tree.specs.Sound.{IsSound as IsSoundTree}
 use Rattle.fnl_tree.specs.Tree.{Tree}
-use Rattle.network_files.specs.Views.{files_in}
-use Rattle.distinct_names.specs.Names.{AreSpelled}
-use Rattle.leaf_actors.specs.Leaves.{AreActorsOf, IsWithin, actors_at_leaves}
-use Rattle.leaf_actors.specs.declared.found.LeafActors.{LeafActors}
-use Rattle.source_network.specs.Actors.{head_of}
-use Rattle.source_network.specs.Files.{Asked, Read, class_asked, files_of}
-use Rattle.source_network.specs.Source.{Files, IsTree}
+use Rattle.fnl_files.specs.Views.{files_in}
+use Rattle.law_sources.specs.Names.{AreSpelled}
+use Rattle.check_leaves.specs.Leaves.{AreActorsOf, IsWithin, actors_at_leaves}
+use Rattle.check_leaves.specs.declared.found.LeafActors.{LeafActors}
+use Rattle.fnl_source.specs.Actors.{head_of}
+use Rattle.fnl_source.specs.Files.{Asked, Read, class_asked, files_of}
+use Rattle.fnl_source.specs.Source.{Files, IsTree}
 use Rattle.rvc_engine.specs.Checked.{AreRead, CountsMisses, HasSource, StandAtLeaves}
 use Rattle.rvc_engine.specs.Refused.{AreLeavesIn, Breaks}
 use Rattle.rvc_engine.specs.declared.checked.Checked.{Checked}

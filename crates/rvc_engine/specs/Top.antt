@@ -6,8 +6,8 @@ use Rattle.std.specs.Prelude.{◌≡◌, ◌⊎◌, ◌==◌, ℕ, List, ◌++�
 use Rattle.std.specs.List.{after_first}
 use Rattle.std.specs.Str.{bytes_eq}
 use Rattle.cal_imports.specs.Sources.{dot}
-use Rattle.actor_files.specs.FileNames.{class_of, path_of}
-use Rattle.source_network.specs.Files.{Asked, Choice, a_network, an_actor, name_of, wanted}
+use Rattle.cal_files.specs.FileNames.{class_of, path_of}
+use Rattle.fnl_source.specs.Files.{Asked, Choice, a_network, an_actor, name_of, wanted}
 
 -- what stands behind the first dot
 abbrev pub ending_of : (file : List ℕ) → List ℕ

@@ -1,7 +1,7 @@
 //! The image of a network that was checked.
 
 ghost use Rattle.std.specs.Prelude.{◌≡◌, ℕ, List, IfErr, IfOk};
-ghost use Rattle.network_files.specs.Views.{files_in};
+ghost use Rattle.fnl_files.specs.Views.{files_in};
 ghost use Rattle.rvc_engine.specs.Built.{IsImageOf};
 ghost use Rattle.rvc_engine.specs.Checked.{HasSource};
 ghost use Rattle.rvc_engine.specs.Images.{IsAnySource};
@@ -11,7 +11,7 @@ use crate::checked::Checked;
 use crate::compiling::{codes_at, compile_all, uncertified_at};
 use crate::fault::BuildFault;
 use crate::image::Image;
-use network_files::NetworkFiles;
+use fnl_files::NetworkFiles;
 use rvc_base::Memory;
 use std::alloc::Global;
 

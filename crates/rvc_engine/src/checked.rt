@@ -2,8 +2,8 @@
 
 ghost use Rattle.std.specs.Prelude.{◌≡◌, length};
 
+use check_leaves::LeafActors;
 use fnl_flatten::Flat;
-use leaf_actors::LeafActors;
 
 /// A network that was checked, before anything is compiled.
 #[derive(Drop)]

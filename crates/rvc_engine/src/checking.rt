@@ -3,9 +3,9 @@
 ghost use Rattle.std.specs.Prelude.{◌≡◌, ◌∷◌, [], IfErr, IfOk, None, is_some, map, true};
 ghost use Rattle.fnl_bind.specs.Library.{network_of};
 ghost use Rattle.fnl_tree.specs.View.{leaf_of, tree_of};
-ghost use Rattle.network_files.specs.Views.{files_in};
-ghost use Rattle.source_network.specs.Lone.{lone_leaf};
-ghost use Rattle.source_network.specs.Source.{IsNamed};
+ghost use Rattle.fnl_files.specs.Views.{files_in};
+ghost use Rattle.fnl_source.specs.Lone.{lone_leaf};
+ghost use Rattle.fnl_source.specs.Source.{IsNamed};
 ghost use Rattle.rvc_engine.specs.Checked.{HasSource};
 ghost use Rattle.rvc_engine.specs.Steps.{AreReady, IsBare, IsPeopled, IsWhy};
 
@@ -13,12 +13,12 @@ use crate::checked::Checked;
 use crate::joining::{join, one_actor};
 use crate::lone::{lone_leaf, lone_tree};
 use cal_imports::resolve;
+use check_leaves::{LeafActors, actors_are_leaves_of_a_network, check_leaves};
+use fnl_files::NetworkFiles;
+use fnl_source::{answers_are_the_source_network, one_network};
 use fnl_tree::{Leaf, Tree};
 use fnl_walk::bind;
-use leaf_actors::{LeafActors, actors_are_leaves_of_a_network, check_leaves};
-use network_files::NetworkFiles;
 use rvc_base::{Front, Memory};
-use source_network::{answers_are_the_source_network, one_network};
 use std::alloc::Global;
 
 /// The network that files mean from a class down, or a rule that they break.

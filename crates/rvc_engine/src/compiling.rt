@@ -2,17 +2,17 @@
 
 ghost use Rattle.std.specs.Prelude.{◌≡◌, ◌<◌, All, IfOk, OnOk, List, length, map};
 ghost use Rattle.std.specs.Arc.{arc_value};
-ghost use Rattle.actor_lower.specs.Leaves.{StandForActors};
+ghost use Rattle.lower_actor.specs.Leaves.{StandForActors};
 ghost use Rattle.cal_model.specs.Actor.{Actor};
 ghost use Rattle.cal_model.specs.Sound.{Each, IsSound};
 ghost use Rattle.cal_model.specs.View.{actor_of};
-ghost use Rattle.leaf_actors.specs.Leaves.{at_places};
+ghost use Rattle.check_leaves.specs.Leaves.{at_places};
 ghost use Rattle.rvc_engine.specs.Built.{AreJudged, IsJudged};
 ghost use Rattle.rvc_engine.specs.Compiling.{AddsCompiled, AreCompiled, IsCompiled};
 
-use actor_lower::lower;
 use cal_model::Bound;
 use determinacy_cert::{CertFault, certify};
+use lower_actor::lower;
 use lowered_actor::Lowered;
 use rvc_base::Memory;
 use std::alloc::Global;

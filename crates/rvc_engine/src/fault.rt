@@ -3,7 +3,7 @@
 ghost use Rattle.std.specs.Prelude.{◌≡◌};
 ghost use Rattle.rvc_engine.specs.Steps.{of_front, of_load};
 
-use actor_files::LoadFault;
+use cal_files::LoadFault;
 use rvc_base::{Front, Refusal};
 use thiserror::Error;
 

@@ -1,7 +1,7 @@
 //! Files with what was checked of them.
 
 use crate::checked::Checked;
-use network_files::NetworkFiles;
+use fnl_files::NetworkFiles;
 
 /// Files that were read, and the network that they mean.
 #[derive(Drop)]

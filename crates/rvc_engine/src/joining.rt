@@ -5,15 +5,15 @@ ghost use Rattle.cal_model.specs.Sound.{Each, IsSound};
 ghost use Rattle.cal_model.specs.View.{actor_of};
 ghost use Rattle.fnl_tree.specs.View.{tree_of};
 ghost use Rattle.fnl_flatten.specs.Whole.{IsWhole};
-ghost use Rattle.leaf_actors.specs.Leaves.{IsWithin, actors_at_leaves, distinct_actors};
-ghost use Rattle.source_network.specs.Actors.{head_of};
+ghost use Rattle.check_leaves.specs.Leaves.{IsWithin, actors_at_leaves, distinct_actors};
+ghost use Rattle.fnl_source.specs.Actors.{head_of};
 ghost use Rattle.rvc_engine.specs.Steps.{HasOne, IsJoined, IsNotJoined};
 
 use crate::checked::Checked;
 use cal_model::Bound;
+use check_leaves::{LeafActors, heads};
 use fnl_flatten::flatten;
 use fnl_tree::Tree;
-use leaf_actors::{LeafActors, heads};
 use rvc_base::{Front, Memory};
 use std::alloc::Global;
 

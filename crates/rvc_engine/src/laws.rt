@@ -5,8 +5,8 @@ ghost use Rattle.rvc_engine.specs.Laws.{NetworksAreNotRefused, NetworksBreakNoth
 ghost use Rattle.rvc_engine.specs.Top.{TopsAreRead};
 
 use cal_model::one_line;
-use network_files::one_outcome;
-use source_network::{one_library_network, one_network};
+use fnl_files::one_outcome;
+use fnl_source::{one_library_network, one_network};
 
 /// The file that is read for a top of the words is that of exactly its name.
 pub fn tops_are_read_by_name()

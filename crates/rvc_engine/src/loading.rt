@@ -1,8 +1,8 @@
 //! The files of a top, with what is checked of them.
 
 ghost use Rattle.std.specs.Prelude.{◌≡◌, ◌≤◌, ℕ, List, [], IfErr, IfOk};
-ghost use Rattle.actor_files.specs.Views.{file_names};
-ghost use Rattle.network_files.specs.Views.{asked_of};
+ghost use Rattle.cal_files.specs.Views.{file_names};
+ghost use Rattle.fnl_files.specs.Views.{asked_of};
 ghost use Rattle.rvc_engine.specs.Refused.{IsFault};
 ghost use Rattle.rvc_engine.specs.Steps.{IsHeld};
 ghost use Rattle.rvc_engine.specs.Top.{top_asked};
@@ -11,9 +11,9 @@ use crate::checking::check_files;
 use crate::fault::{BuildFault, of_front, of_load};
 use crate::held::Held;
 use crate::top::kind_of;
-use actor_files::{Names, class_of};
-use distinct_names::network_files_are_spelled;
-use network_files::{FileKind, leaves_have_files, load_network};
+use cal_files::{Names, class_of};
+use fnl_files::{FileKind, leaves_have_files, load_network};
+use law_sources::network_files_are_spelled;
 use rvc_base::Memory;
 use rvc_io::Library;
 use std::alloc::Global;

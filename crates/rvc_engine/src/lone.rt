@@ -3,8 +3,8 @@
 ghost use Rattle.std.specs.Prelude.{◌≡◌, ◌++◌, ◌∷◌, [], IfOk, OnOk, map};
 ghost use Rattle.cal_model.specs.View.{actor_of, port_view};
 ghost use Rattle.fnl_tree.specs.View.{leaf_of, net_of, own_of, part_of, tree_of, wire_of};
-ghost use Rattle.source_network.specs.Lone as lone;
-ghost use Rattle.source_network.specs.Lone.{lone_leaf, lone_tree, wire_in, wire_out};
+ghost use Rattle.fnl_source.specs.Lone as lone;
+ghost use Rattle.fnl_source.specs.Lone.{lone_leaf, lone_tree, wire_in, wire_out};
 ghost use Rattle.rvc_engine.specs.LoneNet.{lone_net, lone_part};
 
 use cal_model::{Bound, Port};

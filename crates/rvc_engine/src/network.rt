@@ -2,11 +2,11 @@
 
 ghost use Rattle.std.specs.Prelude.{◌≡◌, ◌≤◌, ℕ, List, [], IfErr, IfOk, IsErr, MatchResult};
 ghost use Rattle.rvc_base.specs.declared.refusal.Refusal.{Refusal as Denial};
-ghost use Rattle.actor_files.specs.Loading.{Counts, TellsAll};
-ghost use Rattle.actor_files.specs.Views.{file_names};
+ghost use Rattle.cal_files.specs.Loading.{Counts, TellsAll};
+ghost use Rattle.cal_files.specs.Views.{file_names};
 ghost use Rattle.cal_model.specs.Selection.{State};
 ghost use Rattle.net_model.specs.Network.{Network};
-ghost use Rattle.source_network.specs.Library.{IsLibraryNetwork};
+ghost use Rattle.fnl_source.specs.Library.{IsLibraryNetwork};
 ghost use Rattle.rvc_engine.specs.Built.{IsBuilt};
 ghost use Rattle.rvc_engine.specs.Checked.{CountsMisses, HasNetwork, IsChecked};
 ghost use Rattle.rvc_engine.specs.Images.{MeansNet};
@@ -20,14 +20,14 @@ use crate::held::Held;
 use crate::image::Image;
 use crate::laws::networks_are_not_refused;
 use crate::loading::held_of_top;
-use actor_files::Names;
+use cal_files::Names;
+use fnl_source::one_library_network;
 use rvc_io::Library;
-use source_network::one_library_network;
 use std::alloc::Global;
 
 /// The network of a top, checked. The top is the name of a file, as `p/q/Net.xdf` for a network and `p/q/A.cal` for an
 /// actor, which is then the one leaf of a network with its own ports. Its file and those of all that it asks for are read,
-/// as [`load_network`](network_files::load_network) says, the networks are bound, each actor is checked over the values that
+/// as [`load_network`](fnl_files::load_network) says, the networks are bound, each actor is checked over the values that
 /// it is given, and all are joined. `names` gets the names of the files.
 ///
 /// What is given is the source network of the files (`checked`). An actor within a network was looked up as a network first,

@@ -1,11 +1,11 @@
 //! The top that the words name.
 
 ghost use Rattle.std.specs.Prelude.{◌≡◌};
-ghost use Rattle.actor_files.specs.FileNames.{class_of};
-ghost use Rattle.network_files.specs.Views.{asked_of};
+ghost use Rattle.cal_files.specs.FileNames.{class_of};
+ghost use Rattle.fnl_files.specs.Views.{asked_of};
 ghost use Rattle.rvc_engine.specs.Top.{ending_of, top_asked};
 
-use network_files::FileKind;
+use fnl_files::FileKind;
 
 /// What stands behind the first dot of a name.
 fn ending_of(file: &str) -> &str

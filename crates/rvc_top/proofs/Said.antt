@@ -5,19 +5,19 @@ use Rattle.rvc_io.specs.Count.{HasRisen}
 use Rattle.rvc_words.specs.declared.fault.UsageCause.{UsageCause}
 use Rattle.cal_model.specs.Selection.{State}
 use Rattle.net_model.specs.Network.{Network}
-use Rattle.network_commands.specs.Answers.{IsAnswered, is_reported, is_unreported}
-use Rattle.network_commands.specs.Commands.{Command}
-use Rattle.certify_job.specs.Ends as certify
-use Rattle.check_job.specs.Ends as check
-use Rattle.determinate_jobs.specs.QuietRuns.{ComesDeterminate, RunsTellQuietRuns}
-use Rattle.gen_job.specs.Ends as gen
-use Rattle.replay_job.specs.Ends as replay
-use Rattle.run_job.specs.Ends as run
-use Rattle.run_report.specs.About.{About}
-use Rattle.run_report.specs.Report.{report}
-use Rattle.run_report.specs.declared.status.ReadAt.TheVariants.{File, Feed}
-use Rattle.run_report.specs.declared.status.Status.{Status}
-use Rattle.run_report.specs.declared.status.Status.TheVariants.{Quiet, Done, Usage, ReadFault, WriteFault, Refused, Trapped, Stalled, Budget, OutOfMemory, NotRun, Uncertified}
+use Rattle.cmd_network.specs.Answers.{IsAnswered, is_reported, is_unreported}
+use Rattle.cmd_network.specs.Commands.{Command}
+use Rattle.cmd_certify.specs.Ends as certify
+use Rattle.cmd_check.specs.Ends as check
+use Rattle.law_determinate.specs.QuietRuns.{ComesDeterminate, RunsTellQuietRuns}
+use Rattle.cmd_gen.specs.Ends as gen
+use Rattle.cmd_replay.specs.Ends as replay
+use Rattle.cmd_run.specs.Ends as run
+use Rattle.cmd_report.specs.About.{About}
+use Rattle.cmd_report.specs.Report.{report}
+use Rattle.cmd_report.specs.declared.status.ReadAt.TheVariants.{File, Feed}
+use Rattle.cmd_report.specs.declared.status.Status.{Status}
+use Rattle.cmd_report.specs.declared.status.Status.TheVariants.{Quiet, Done, Usage, ReadFault, WriteFault, Refused, Trapped, Stalled, Budget, OutOfMemory, NotRun, Uncertified}
 use Rattle.rvc_top.specs.Generated.{GenComesDeterminate}
 use Rattle.rvc_top.specs.Steps.{IsNoUsage, IsSaid}
 

@@ -1,11 +1,11 @@
 -- What a run of a generated network tells of every quiet run over the generated input, if each actor is certified.
 -- Trusted: part of what a promise means.
 use Rattle.std.specs.Prelude.{ℕ, List}
-use Rattle.determinate_jobs.specs.QuietRuns.{QuietRunsGoOn}
-use Rattle.gen_job.specs.Ends.{Comes, IsGenerated}
-use Rattle.network_commands.specs.Commands.{Command}
-use Rattle.run_report.specs.About.{About}
-use Rattle.run_report.specs.declared.status.Status.{Status}
+use Rattle.law_determinate.specs.QuietRuns.{QuietRunsGoOn}
+use Rattle.cmd_gen.specs.Ends.{Comes, IsGenerated}
+use Rattle.cmd_network.specs.Commands.{Command}
+use Rattle.cmd_report.specs.About.{About}
+use Rattle.cmd_report.specs.declared.status.Status.{Status}
 
 -- A command of the verb `gen` came to this status, and the command that is run for it tells what every quiet run gives.
 abbrev pub GenComesDeterminate : Command → Status → (lines : List ℕ) → About → Type 0

@@ -3,13 +3,13 @@
 use Rattle.std.specs.Prelude.{◌≡◌, ◌⊎◌, ℕ, List, []}
 use Rattle.rvc_words.specs.Words.{JobText, job_text}
 use Rattle.rvc_words.specs.declared.job.Job.{Job}
-use Rattle.format_job.specs.Reports.{Reports}
-use Rattle.network_commands.specs.Answers.{IsAnswered}
-use Rattle.network_commands.specs.Commands.{Command, Met, command}
-use Rattle.run_report.specs.About.{About}
-use Rattle.run_report.specs.Report.{last_line}
-use Rattle.run_report.specs.declared.status.Status.{Status}
-use Rattle.run_report.specs.declared.status.Status.TheVariants as status
+use Rattle.cmd_fmt.specs.Reports.{Reports}
+use Rattle.cmd_network.specs.Answers.{IsAnswered}
+use Rattle.cmd_network.specs.Commands.{Command, Met, command}
+use Rattle.cmd_report.specs.About.{About}
+use Rattle.cmd_report.specs.Report.{last_line}
+use Rattle.cmd_report.specs.declared.status.Status.{Status}
+use Rattle.cmd_report.specs.declared.status.Status.TheVariants as status
 
 -- ---- words that aren't a job
 

@@ -3,10 +3,10 @@
 use Rattle.std.specs.Prelude.{◌≡◌, ℕ, true, List, ◌++◌}
 use Rattle.rvc_io.specs.Channels.{Channels}
 use Rattle.rvc_io.specs.Count.{HasRisen}
-use Rattle.run_report.specs.Report.{last_line}
-use Rattle.run_report.specs.declared.status.ReadAt.TheVariants.{File, Feed}
-use Rattle.run_report.specs.declared.status.Status.{Status}
-use Rattle.run_report.specs.declared.status.Status.TheVariants as status
+use Rattle.cmd_report.specs.Report.{last_line}
+use Rattle.cmd_report.specs.declared.status.ReadAt.TheVariants.{File, Feed}
+use Rattle.cmd_report.specs.declared.status.Status.{Status}
+use Rattle.cmd_report.specs.declared.status.Status.TheVariants as status
 use Rattle.rvc_top.specs.Jobs.{about_words}
 
 -- no channel was opened, and none was written but that of the report

@@ -3,8 +3,8 @@
 use Rattle.std.specs.Prelude.{◌≡◌, ℕ}
 use Rattle.rvc_io.specs.Channels.{Channels, WritesOnlyAt}
 use Rattle.rvc_words.specs.declared.fault.UsageCause.{UsageCause}
-use Rattle.run_report.specs.declared.status.Status.{Status}
-use Rattle.run_report.specs.declared.status.Status.TheVariants as status
+use Rattle.cmd_report.specs.declared.status.Status.{Status}
+use Rattle.cmd_report.specs.declared.status.Status.TheVariants as status
 use Rattle.rvc_top.specs.Status.{IsReportAlone, IsCaused, PlainReportIs}
 
 pub record IsSaid (lo ln ffo ff : ℕ) (old new : Channels) (answer : Status) : Type 0 where

@@ -1,18 +1,20 @@
-//! The top call: what the words of the command line ask for is done, over any library of files, feeds and channels.
+//! The top call: what the words of the command line ask for is done.
 //!
-//! [`rvc`] reads the words and hands the job to its verb: `run` to [`run_job`](run_job::run_job), `check` to
-//! [`check_job`](check_job::check_job), `certify` to [`certify_job`](certify_job::certify_job), `replay` to
-//! [`replay_job`](replay_job::replay_job), `gen` to [`gen_job`](gen_job::gen_job), and `fmt` to
-//! [`format_job`](format_job::format_job).
+//! What the words of the command line ask for is done, over any library of files, feeds and channels.
 //!
-//! `specs/Jobs.antt` says what it means that the job of the words is done, `specs/Status.antt` what each status says of the
-//! outside.
+//! [`rvc`] reads the words and hands the job to its verb: `run` to [`run_job`](cmd_run::run_job), `check` to
+//! [`check_job`](cmd_check::check_job), `certify` to [`certify_job`](cmd_certify::certify_job), `replay` to
+//! [`replay_job`](cmd_replay::replay_job), `gen` to [`gen_job`](cmd_gen::gen_job), and `fmt` to
+//! [`format_job`](cmd_fmt::format_job).
+//!
+//! `specs/Jobs.antt` says what it means that the job of the words is done, `specs/Status.antt` what each status says of
+//! the outside.
 #![tactic(auto)]
 
 mod reporting;
 mod top;
 mod verbs;
 
-pub use run_report::{ReadAt, Status};
+pub use cmd_report::{ReadAt, Status};
 pub use rvc_words::UsageCause;
 pub use top::rvc;

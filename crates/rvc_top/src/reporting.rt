@@ -1,11 +1,11 @@
 //! Reports of words that aren't a job.
 
 ghost use Rattle.std.specs.Prelude.{◌≡◌, true};
-ghost use Rattle.run_report.specs.Report.{last_line};
-ghost use Rattle.format_job.specs.Reports.{Reports};
+ghost use Rattle.cmd_report.specs.Report.{last_line};
+ghost use Rattle.cmd_fmt.specs.Reports.{Reports};
 ghost use Rattle.rvc_top.specs.Jobs.{about_words};
 
-use run_report::{REPORT_CHANNEL, Status, Subject, report_end};
+use cmd_report::{REPORT_CHANNEL, Status, Subject, report_end};
 use rvc_io::{Drains, Failed};
 
 /// Puts the last line of this status, and gives it.

@@ -8,32 +8,32 @@ ghost use Rattle.rvc_io.specs.Elsewhere.{SameElsewhere};
 ghost use Rattle.rvc_words.specs.Words.{JobText, job, texts};
 ghost use Rattle.rvc_words.specs.declared.fault.UsageCause.{UsageCause};
 ghost use Rattle.rvc_words.specs.declared.job.Verb.TheVariants as verb;
-ghost use Rattle.actor_files.specs.Loading.{Counts, TellsAll};
+ghost use Rattle.cal_files.specs.Loading.{Counts, TellsAll};
 ghost use Rattle.cal_ast.specs.Tree.{Tree};
 ghost use Rattle.cal_model.specs.Selection.{State};
 ghost use Rattle.net_model.specs.Network.{Network};
-ghost use Rattle.conforming_jobs.specs.Conforming.{Conforms, ConformsWith, names_of_ports, no_ports};
+ghost use Rattle.cmd_network.specs.Conforming.{Conforms, ConformsWith, names_of_ports, no_ports};
 ghost use Rattle.rvc_engine.specs.Top.{top_asked};
-ghost use Rattle.grown_links.specs.Growth.{GrowTooFar};
-ghost use Rattle.network_commands.specs.Commands.{RefusesJob, met_by};
-ghost use Rattle.certify_job.specs.Ends.{Comes as CertifyComes, IsDecided, IsUndecided};
-ghost use Rattle.check_job.specs.Ends.{Comes as CheckComes, IsDoneOrOutside};
-ghost use Rattle.determinate_jobs.specs.QuietRuns.{ComesDeterminate};
-ghost use Rattle.format_job.specs.Formatting.{HasFile, IsDoneOrMemory, IsPrinting, IsUnprinted, PrintsFile, library_met};
-ghost use Rattle.format_job.specs.Reports.{IsCutShort, ReportIs, about_file};
-ghost use Rattle.gen_job.specs.Ends.{Comes as GenComes, ComesFor as GenComesFor};
-ghost use Rattle.gen_job.specs.Jobs.{GeneratedConform, instances_of};
-ghost use Rattle.replay_job.specs.Ends.{Comes as ReplayComes, IsJudgedOrOutside, IsNoVerdict};
-ghost use Rattle.replay_job.specs.Replays.{ConformsToReplay, RefusesReplay};
-ghost use Rattle.run_job.specs.Ends.{Comes as RunComes, ComesFor, IsNoEnd};
+ghost use Rattle.cmd_run_network.specs.Growth.{GrowTooFar};
+ghost use Rattle.cmd_network.specs.Commands.{RefusesJob, met_by};
+ghost use Rattle.cmd_certify.specs.Ends.{Comes as CertifyComes, IsDecided, IsUndecided};
+ghost use Rattle.cmd_check.specs.Ends.{Comes as CheckComes, IsDoneOrOutside};
+ghost use Rattle.law_determinate.specs.QuietRuns.{ComesDeterminate};
+ghost use Rattle.cmd_fmt.specs.Formatting.{HasFile, IsDoneOrMemory, IsPrinting, IsUnprinted, PrintsFile, library_met};
+ghost use Rattle.cmd_fmt.specs.Reports.{IsCutShort, ReportIs, about_file};
+ghost use Rattle.cmd_gen.specs.Ends.{Comes as GenComes, ComesFor as GenComesFor};
+ghost use Rattle.cmd_gen.specs.Jobs.{GeneratedConform, instances_of};
+ghost use Rattle.cmd_replay.specs.Ends.{Comes as ReplayComes, IsJudgedOrOutside, IsNoVerdict};
+ghost use Rattle.cmd_replay.specs.Replays.{ConformsToReplay, RefusesReplay};
+ghost use Rattle.cmd_run.specs.Ends.{Comes as RunComes, ComesFor, IsNoEnd};
 ghost use Rattle.rvc_top.specs.Generated.{GenComesDeterminate};
 ghost use Rattle.rvc_top.specs.Jobs.{IsAnsweredAlone, IsDoneBy, IsSettled};
 ghost use Rattle.rvc_top.specs.Status.{IsReportAlone, IsCaused, IsOfJob, PlainReportIs};
 
 use crate::reporting::report;
 use crate::verbs::do_job;
-use gen_job::jobs_to_generate_have_numbers;
-use run_report::Status;
+use cmd_gen::jobs_to_generate_have_numbers;
+use cmd_report::Status;
 use rvc_io::{Drains, Feeds, Gate, Library};
 use rvc_words::{WordFault, read_words};
 use std::alloc::Global;
@@ -45,25 +45,25 @@ use std::thread::Threads;
 /// **If the answer of `run` is `Quiet`, `Trapped`, `Stalled` or `Budget`, there is a network that the files of the library
 /// mean. The trace is the text of a run of it over the bytes of the feeds, the channels of its outputs have the bytes of
 /// that run, the status names how it ended, and the report counts it** (`run`, which says of the job that the words are to
-/// what [`run_job`](run_job::run_job) comes: `Ran` for these four answers, and a case for each other one). **If every actor
+/// what [`run_job`](cmd_run::run_job) comes: `Ran` for these four answers, and a case for each other one). **If every actor
 /// is certified, which the report's count shows, the outputs of every quiet run over these inputs are those bytes, or
-/// continue them if this run ended otherwise** (`determinate`: `TellsQuietRuns` of [`determinate_jobs`]). If the library
+/// continue them if this run ended otherwise** (`determinate`: `TellsQuietRuns` of [`law_determinate`]). If the library
 /// tells of each name, and the files and the words conform to a network, that one is run, unless the job lets links grow too
 /// far, memory runs out, or reading or writing fails (`run_complete`); and what is refused never ends a run
 /// (`run_incomplete`, `run_too_far`).
 ///
-/// - `check`: the job was checked as [`check_job`](check_job::check_job) says: `Done` if the files conform and there is no
+/// - `check`: the job was checked as [`check_job`](cmd_check::check_job) says: `Done` if the files conform and there is no
 ///   port word. Nothing is opened. What conforms is `Done`, unless memory runs out or reading or writing fails
 ///   (`check_complete`); what is refused never is (`check_incomplete`).
-/// - `certify`: the actors of the job were judged as [`certify_job`](certify_job::certify_job) says: `Done` if the files
+/// - `certify`: the actors of the job were judged as [`certify_job`](cmd_certify::certify_job) says: `Done` if the files
 ///   conform, there is no port word, and each actor is certified, and `Uncertified` at the lowest one that isn't. Nothing is
 ///   opened. What conforms is decided so, unless memory runs out or reading or writing fails (`certify_complete`); what is
 ///   refused never is (`certify_incomplete`).
-/// - `replay`: the trace was judged as [`replay_job`](replay_job::replay_job) says: `Done` if it is the text of a run of the
+/// - `replay`: the trace was judged as [`replay_job`](cmd_replay::replay_job) says: `Done` if it is the text of a run of the
 ///   network that the files mean, over the bytes of the feeds, and `NotRun` at the first line that isn't. No channel is
 ///   opened. What conforms is judged so, unless memory runs out, or reading or writing fails (`replay_complete`); what is
 ///   refused never is (`replay_incomplete`).
-/// - `generated`: `gen` made a network and ran it as [`gen_job`](gen_job::gen_job) says, over an input that was generated
+/// - `generated`: `gen` made a network and ran it as [`gen_job`](cmd_gen::gen_job) says, over an input that was generated
 ///   too. No file is read and no feed is opened (`gen_reads_no_file`, `gen_opens_no_feed`). If every actor is certified,
 ///   that run tells of every quiet run over the generated input what `determinate` says of `run` (`gen_determinate`). If the
 ///   generated files conform with the port words, their network is run, unless memory runs out, writing fails or the job is

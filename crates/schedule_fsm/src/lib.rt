@@ -1,5 +1,7 @@
-//! The automaton of an actor's schedule: which actions are eligible in a state, and the state that follows
-//! (CAL Language Report, action-level control structures).
+//! The automaton of an actor's schedule: eligible actions, and the state that follows.
+//!
+//! Which actions are eligible in a state, and the state that follows (CAL Language Report, action-level control
+//! structures).
 #![tactic(auto)]
 
 mod fsm;

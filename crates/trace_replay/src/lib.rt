@@ -1,7 +1,9 @@
-//! Replay of recorded traces: whether a text is a trace of a run, and if not, which line no run has and why.
+//! Replay of recorded traces: whether a text is the trace of a run, else which line isn't.
 //!
-//! [`replay`] reads a trace over cells that are ready to be run and what the feeds of their network's inputs have. What a
-//! trace is, line by line, is said once for all networks, with the laws of [`traces_are_runs`] and the others.
+//! Whether a text is a trace of a run, and if not, which line no run has and why.
+//!
+//! [`replay`] reads a trace over cells that are ready to be run and what the feeds of their network's inputs have. What
+//! a trace is, line by line, is said once for all networks, with the laws of [`traces_are_runs`] and the others.
 #![tactic(auto)]
 
 mod between;

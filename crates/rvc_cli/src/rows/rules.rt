@@ -3,7 +3,7 @@
 
 use crate::rows::running::hold_left;
 use crate::rows::table::hold;
-use run_objects::Row;
+use kit_commands::Row;
 
 #[test]
 fn sources_break_each_rule(rt: HostRuntime) {

@@ -1,6 +1,6 @@
 //! The top call over objects in memory.
 
-use run_objects::{Row, begins, drains, feeds, left, library, words};
+use kit_commands::{Row, begins, drains, feeds, left, library, words};
 use rvc_io::OpenGate;
 use rvc_top::rvc;
 use std::alloc::Global;

@@ -7,7 +7,7 @@
 //! the trace that is under the name `t`, in which `/` ends each line.
 
 use crate::rows::running::hold_left;
-use run_objects::{Row, cut};
+use kit_commands::{Row, cut};
 use std::alloc::Global;
 use std::process::Abort;
 use std::thread::Threads;

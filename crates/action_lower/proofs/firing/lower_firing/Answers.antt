@@ -2,10 +2,10 @@ use Rattle.std.proofs.Common.{◌≡◌, ◌∙◌, Err, List, ap, map, rules, s
 use Rattle.std.specs.Prelude.{IfErr}
 use Rattle.cal_model.specs.Actor.{Port}
 use Rattle.cal_model.specs.View.{action_view, actor_of, port_view}
-use Rattle.expr_lower.specs.Held.{AreBelow}
-use Rattle.expr_lower.specs.Names.{Name, names_view}
-use Rattle.stmt_lower.specs.Changing.{AreTyped}
-use Rattle.stmt_lower.specs.Procedures.{Routines, routines_of}
+use Rattle.lower_base.specs.Held.{AreBelow}
+use Rattle.lower_base.specs.Names.{Name, names_view}
+use Rattle.lower_stmt.specs.Changing.{AreTyped}
+use Rattle.lower_stmt.specs.Procedures.{Routines, routines_of}
 use Rattle.action_lower.specs.FiringWords.{AddsFiring, left_out_of}
 use Rattle.action_lower.specs.Seats.{seen_seats}
 use Rattle.action_lower.specs.SendWords.{IsSendFault}

@@ -1,13 +1,13 @@
 use Rattle.std.proofs.Common.{◌≡◌, ◌∙◌, Err, List, None, ap, map, rules, subst, sym}
 use Rattle.std.specs.Prelude.{IfErr}
 use Rattle.cal_model.specs.View.{action_view, output_view, port_view}
-use Rattle.expr_lower.specs.Growing.{IsFault, ◌or_else◌}
-use Rattle.expr_lower.specs.Lowered.{Adds}
-use Rattle.expr_lower.specs.Names.{Name, names_view}
-use Rattle.stmt_lower.specs.Bodies.{IsExecutedCalling}
-use Rattle.stmt_lower.specs.Procedures.{Routines, routines_of}
-use Rattle.stmt_lower.specs.StmtGrowing.{left_out_all}
-use Rattle.stmt_lower.specs.StmtWords.{body_of}
+use Rattle.lower_base.specs.Growing.{IsFault, ◌or_else◌}
+use Rattle.lower_base.specs.Lowered.{Adds}
+use Rattle.lower_base.specs.Names.{Name, names_view}
+use Rattle.lower_stmt.specs.Bodies.{IsExecutedCalling}
+use Rattle.lower_stmt.specs.Procedures.{Routines, routines_of}
+use Rattle.lower_stmt.specs.StmtGrowing.{left_out_all}
+use Rattle.lower_stmt.specs.StmtWords.{body_of}
 use Rattle.action_lower.specs.FiringWords.{left_out_behind}
 use Rattle.action_lower.specs.SendWords.{IsSendFault, left_out_outputs}
 use Rattle.action_lower.specs.Sending.{AreOutputs}

@@ -3,11 +3,11 @@ use Rattle.std.specs.Prelude.{IfErr, IfOk}
 use Rattle.std.proofs.lemmas.Result.{IfOk-weaker}
 use Rattle.cal_model.specs.Actor.{Action, Port}
 use Rattle.cal_model.specs.View.{action_view, local_view, port_view}
-use Rattle.expr_lower.specs.Held.{AreBelow}
-use Rattle.expr_lower.specs.Lowered.{Adds}
-use Rattle.stmt_lower.specs.Changing.{AreTyped}
-use Rattle.expr_lower.specs.Names.{Name, names_view}
-use Rattle.stmt_lower.specs.Procedures.{Routines, routines_of}
+use Rattle.lower_base.specs.Held.{AreBelow}
+use Rattle.lower_base.specs.Lowered.{Adds}
+use Rattle.lower_stmt.specs.Changing.{AreTyped}
+use Rattle.lower_base.specs.Names.{Name, names_view}
+use Rattle.lower_stmt.specs.Procedures.{Routines, routines_of}
 use Rattle.action_lower.specs.FiringCode.{IsFiringCode}
 use Rattle.action_lower.specs.FiringWords.{IsBehindCode, left_out_behind}
 use Rattle.action_lower.specs.LocalCode.{AreStarted, left_out_locals}

@@ -1,7 +1,7 @@
 use Rattle.std.proofs.Common.{◌≡◌, ◌∙◌, ◌++◌, ap, map, rules, sym}
 use Rattle.cal_model.specs.View.{in_order, value_view, values_view}
 use Rattle.cal_model.specs.declared.value.Value as values
-use Rattle.expr_lower.specs.Flat.{flat_all}
+use Rattle.lower_base.specs.Flat.{flat_all}
 use Rattle.action_lower.proofs.FirstCells.{values-all, values-more}
 use Rattle.action_lower.proofs.first.+put_value.Goals as goal
 

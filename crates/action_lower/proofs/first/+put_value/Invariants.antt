@@ -1,6 +1,6 @@
 use Rattle.std.proofs.Common.{◌≡◌, ◌++◌, map, take}
 use Rattle.cal_model.specs.View.{in_order, value_view}
-use Rattle.expr_lower.specs.Flat.{flat_all}
+use Rattle.lower_base.specs.Flat.{flat_all}
 use Rattle.action_lower.proofs.first.+put_value.Given as goal
 
 abbrev pub invariant-put_values-loop-value : goal.invariant-put_values-loop-value

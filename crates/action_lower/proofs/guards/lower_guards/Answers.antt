@@ -3,11 +3,11 @@ use Rattle.std.proofs.Common.{◌≡◌, ◌∙◌, None, ap, arith, map, subst,
 use Rattle.std.proofs.lemmas.Result.{IfErr-weaker, IfOk-weaker}
 use Rattle.cal_ast.specs.View.{expr_tree}
 use Rattle.cal_model.specs.View.{action_view, actor_of}
-use Rattle.expr_lower.specs.Callees.{functions_view}
-use Rattle.expr_lower.specs.Growing.{IsFault}
-use Rattle.expr_lower.specs.Held.{AreBelow}
-use Rattle.expr_lower.specs.Names.{names_view}
-use Rattle.expr_lower.specs.Lowered.{Adds}
+use Rattle.lower_base.specs.Callees.{functions_view}
+use Rattle.lower_base.specs.Growing.{IsFault}
+use Rattle.lower_base.specs.Held.{AreBelow}
+use Rattle.lower_base.specs.Names.{names_view}
+use Rattle.lower_base.specs.Lowered.{Adds}
 use Rattle.action_lower.specs.GuardWords.{AddsGuards, AnswerAsGuards, left_out_action, left_out_guards}
 use Rattle.action_lower.specs.Guarding.{AreGuards}
 use Rattle.action_lower.specs.Seats.{seen_seats}

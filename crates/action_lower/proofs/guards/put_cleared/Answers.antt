@@ -1,8 +1,8 @@
 use Rattle.std.proofs.Common.{◌≡◌, ◌∷◌, ◌∙◌, [], ap, arith, length, length-append}
 use Rattle.cal_ast.specs.View.{expr_tree}
 use Rattle.code_ir.specs.declared.instr.Instr.TheVariants as op
-use Rattle.expr_lower.specs.Callees.{functions_view}
-use Rattle.expr_lower.specs.Names.{names_view}
+use Rattle.lower_base.specs.Callees.{functions_view}
+use Rattle.lower_base.specs.Names.{names_view}
 use Rattle.action_lower.proofs.GuardCode.{cleared-guard}
 use Rattle.action_lower.proofs.guards.put_cleared.Goals as goal
 

@@ -1,9 +1,9 @@
 use Rattle.std.proofs.Common.{◌≡◌, [], Err, map, rules, subst, sym}
 use Rattle.std.specs.Prelude.{IfErr}
 use Rattle.cal_ast.specs.View.{expr_tree}
-use Rattle.expr_lower.specs.Callees.{functions_view}
-use Rattle.expr_lower.specs.Growing.{IsFault}
-use Rattle.expr_lower.specs.Names.{names_view}
+use Rattle.lower_base.specs.Callees.{functions_view}
+use Rattle.lower_base.specs.Growing.{IsFault}
+use Rattle.lower_base.specs.Names.{names_view}
 use Rattle.action_lower.specs.GuardWords.{left_out_guards}
 use Rattle.action_lower.proofs.GuardCode.{AreAdded, fault-among, more-added, none-added}
 use Rattle.action_lower.proofs.guards.put_guards.Goals as goal

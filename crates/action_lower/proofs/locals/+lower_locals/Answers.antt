@@ -3,11 +3,11 @@ use Rattle.std.specs.Prelude.{IfErr, OnOk}
 use Rattle.std.proofs.lemmas.Result.{on_ok_weaker}
 use Rattle.cal_model.specs.Actor.{Local}
 use Rattle.cal_model.specs.View.{local_view}
-use Rattle.expr_lower.specs.Callees.{Function, functions_view}
-use Rattle.expr_lower.specs.Growing.{IsFault}
-use Rattle.expr_lower.specs.Lowered.{Adds}
-use Rattle.expr_lower.specs.Names.{Name, names_view}
-use Rattle.expr_lower.proofs.Adding.{no_items}
+use Rattle.lower_base.specs.Callees.{Function, functions_view}
+use Rattle.lower_base.specs.Growing.{IsFault}
+use Rattle.lower_base.specs.Lowered.{Adds}
+use Rattle.lower_base.specs.Names.{Name, names_view}
+use Rattle.lower_base.proofs.Adding.{no_items}
 use Rattle.action_lower.specs.LocalCode.{AreStarted, left_out_locals}
 use Rattle.action_lower.specs.LocalWords.{IsInFront}
 use Rattle.action_lower.proofs.AddingLocals.{locals_add, locals_open, none_adds}

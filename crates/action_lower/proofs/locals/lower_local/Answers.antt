@@ -2,11 +2,11 @@ use Rattle.std.proofs.Common.{◌≡◌, ◌∷◌, [], List, None, rules, subst
 use Rattle.std.proofs.lemmas.Result.{on_ok_weaker}
 use Rattle.cal_model.specs.Actor.{Local}
 use Rattle.cal_model.specs.View.{local_view}
-use Rattle.expr_lower.specs.Callees.{Function, functions_view}
-use Rattle.expr_lower.specs.Lowered.{Adds}
-use Rattle.expr_lower.specs.Names.{Name, names_view}
-use Rattle.expr_lower.specs.Seen.{called, seen}
-use Rattle.stmt_lower.specs.ListStarting.{StartsLocal, left_out_local}
+use Rattle.lower_base.specs.Callees.{Function, functions_view}
+use Rattle.lower_base.specs.Lowered.{Adds}
+use Rattle.lower_base.specs.Names.{Name, names_view}
+use Rattle.lower_base.specs.Seen.{called, seen}
+use Rattle.lower_stmt.specs.ListStarting.{StartsLocal, left_out_local}
 use Rattle.action_lower.specs.LocalCode.{AreStarted}
 use Rattle.action_lower.proofs.AddingLocals.{local_adds}
 use Rattle.action_lower.proofs.locals.lower_local.Goals as goal

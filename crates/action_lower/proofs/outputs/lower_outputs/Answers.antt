@@ -2,9 +2,9 @@ use Rattle.std.proofs.Common.{◌≡◌, [], Err, map, rules, subst, sym, take}
 use Rattle.std.specs.Prelude.{IfErr}
 use Rattle.cal_model.specs.View.{output_view, port_view}
 use Rattle.std.proofs.lemmas.List.{take_all}
-use Rattle.expr_lower.specs.Lowered.{Adds}
-use Rattle.expr_lower.specs.Callees.{functions_view}
-use Rattle.expr_lower.specs.Names.{names_view}
+use Rattle.lower_base.specs.Lowered.{Adds}
+use Rattle.lower_base.specs.Callees.{functions_view}
+use Rattle.lower_base.specs.Names.{names_view}
 use Rattle.action_lower.specs.SendWords.{IsSendFault, left_out_outputs}
 use Rattle.action_lower.specs.Sending.{AreOutputs}
 use Rattle.action_lower.proofs.OutputCode.{AreSentSoFar, few-at, more-sent, none-sent, output-fault, outputs-sent}

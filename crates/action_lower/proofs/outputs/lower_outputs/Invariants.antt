@@ -1,7 +1,7 @@
 use Rattle.std.proofs.Common.{map, take}
 use Rattle.cal_model.specs.View.{port_view}
-use Rattle.expr_lower.specs.Callees.{functions_view}
-use Rattle.expr_lower.specs.Names.{names_view}
+use Rattle.lower_base.specs.Callees.{functions_view}
+use Rattle.lower_base.specs.Names.{names_view}
 use Rattle.action_lower.proofs.OutputCode.{AreSentSoFar}
 use Rattle.action_lower.proofs.outputs.lower_outputs.Given as goal
 

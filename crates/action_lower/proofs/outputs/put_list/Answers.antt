@@ -1,11 +1,11 @@
 use Rattle.std.proofs.Common.{◌≡◌, List, rules, subst}
 use Rattle.cal_ast.specs.View.{expr_tree}
 use Rattle.cal_model.specs.View.{shape_view}
-use Rattle.expr_lower.specs.Callees.{Function, functions_view}
-use Rattle.expr_lower.specs.Lowered.{Adds}
-use Rattle.expr_lower.specs.Names.{Name, names_view}
-use Rattle.expr_lower.specs.Seen.{called, seen}
-use Rattle.list_lower.specs.Filling.{IsFill}
+use Rattle.lower_base.specs.Callees.{Function, functions_view}
+use Rattle.lower_base.specs.Lowered.{Adds}
+use Rattle.lower_base.specs.Names.{Name, names_view}
+use Rattle.lower_base.specs.Seen.{called, seen}
+use Rattle.expr_lower.specs.Filling.{IsFill}
 use Rattle.action_lower.proofs.OutputCode.{sent-list}
 use Rattle.action_lower.proofs.outputs.put_list.Goals as goal
 

@@ -2,12 +2,12 @@ use Rattle.std.proofs.Common.{◌≡◌, List, map, rules, subst, sym}
 use Rattle.std.proofs.lemmas.List.{length-map}
 use Rattle.cal_ast.specs.View.{expr_tree}
 use Rattle.cal_model.specs.View.{shape_view}
-use Rattle.expr_lower.specs.Callees.{Function, functions_view}
-use Rattle.expr_lower.specs.Lowered.{Adds}
-use Rattle.expr_lower.specs.Names.{Name, names_view}
-use Rattle.expr_lower.specs.PartView.{places_of}
-use Rattle.expr_lower.specs.Seen.{called, seen}
-use Rattle.list_lower.specs.Filling.{AreFills}
+use Rattle.lower_base.specs.Callees.{Function, functions_view}
+use Rattle.lower_base.specs.Lowered.{Adds}
+use Rattle.lower_base.specs.Names.{Name, names_view}
+use Rattle.lower_base.specs.PartView.{places_of}
+use Rattle.lower_base.specs.Seen.{called, seen}
+use Rattle.expr_lower.specs.Filling.{AreFills}
 use Rattle.action_lower.specs.SendWords.{HasArea}
 use Rattle.action_lower.proofs.OutputCode.{turns-added}
 use Rattle.action_lower.proofs.outputs.put_lists.Goals as goal

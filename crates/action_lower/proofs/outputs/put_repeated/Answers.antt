@@ -3,9 +3,9 @@ use Rattle.std.proofs.lemmas.Result.{IfOk-weaker}
 use Rattle.cal_ast.specs.View.{expr_tree}
 use Rattle.cal_ast.specs.declared.expr.Expr.{Expr}
 use Rattle.cal_model.specs.View.{port_view, shape_view}
-use Rattle.expr_lower.specs.Callees.{Function, functions_view}
-use Rattle.expr_lower.specs.Lowered.{Adds}
-use Rattle.expr_lower.specs.Names.{Name, names_view}
+use Rattle.lower_base.specs.Callees.{Function, functions_view}
+use Rattle.lower_base.specs.Lowered.{Adds}
+use Rattle.lower_base.specs.Names.{Name, names_view}
 use Rattle.action_lower.specs.Sending.{IsRepeated}
 use Rattle.action_lower.proofs.OutputCode.{none-is, none-repeated, one-is, one-repeated, repeated-added}
 use Rattle.action_lower.proofs.outputs.put_repeated.Goals as goal

@@ -1,7 +1,7 @@
 use Rattle.std.proofs.Common.{◌≡◌, ◌+◌, map, take}
 use Rattle.cal_ast.specs.View.{expr_tree}
-use Rattle.expr_lower.specs.Callees.{functions_view}
-use Rattle.expr_lower.specs.Names.{names_view}
+use Rattle.lower_base.specs.Callees.{functions_view}
+use Rattle.lower_base.specs.Names.{names_view}
 use Rattle.action_lower.proofs.OutputCode.{AreAdded}
 use Rattle.action_lower.proofs.outputs.put_values.Given as goal
 

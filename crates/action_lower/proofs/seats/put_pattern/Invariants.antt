@@ -1,6 +1,6 @@
 use Rattle.std.proofs.Common.{◌≡◌, ◌≤◌, ◌++◌, drop, length}
 use Rattle.cal_model.specs.View.{pattern_view}
-use Rattle.expr_lower.specs.Names.{names_view}
+use Rattle.lower_base.specs.Names.{names_view}
 use Rattle.action_lower.specs.Seats.{pattern_seats_from}
 use Rattle.action_lower.proofs.seats.put_pattern.Given as goal
 

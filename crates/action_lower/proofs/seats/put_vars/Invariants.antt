@@ -2,7 +2,7 @@ use Rattle.std.proofs.Common.{◌≡◌, ◌≤◌, ◌+◌, ◌++◌, drop, map
 use Rattle.cal_model.specs.Sound.{Each, max_variable_scalars, scalars_of_vars}
 use Rattle.cal_model.specs.Value.{IsOf, IsType}
 use Rattle.cal_model.specs.View.{var_view}
-use Rattle.expr_lower.specs.Names.{names_view}
+use Rattle.lower_base.specs.Names.{names_view}
 use Rattle.action_lower.specs.Seats.{var_seats}
 use Rattle.action_lower.proofs.seats.put_vars.Given as goal
 

@@ -1,7 +1,7 @@
 use Rattle.std.proofs.Common.{◌≡◌, ◌<◌, length, string_bytes, Err, rules, sym, ◌∙◌, arith}
 use Rattle.cal_lexer.specs.Lexeme.{Lexeme}
 use Rattle.cal_parser.proofs.ImportPaths.{no_path_yet, path_goes_on, path_named, path_starred, path_undotted, path_unnamed}
-use Rattle.cal_cursor.proofs.Taking.{took_less}
+use Rattle.cal_parse_base.proofs.Taking.{took_less}
 use Rattle.cal_parser.proofs.files.read_path.Goals as goal
 
 pub path-init : goal.path-init

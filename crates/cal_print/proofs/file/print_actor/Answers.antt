@@ -1,8 +1,8 @@
 use Rattle.cal_ast.specs.View.{member_tree, param_tree, port_tree}
 use Rattle.cal_lexer.specs.Lexeme.{Lexeme}
-use Rattle.member_print.specs.Tokens.{joined, each_member}
-use Rattle.member_print.proofs.Texts.{then}
-use Rattle.member_print.proofs.Pieces.{said_of}
+use Rattle.cal_print.specs.Tokens.{joined, each_member}
+use Rattle.cal_print.proofs.Texts.{then}
+use Rattle.cal_print.proofs.Pieces.{said_of}
 use Rattle.cal_print.proofs.file.print_actor.Goals as goal
 
 pub returns : goal.returns

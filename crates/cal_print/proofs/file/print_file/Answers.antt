@@ -1,5 +1,5 @@
 use Rattle.std.proofs.lemmas.Result.{IfOk-weaker}
-use Rattle.member_print.proofs.Texts.{whole}
+use Rattle.cal_print.proofs.Texts.{whole}
 use Rattle.cal_print.proofs.file.print_file.Goals as goal
 
 pub returns : goal.returns

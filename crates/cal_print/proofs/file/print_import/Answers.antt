@@ -1,7 +1,7 @@
 use Rattle.cal_ast.specs.View.{ident_tree}
-use Rattle.member_print.specs.Tokens.{dotted}
-use Rattle.member_print.proofs.Texts.{then}
-use Rattle.member_print.proofs.Pieces.{said_of}
+use Rattle.cal_print.specs.Tokens.{dotted}
+use Rattle.cal_print.proofs.Texts.{then}
+use Rattle.cal_print.proofs.Pieces.{said_of}
 use Rattle.cal_print.proofs.file.print_import.Goals as goal
 
 pub returns : goal.returns

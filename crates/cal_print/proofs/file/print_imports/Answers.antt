@@ -1,7 +1,7 @@
 use Rattle.std.proofs.Common.{map}
 use Rattle.cal_ast.specs.View.{import_tree}
-use Rattle.member_print.specs.Tokens.{words}
-use Rattle.member_print.proofs.Loops.{words_more, loop_step, loop_all}
+use Rattle.cal_print.specs.Tokens.{words}
+use Rattle.cal_print.proofs.Loops.{words_more, loop_step, loop_all}
 use Rattle.cal_print.proofs.file.print_imports.Goals as goal
 
 pub returns : goal.returns

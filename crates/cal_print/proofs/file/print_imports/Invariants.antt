@@ -1,8 +1,8 @@
 use Rattle.std.proofs.Common.{map, take}
 use Rattle.cal_ast.specs.Tree.{listed}
 use Rattle.cal_ast.specs.View.{import_tree}
-use Rattle.member_print.specs.Tokens.{words}
-use Rattle.member_print.specs.Writes.{Writes}
+use Rattle.cal_print.specs.Tokens.{words}
+use Rattle.cal_print.specs.Writes.{Writes}
 use Rattle.cal_print.proofs.file.print_imports.Given as goal
 
 abbrev pub invariant-loop-import : goal.invariant-loop-import

@@ -1,7 +1,7 @@
 use Rattle.std.proofs.Common.{option_map, sym, ap}
 use Rattle.cal_ast.specs.View.{optional, tag_tree}
-use Rattle.member_print.specs.Tokens.{packaged}
-use Rattle.member_print.proofs.Texts.{then, reword}
+use Rattle.cal_print.specs.Tokens.{packaged}
+use Rattle.cal_print.proofs.Texts.{then, reword}
 use Rattle.cal_print.proofs.file.print_package.Goals as goal
 
 pub returns-in-Some : goal.returns-in-Some

@@ -1,9 +1,9 @@
 use Rattle.std.proofs.Common.{[], ◌∷◌, ◌++◌, map}
 use Rattle.cal_ast.specs.View.{ident_tree}
 use Rattle.cal_lexer.specs.Lexeme.{Lexeme}
-use Rattle.member_print.specs.Tokens.{words, dotted}
-use Rattle.member_print.proofs.Texts.{then}
-use Rattle.member_print.proofs.Loops.{dotted_more, loop_step, loop_all}
+use Rattle.cal_print.specs.Tokens.{words, dotted}
+use Rattle.cal_print.proofs.Texts.{then}
+use Rattle.cal_print.proofs.Loops.{dotted_more, loop_step, loop_all}
 use Rattle.cal_print.proofs.file.print_path.Goals as goal
 
 pub returns : goal.returns

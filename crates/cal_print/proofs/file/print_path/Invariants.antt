@@ -1,8 +1,8 @@
 use Rattle.std.proofs.Common.{map, take}
 use Rattle.cal_ast.specs.Tree.{listed}
 use Rattle.cal_ast.specs.View.{ident_tree}
-use Rattle.member_print.specs.Tokens.{dotted}
-use Rattle.member_print.specs.Writes.{Writes}
+use Rattle.cal_print.specs.Tokens.{dotted}
+use Rattle.cal_print.specs.Writes.{Writes}
 use Rattle.cal_print.proofs.file.print_path.Given as goal
 
 abbrev pub invariant-loop-name : goal.invariant-loop-name

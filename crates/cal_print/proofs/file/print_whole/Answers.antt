@@ -1,7 +1,7 @@
 use Rattle.cal_ast.specs.View.{import_tree}
-use Rattle.member_print.specs.Tokens.{words}
-use Rattle.member_print.proofs.Texts.{then}
-use Rattle.member_print.proofs.Pieces.{said_of}
+use Rattle.cal_print.specs.Tokens.{words}
+use Rattle.cal_print.proofs.Texts.{then}
+use Rattle.cal_print.proofs.Pieces.{said_of}
 use Rattle.cal_print.proofs.file.print_whole.Goals as goal
 
 pub returns : goal.returns

@@ -1,7 +1,7 @@
 use Rattle.std.proofs.Common.{subst}
 use Rattle.cal_ast.specs.View.{expr_tree}
 use Rattle.const_env.specs.Held.{held}
-use Rattle.expr_eval.specs.Evaluable.{value_of}
+use Rattle.const_expr.specs.Evaluable.{value_of}
 use Rattle.const_env.specs.Outcome.{Stops}
 use Rattle.const_eval.proofs.constant.eval_const.Goals as goal
 

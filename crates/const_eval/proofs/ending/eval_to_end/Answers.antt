@@ -1,8 +1,8 @@
 use Rattle.std.proofs.Common.{◌∙◌}
 use Rattle.cal_ast.specs.View.{expr_tree}
 use Rattle.const_env.specs.Held.{held}
-use Rattle.expr_eval.specs.Scoping.{calls, seen}
-use Rattle.expr_eval.proofs.Asked.{as_asked, stops_as_asked}
+use Rattle.const_expr.specs.Scoping.{calls, seen}
+use Rattle.const_expr.proofs.Asked.{as_asked, stops_as_asked}
 use Rattle.const_eval.proofs.ending.eval_to_end.Goals as goal
 
 pub returns-in-Ok-clause-value : goal.returns-in-Ok-clause-value

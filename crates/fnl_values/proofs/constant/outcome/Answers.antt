@@ -5,7 +5,7 @@ use Rattle.cal_ast.specs.View.{expr_tree}
 use Rattle.cal_model.specs.Kinding.{Broken}
 use Rattle.cal_model.specs.Outcome.{Traps}
 use Rattle.cal_model.specs.View.{value_view}
-use Rattle.expr_eval.specs.Evaluable.{HasNoValue, value_of}
+use Rattle.const_expr.specs.Evaluable.{HasNoValue, value_of}
 use Rattle.const_env.specs.Held.{held}
 use Rattle.fnl_values.proofs.Constants.{constant_is, gives, has_none}
 use Rattle.fnl_values.specs.Judging.{outcome_judged}

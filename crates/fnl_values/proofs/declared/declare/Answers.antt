@@ -10,7 +10,7 @@ use Rattle.const_env.specs.Judging.{Breaks}
 use Rattle.fnl_bind.specs.Library.{var_decl}
 use Rattle.fnl_frames.specs.Views.{decl_of}
 use Rattle.fnl_values.proofs.Known.{declares, known_of, names_are, type_fault}
-use Rattle.given_values.specs.Given.{all_given, spot_of}
+use Rattle.check_given.specs.Given.{all_given, spot_of}
 use Rattle.fnl_values.specs.Judging.{fine_so_far, value_breaks}
 use Rattle.fnl_values.proofs.declared.declare.Goals as goal
 

@@ -4,8 +4,8 @@ use Rattle.const_env.specs.Held.{globals_of}
 use Rattle.fnl_bind.specs.Library.{var_decl, var_decls}
 use Rattle.fnl_frames.specs.Views.{decl_of}
 use Rattle.fnl_values.proofs.Known.{stays_broken}
-use Rattle.given_values.specs.Causes.{IsCause}
-use Rattle.given_values.specs.Given.{all_given, spot_of}
+use Rattle.check_given.specs.Causes.{IsCause}
+use Rattle.check_given.specs.Given.{all_given, spot_of}
 use Rattle.fnl_values.specs.Judging.{DeclaresAll, fine_so_far}
 use Rattle.fnl_values.proofs.declared.declared.Goals as goal
 

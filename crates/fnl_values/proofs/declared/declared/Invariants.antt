@@ -4,7 +4,7 @@ use Rattle.cal_check.specs.Variables.{none_yet, valued}
 use Rattle.const_env.specs.Held.{globals_of}
 use Rattle.fnl_bind.specs.Library.{var_decls}
 use Rattle.fnl_frames.specs.Views.{decl_of}
-use Rattle.given_values.specs.Given.{all_given, spot_of}
+use Rattle.check_given.specs.Given.{all_given, spot_of}
 use Rattle.fnl_values.specs.Judging.{fine_so_far}
 use Rattle.fnl_values.specs.Steady.{IsSteady}
 use Rattle.fnl_values.proofs.declared.declared.Given as goal

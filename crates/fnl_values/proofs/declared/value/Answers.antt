@@ -7,7 +7,7 @@ use Rattle.fnl_frames.specs.Views.{decl_of}
 use Rattle.fnl_values.proofs.Faults.{cause_in_first}
 use Rattle.fnl_values.proofs.Known.{comes_of}
 use Rattle.fnl_values.proofs.Starts.{start_refuses}
-use Rattle.given_values.specs.Given.{all_given, spot_of}
+use Rattle.check_given.specs.Given.{all_given, spot_of}
 use Rattle.fnl_values.proofs.declared.value.Goals as goal
 
 pub returns-in-Err-clause-comes : goal.returns-in-Err-clause-comes

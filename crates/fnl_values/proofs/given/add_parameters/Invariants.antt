@@ -1,6 +1,6 @@
 use Rattle.std.proofs.Common.{◌≡◌, ℕ, length}
 use Rattle.fnl_values.specs.InMemory.{params_in}
-use Rattle.given_values.specs.Judging.{with_declared}
+use Rattle.check_given.specs.Judging.{with_declared}
 use Rattle.fnl_values.proofs.given.add_parameters.Given as goal
 
 abbrev pub invariant-decls : goal.invariant-decls

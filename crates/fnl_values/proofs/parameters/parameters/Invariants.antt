@@ -3,7 +3,7 @@ use Rattle.cal_check.specs.Violations.{all_broken}
 use Rattle.const_env.specs.Held.{names_in}
 use Rattle.fnl_bind.specs.Values.{all_given, parameters_judged}
 use Rattle.fnl_frames.specs.Views.{parameter_of}
-use Rattle.given_values.specs.Given.{all_given as all_given_of}
+use Rattle.check_given.specs.Given.{all_given as all_given_of}
 use Rattle.fnl_values.specs.Judging.{behind}
 use Rattle.fnl_values.proofs.parameters.parameters.Given as goal
 

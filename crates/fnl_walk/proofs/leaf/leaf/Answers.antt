@@ -2,7 +2,7 @@ use Rattle.std.proofs.Common.{◌≡◌, map, rules}
 use Rattle.std.specs.Prelude.{string_bytes}
 use Rattle.fnl_bind.specs.Networks.{binding_of, path_under}
 use Rattle.fnl_tree.specs.View as view
-use Rattle.given_values.specs.Given.{given_of}
+use Rattle.check_given.specs.Given.{given_of}
 use Rattle.fnl_walk.proofs.Leaves.{bindings_same, leaf_is}
 use Rattle.fnl_walk.proofs.leaf.leaf.Goals as goal
 

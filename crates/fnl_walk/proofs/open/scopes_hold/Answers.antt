@@ -5,7 +5,7 @@ use Rattle.rvc_base.specs.declared.refusal.Front.TheVariants as front
 use Rattle.fnl_bind.specs.Scopes.{scope_broken}
 use Rattle.fnl_frames.specs.Views.{net_of}
 use Rattle.fnl_values.proofs.Faults.{found_of}
-use Rattle.given_values.specs.Causes.{IsCause}
+use Rattle.check_given.specs.Causes.{IsCause}
 use Rattle.fnl_scopes.specs.Tested as tested
 use Rattle.fnl_scopes.specs.declared.fault.ScopeFault.TheVariants as scopes
 use Rattle.fnl_walk.proofs.Circles.{scope_reversed}

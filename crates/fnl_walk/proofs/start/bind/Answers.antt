@@ -5,11 +5,11 @@ use Rattle.fnl_bind.specs.Library.{Entry, network_of}
 use Rattle.fnl_bind.specs.Networks.{own_found}
 use Rattle.fnl_bind.specs.Trees.{top_place, tree_with}
 use Rattle.fnl_tree.specs.Sound.{IsSound}
-use Rattle.given_values.specs.Causes.{IsCause}
+use Rattle.check_given.specs.Causes.{IsCause}
 use Rattle.fnl_walk.proofs.Ending.{Ends, ends_so, keeps_all, keeps_on, nothing, starts, starts_steady, step_refused, top_refused, top_under}
 use Rattle.fnl_walk.specs.Steps.{Keeps, Opens, steps_left}
 use Rattle.fnl_walk.specs.View.{walk_view}
-use Rattle.net_set.specs.View.{entry_under, networks}
+use Rattle.fnl_bind.specs.View.{entry_under, networks}
 use Rattle.std.proofs.Common.{[], ◌<◌}
 use Rattle.fnl_walk.proofs.start.bind.Goals as goal
 

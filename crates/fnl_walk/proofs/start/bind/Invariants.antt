@@ -1,6 +1,6 @@
 use Rattle.fnl_walk.specs.Steps.{Keeps, steps_left}
 use Rattle.fnl_walk.specs.View.{walk_view}
-use Rattle.net_set.specs.View.{networks}
+use Rattle.fnl_bind.specs.View.{networks}
 use Rattle.fnl_walk.proofs.start.bind.Given as goal
 
 abbrev pub invariant-steps : goal.invariant-steps

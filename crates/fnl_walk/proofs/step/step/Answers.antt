@@ -4,7 +4,7 @@ use Rattle.fnl_values.specs.Visiting.{visit_of}
 use Rattle.fnl_walk.proofs.Stacks.{class_left, innermost}
 use Rattle.fnl_walk.proofs.Visiting.{left_so}
 use Rattle.fnl_walk.specs.View.{open_of, walk_view}
-use Rattle.net_set.specs.View.{networks}
+use Rattle.fnl_bind.specs.View.{networks}
 use Rattle.fnl_walk.proofs.step.step.Goals as goal
 
 pub returns-in-None : goal.returns-in-None

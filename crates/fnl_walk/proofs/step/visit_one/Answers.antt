@@ -9,7 +9,7 @@ use Rattle.fnl_walk.specs.Steps.{Keeps, steps_left}
 use Rattle.fnl_walk.specs.View.{open_of, walk_view}
 use Rattle.fnl_walk.specs.Visited.{before}
 use Rattle.fnl_walk.specs.Walk.{count_of}
-use Rattle.net_set.specs.View.{entry_under, networks}
+use Rattle.fnl_bind.specs.View.{entry_under, networks}
 use Rattle.std.proofs.Common.{refl}
 use Rattle.fnl_walk.proofs.step.visit_one.Goals as goal
 

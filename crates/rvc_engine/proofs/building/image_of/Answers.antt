@@ -1,10 +1,10 @@
 use Rattle.std.proofs.Common.{◌<◌, length, map, refl, subst, sym}
 use Rattle.std.specs.Prelude.{All}
 use Rattle.std.specs.Arc.{arc_value}
-use Rattle.actor_lower.specs.Leaves.{StandForActors}
+use Rattle.lower_actor.specs.Leaves.{StandForActors}
 use Rattle.cal_model.specs.View.{actor_of}
-use Rattle.leaf_actors.specs.Leaves.{at_places, distinct_actors}
-use Rattle.network_files.specs.Views.{files_in}
+use Rattle.check_leaves.specs.Leaves.{at_places, distinct_actors}
+use Rattle.fnl_files.specs.Views.{files_in}
 use Rattle.rvc_engine.specs.Built.{AreJudged}
 use Rattle.rvc_engine.specs.Compiling.{AreCompiled}
 use Rattle.rvc_engine.proofs.ImageIs.{image_is, within_compiled}

@@ -2,10 +2,10 @@ use Rattle.std.proofs.Common.{◌≡◌, [], ◌∷◌, length, map, ap, sym, su
 use Rattle.std.proofs.lemmas.List.{length-map}
 use Rattle.cal_model.specs.View.{actor_of}
 use Rattle.fnl_tree.specs.View.{leaf_of, tree_of}
-use Rattle.leaf_actors.specs.Leaves as leaves
-use Rattle.leaf_actors.specs.Leaves.{AreActorsOf, actors_at_leaves}
-use Rattle.network_files.specs.Views.{files_in}
-use Rattle.source_network.specs.Lone.{lone_leaf}
+use Rattle.check_leaves.specs.Leaves as leaves
+use Rattle.check_leaves.specs.Leaves.{AreActorsOf, actors_at_leaves}
+use Rattle.fnl_files.specs.Views.{files_in}
+use Rattle.fnl_source.specs.Lone.{lone_leaf}
 use Rattle.rvc_engine.specs.Refused.{AreLeavesIn}
 use Rattle.rvc_engine.proofs.Causes.{why_leaves}
 use Rattle.rvc_engine.proofs.LoneTrees.{has_one, peopled_lone}

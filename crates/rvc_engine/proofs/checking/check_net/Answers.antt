@@ -1,4 +1,4 @@
-use Rattle.network_files.specs.Views.{files_in}
+use Rattle.fnl_files.specs.Views.{files_in}
 use Rattle.rvc_engine.proofs.Causes.{bare_net, why_networks}
 use Rattle.rvc_engine.proofs.checking.check_net.Goals as goal
 

@@ -2,8 +2,8 @@ use Rattle.std.proofs.Common.{◌≡◌, ◌≤◌, length, map, ap, sym, subst,
 use Rattle.std.proofs.lemmas.List.{length-map}
 use Rattle.net_model.specs.Limits.{max_instances}
 use Rattle.fnl_tree.specs.View.{leaf_of, tree_of}
-use Rattle.leaf_actors.specs.Leaves as leaves
-use Rattle.network_files.specs.Views.{files_in}
+use Rattle.check_leaves.specs.Leaves as leaves
+use Rattle.fnl_files.specs.Views.{files_in}
 use Rattle.rvc_engine.proofs.Causes.{few_leaves, why_leaves}
 use Rattle.rvc_engine.proofs.checking.check_tree.Goals as goal
 

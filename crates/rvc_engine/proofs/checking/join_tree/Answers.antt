@@ -1,6 +1,6 @@
 use Rattle.std.proofs.lemmas.Result.{IfErr-weaker, IfOk-weaker}
 use Rattle.fnl_tree.specs.View.{tree_of}
-use Rattle.network_files.specs.Views.{files_in}
+use Rattle.fnl_files.specs.Views.{files_in}
 use Rattle.rvc_engine.specs.Checked.{HasSource}
 use Rattle.rvc_engine.specs.Steps.{IsJoined, IsNotJoined, IsWhy}
 use Rattle.rvc_engine.proofs.Causes.{why_links}

@@ -3,7 +3,7 @@ use Rattle.std.specs.Prelude.{All}
 use Rattle.std.specs.Arc.{arc_value}
 use Rattle.std.proofs.lemmas.List.{map-append}
 use Rattle.std.proofs.lemmas.List.Elements.{All-head, All-tail}
-use Rattle.actor_lower.specs.Leaves.{StandForActors}
+use Rattle.lower_actor.specs.Leaves.{StandForActors}
 use Rattle.rvc_engine.proofs.Compiled.{codes_more, place_more}
 use Rattle.rvc_engine.proofs.compiling.codes_at.Goals as goal
 

@@ -1,6 +1,6 @@
 use Rattle.std.proofs.Common.{length, map}
 use Rattle.std.specs.Arc.{arc_value}
-use Rattle.actor_lower.specs.Leaves.{StandForActors}
+use Rattle.lower_actor.specs.Leaves.{StandForActors}
 use Rattle.rvc_engine.proofs.Compiled.{PlacesSoFar}
 use Rattle.rvc_engine.proofs.compiling.codes_at.Given as goal
 

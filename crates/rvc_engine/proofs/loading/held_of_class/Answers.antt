@@ -1,5 +1,5 @@
-use Rattle.actor_files.specs.Views.{file_names}
-use Rattle.network_files.specs.Views.{asked_of, files_in}
+use Rattle.cal_files.specs.Views.{file_names}
+use Rattle.fnl_files.specs.Views.{asked_of, files_in}
 use Rattle.rvc_engine.proofs.Ended.{broken_fault, held_of}
 use Rattle.rvc_engine.proofs.Ready.{class_is, ready}
 use Rattle.rvc_engine.proofs.loading.held_of_class.Goals as goal

@@ -1,7 +1,7 @@
 use Rattle.std.proofs.Common.{◌≡◌, ◌++◌, map, length}
 use Rattle.cal_model.specs.View.{port_view}
 use Rattle.fnl_tree.specs.View.{own_of}
-use Rattle.source_network.specs.Lone as lone
+use Rattle.fnl_source.specs.Lone as lone
 use Rattle.rvc_engine.proofs.lone.own_ends.Given as goal
 
 abbrev pub invariant-ports : goal.invariant-ports

@@ -1,7 +1,7 @@
 use Rattle.std.proofs.Common.{◌≡◌, ◌++◌, map, length}
 use Rattle.cal_model.specs.View.{port_view}
 use Rattle.fnl_tree.specs.View.{wire_of}
-use Rattle.source_network.specs.Lone.{wire_out}
+use Rattle.fnl_source.specs.Lone.{wire_out}
 use Rattle.rvc_engine.proofs.lone.push_wires_out.Given as goal
 
 abbrev pub invariant-ports : goal.invariant-ports

@@ -1,6 +1,6 @@
 use Rattle.std.specs.Prelude.{Ok, Err}
-use Rattle.actor_files.specs.Loading.{Counts}
-use Rattle.actor_files.specs.Views.{file_names}
+use Rattle.cal_files.specs.Loading.{Counts}
+use Rattle.cal_files.specs.Views.{file_names}
 use Rattle.rvc_engine.specs.Top.{top_asked}
 use Rattle.rvc_engine.proofs.Ended.{completes, held_checked, refuses}
 use Rattle.rvc_engine.proofs.network.check_network.Goals as goal

@@ -1,12 +1,12 @@
 use Rattle.std.proofs.Common.{◌≡◌, inl, sym, ap, subst, ◌∙◌}
-use Rattle.conforming_jobs.specs.Conforming.{Conforms, ConformsWith, names_of_ports, no_ports}
-use Rattle.grown_links.specs.Growth.{GrowTooFar}
-use Rattle.certify_job.specs.Ends.{IsDecided}
-use Rattle.format_job.specs.Formatting.{HasFile, library_met}
-use Rattle.format_job.specs.Reports.{IsCutShort}
-use Rattle.gen_job.specs.Jobs.{GeneratedConform, instances_of}
-use Rattle.replay_job.specs.Replays.{ConformsToReplay, RefusesReplay}
-use Rattle.network_commands.specs.Commands.{RefusesJob}
+use Rattle.cmd_network.specs.Conforming.{Conforms, ConformsWith, names_of_ports, no_ports}
+use Rattle.cmd_run_network.specs.Growth.{GrowTooFar}
+use Rattle.cmd_certify.specs.Ends.{IsDecided}
+use Rattle.cmd_fmt.specs.Formatting.{HasFile, library_met}
+use Rattle.cmd_fmt.specs.Reports.{IsCutShort}
+use Rattle.cmd_gen.specs.Jobs.{GeneratedConform, instances_of}
+use Rattle.cmd_replay.specs.Replays.{ConformsToReplay, RefusesReplay}
+use Rattle.cmd_network.specs.Commands.{RefusesJob}
 use Rattle.rvc_engine.specs.Top.{top_asked}
 use Rattle.rvc_words.specs.Words.{job, job_text, texts}
 use Rattle.rvc_top.proofs.Printed.{memory_cut}

@@ -1,4 +1,0 @@
-use Rattle.actor_check.proofs.heading.header_told.Goals as goal
-
-pub returns-in-Err : goal.returns-in-Err
-returns-in-Err c = (c.in-Err.fault, c.said_first.ensures, c.in-Err.ensures)

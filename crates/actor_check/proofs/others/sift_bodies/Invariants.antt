@@ -1,9 +1,0 @@
-use Rattle.std.proofs.Common.{drop}
-use Rattle.const_env.specs.Counting.{names_view}
-use Rattle.cal_check.specs.Actors.{funs_broken}
-use Rattle.seen_names.specs.Known.{fun_decls}
-use Rattle.actor_check.specs.Sifting.{IsLeft}
-use Rattle.actor_check.proofs.others.sift_bodies.Given as goal
-
-abbrev pub invariant-loop-f : goal.invariant-loop-f
-invariant-loop-f l = IsLeft (funs_broken (fun_decls (drop l.f-index l.funs)) (names_view l.names)) (funs_broken (fun_decls l.funs) (names_view l.names))

@@ -1,5 +1,0 @@
-use Rattle.actor_files.proofs.Reached.{reached}
-use Rattle.actor_files.proofs.laws.loaded_are_reached.Goals as goal
-
-pub returns : goal.returns
-returns c = reached

@@ -1,2 +1,0 @@
-pub mod SoundCount
-pub mod SoundDouble

@@ -1,5 +1,0 @@
-use Rattle.canon_laws.proofs.ReadAgain.{one_text}
-use Rattle.canon_laws.proofs.laws.one_canonical_text.Goals as goal
-
-pub returns : goal.returns
-returns c = one_text c.one_list.ensures c.one_tree.ensures

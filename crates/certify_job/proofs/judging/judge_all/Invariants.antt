@@ -1,9 +1,0 @@
-use Rattle.std.proofs.Common.{length}
-use Rattle.certify_job.proofs.Leaves.{JudgedSoFar}
-use Rattle.certify_job.proofs.judging.judge_all.Given as goal
-
-abbrev pub invariant-actors : goal.invariant-actors
-invariant-actors l = JudgedSoFar l.initial.rest l.rest l.said.items
-
-abbrev pub decreases-actors : goal.decreases-actors
-decreases-actors l = length l.rest

@@ -1,0 +1,10 @@
+use Rattle.std.proofs.Common.{◌≡◌, length}
+use Rattle.cal_check.specs.Schedules.{tags_broken}
+use Rattle.check_member.specs.Parts.{action_views, tags_tree}
+use Rattle.check_member.proofs.tags.check_tags.Given as goal
+
+abbrev pub invariant-tags : goal.invariant-tags
+invariant-tags l = tags_broken (tags_tree l.rest) (action_views l.actions) ≡ tags_broken (tags_tree l.initial.rest) (action_views l.actions)
+
+abbrev pub decreases-tags : goal.decreases-tags
+decreases-tags l = length l.rest

@@ -1,0 +1,5 @@
+mod Lists
+mod Sizes
+pub mod Kept
+mod Last
+mod PlaceSizes

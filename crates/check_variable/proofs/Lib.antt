@@ -1,0 +1,8 @@
+mod Faults
+mod Starts
+mod Settling
+mod Firsts
+mod Adding
+mod Alone
+mod Headers
+mod NamePlaces

@@ -1,0 +1,5 @@
+pub mod Causes
+pub mod Views
+pub mod Faults
+pub mod Valuing
+pub mod Finding

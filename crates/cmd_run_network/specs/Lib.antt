@@ -1,0 +1,7 @@
+pub mod Network
+pub mod Files
+pub mod Leaving
+pub mod Answering
+pub mod Preparing
+pub mod Arriving
+pub mod Growth

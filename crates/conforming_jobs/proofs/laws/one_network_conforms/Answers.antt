@@ -1,5 +1,0 @@
-use Rattle.conforming_jobs.proofs.laws.one_network_conforms.Goals as goal
-
-pub returns : goal.returns
-returns c opened library top words net other tells one two =
-    c.one_library_network.ensures.network library top net other tells one.means two.means

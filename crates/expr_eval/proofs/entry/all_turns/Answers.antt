@@ -1,5 +1,0 @@
-use Rattle.rvc_base.specs.Turns.{max_turns_is}
-use Rattle.expr_eval.proofs.entry.all_turns.Goals as goal
-
-pub returns : goal.returns
-returns c = max_turns_is

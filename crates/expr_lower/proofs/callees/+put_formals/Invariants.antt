@@ -1,5 +1,0 @@
-use Rattle.std.proofs.Common.{length}
-use Rattle.expr_lower.proofs.callees.+put_formals.Given as goal
-
-abbrev pub decreases-put_formals : goal.decreases-put_formals
-decreases-put_formals l = length l.formals.now

@@ -1,9 +1,0 @@
-use Rattle.std.proofs.Common.{◌≡◌, length}
-use Rattle.expr_lower.specs.Callees.{function_named, functions_view}
-use Rattle.expr_lower.proofs.callees.function_named.Given as goal
-
-abbrev pub invariant-callees : goal.invariant-callees
-invariant-callees l = function_named l.text (functions_view l.rest) ≡ function_named l.text (functions_view l.initial.rest)
-
-abbrev pub decreases-callees : goal.decreases-callees
-decreases-callees l = length l.rest

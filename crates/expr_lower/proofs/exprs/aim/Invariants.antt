@@ -1,6 +1,0 @@
-use Rattle.std.proofs.Common.{◌≡◌, ◌++◌, map, take, drop}
-use Rattle.expr_lower.specs.Coding.{aimed}
-use Rattle.expr_lower.proofs.exprs.aim.Given as goal
-
-abbrev pub invariant-loop-instr : goal.invariant-loop-instr
-invariant-loop-instr l = l.part ≡ map (aimed l.out) (take l.instr-index l.initial.part) ++ drop l.instr-index l.initial.part

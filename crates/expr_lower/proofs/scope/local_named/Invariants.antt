@@ -1,7 +1,0 @@
-use Rattle.std.proofs.Common.{◌≡◌, ◌++◌, List}
-use Rattle.expr_lower.specs.Names.{Name, named}
-use Rattle.expr_lower.specs.Seen.{locals_of}
-use Rattle.expr_lower.proofs.scope.local_named.Given as goal
-
-abbrev pub invariant-outwards : goal.invariant-outwards
-invariant-outwards l = (outer : List Name) → named l.text (locals_of l.at ++ outer) ≡ named l.text (locals_of l.initial.at ++ outer)

@@ -1,5 +1,0 @@
-use Rattle.format_job.proofs.Printed.{of_lexis}
-use Rattle.format_job.proofs.printing.file_of.Goals as goal
-
-pub returns-in-Err-clause-refused : goal.returns-in-Err-clause-refused
-returns-in-Err-clause-refused c = of_lexis 1 c.args.text.now c.in-Err.front c.in-Err.ensures.refused

@@ -1,5 +1,0 @@
-use Rattle.gen_job.proofs.Numbers.{tops_are_numbers}
-use Rattle.gen_job.proofs.laws.jobs_to_generate_have_numbers.Goals as goal
-
-pub returns : goal.returns
-returns c = tops_are_numbers

@@ -1,8 +1,0 @@
-//! What holds of jobs of the verb.
-
-ghost use Rattle.gen_job.specs.Jobs.{TopsAreNumbers};
-
-/// The top of each job of the verb `gen` is the number of a network that can be generated.
-pub fn jobs_to_generate_have_numbers()
-    ensures { TopsAreNumbers }
-{}

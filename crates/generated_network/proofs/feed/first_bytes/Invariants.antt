@@ -1,7 +1,0 @@
-use Rattle.std.specs.Prelude.{◌≡◌}
-use Rattle.generated_network.specs.Feed.{first_bytes, seed_after}
-use Rattle.generated_network.proofs.feed.first_bytes.Given as goal
-
--- the bytes of the numbers so far
-abbrev pub invariant-loop-k : goal.invariant-loop-k
-invariant-loop-k l = (l.bytes.items ≡ first_bytes l._k l.first) × (l.seed ≡ seed_after l._k l.first)

@@ -1,7 +1,0 @@
-use Rattle.std.proofs.Common.{◌≡◌, length}
-use Rattle.lowered_actor.specs.Actor.{actor_of}
-use Rattle.kept_facts.specs.Fitting.{AreRoutines}
-use Rattle.kept_facts.proofs.keeping.routines_of.Given as goal
-
-abbrev pub invariant-loop-r : goal.invariant-loop-r
-invariant-loop-r l = AreRoutines (actor_of l.parts) l.firing l.routines.items × (length l.routines.items ≡ l.r)

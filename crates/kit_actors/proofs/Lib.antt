@@ -1,0 +1,4 @@
+mod Sorted
+mod SoundExamples
+pub mod SoundCount
+pub mod SoundDouble

@@ -1,0 +1,4 @@
+pub mod Examples
+pub mod Sorts
+pub mod Counting
+pub mod Doubling

@@ -1,0 +1,15 @@
+//! What holds of commands that replay what other commands wrote.
+//!
+//! The law is the contract of a function that does nothing: it is proved with the crate, and can be cited.
+
+ghost use Rattle.law_replayed.specs.Replayed.{WrittenTracesAreReplayed};
+
+use law_written::written_texts_are_traces;
+
+/// A trace that a run wrote to its end isn't told to be that of no run, whatever the line and the cause: not by a command
+/// that replays it over the same network, the same bytes of the inputs and the same limit of growth.
+pub fn written_traces_are_replayed()
+    ensures { WrittenTracesAreReplayed }
+{
+    written_texts_are_traces();
+}

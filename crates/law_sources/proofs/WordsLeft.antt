@@ -1,0 +1,96 @@
+-- What is left behind a part has its tokens, so its names have no dot either.
+use Rattle.std.proofs.Common.{List}
+use Rattle.cal_ast.specs.Tree.{Tree}
+use Rattle.cal_lexer.specs.Lexeme.{Placed}
+use Rattle.cal_grammar.specs.Spells.{Part, Spells, the_separated, the_last, the_more, the_none, the_some, the_end, the_again, the_binary, the_tighter, the_prefix, the_postfix, the_index, the_primary, the_number, the_true, the_false, the_variable, the_call, the_pair, the_if, the_list, the_comp, the_gen, the_type, the_type_with, the_shape_arg, the_value_arg, the_var, the_var_changing, the_var_constant, the_no_vars, the_vars, the_param, the_param_default, the_port, the_name, the_tag, the_place, the_assign, the_call_stmt, the_if_stmt, the_while, the_foreach, the_block, the_block_with, the_if_end, the_else, the_elsif, the_function, the_procedure, the_no_guards, the_guards, the_no_repeat, the_repeat, the_no_body, the_body, the_in, the_in_at, the_out, the_out_at, the_action, the_initialize, the_unlabelled, the_labelled, the_move, the_schedule, the_chain, the_priority, the_var_member, the_function_member, the_procedure_member, the_action_member, the_priority_member, the_no_members, the_member, the_schedule_member, the_unit_var, the_unit_function, the_path_name, the_path_all, the_path_on, the_import, the_actor, the_unit, the_actor_file, the_unit_file, the_file, the_package_file}
+use Rattle.law_sources.proofs.WordTokens.{AreWords}
+
+pub words_left : {p : Part} {a b : List Placed} {x : Tree} → Spells p a b x → AreWords a → AreWords b
+words_left (the_separated h1 h2) w = words_left h2 (words_left h1 w)
+words_left the_last w = w
+words_left (the_more h1) w = words_left h1 w.1
+words_left the_none w = w
+words_left (the_some h1) w = words_left h1 w
+words_left the_end w = w
+words_left (the_again h1 h2) w = words_left h2 (words_left h1 w)
+words_left (the_binary h1 e2 h3) w = words_left h3 (words_left h1 w).1
+words_left (the_tighter h1) w = words_left h1 w
+words_left (the_prefix e1 h2) w = words_left h2 w.1
+words_left (the_postfix h1) w = words_left h1 w
+words_left (the_index h1 h2) w = (words_left h2 (words_left h1 w).1).1
+words_left (the_primary h1) w = words_left h1 w
+words_left the_number w = w.1
+words_left the_true w = w.1
+words_left the_false w = w.1
+words_left the_variable w = w.1
+words_left (the_call h1) w = (words_left h1 w.1.1).1
+words_left (the_pair h1) w = (words_left h1 w.1).1
+words_left (the_if h1 h2 h3 e4) w = (words_left h3 (words_left h2 (words_left h1 w.1).1).1).1
+words_left (the_list h1) w = (words_left h1 w.1).1
+words_left (the_comp h1 h2) w = (words_left h2 (words_left h1 w.1).1).1
+words_left (the_gen h1 h2 h3) w = words_left h3 (words_left h2 (words_left h1 w.1).1.1).1
+words_left the_type w = w.1
+words_left (the_type_with h1) w = (words_left h1 w.1.1).1
+words_left (the_shape_arg h1) w = words_left h1 w.1.1
+words_left (the_value_arg h1) w = words_left h1 w.1.1
+words_left (the_var h1) w = (words_left h1 w).1
+words_left (the_var_changing h1 h2) w = words_left h2 (words_left h1 w).1.1
+words_left (the_var_constant h1 h2) w = words_left h2 (words_left h1 w).1.1
+words_left the_no_vars w = w
+words_left (the_vars h1) w = words_left h1 w.1
+words_left (the_param h1) w = (words_left h1 w).1
+words_left (the_param_default h1 h2) w = words_left h2 (words_left h1 w).1.1
+words_left (the_port h1) w = (words_left h1 w).1
+words_left the_name w = w.1
+words_left (the_tag h1) w = words_left h1 w
+words_left (the_place h1) w = (words_left h1 w.1).1
+words_left (the_assign h1 h2) w = (words_left h2 (words_left h1 w.1).1).1
+words_left (the_call_stmt h1) w = (words_left h1 w.1.1).1.1
+words_left (the_if_stmt h1 h2 h3) w = words_left h3 (words_left h2 (words_left h1 w.1).1)
+words_left (the_while h1 h2 e3) w = (words_left h2 (words_left h1 w.1).1).1
+words_left (the_foreach h1 h2 h3 h4 e5) w = (words_left h4 (words_left h3 (words_left h2 (words_left h1 w.1).1.1).1).1).1
+words_left (the_block h1 e2) w = (words_left h1 w.1).1
+words_left (the_block_with h1 h2 e3) w = (words_left h2 (words_left h1 w.1.1).1).1
+words_left (the_if_end e1) w = w.1
+words_left (the_else h1 e2) w = (words_left h1 w.1).1
+words_left (the_elsif h1 h2 h3) w = words_left h3 (words_left h2 (words_left h1 w.1).1)
+words_left (the_function h1 h2 h3 h4 e5) w = (words_left h4 (words_left h3 (words_left h2 (words_left h1 w.1.1.1).1.1)).1).1
+words_left (the_procedure h1 h2 h3 e4) w = (words_left h3 (words_left h2 (words_left h1 w.1.1.1).1).1).1
+words_left the_no_guards w = w
+words_left (the_guards h1) w = words_left h1 w.1
+words_left the_no_repeat w = w
+words_left (the_repeat h1) w = words_left h1 w.1
+words_left the_no_body w = w
+words_left (the_body h1) w = words_left h1 w.1
+words_left (the_in h1 h2) w = words_left h2 (words_left h1 w.1).1
+words_left (the_in_at h1 h2) w = words_left h2 (words_left h1 w.1.1.1).1
+words_left (the_out h1 h2) w = words_left h2 (words_left h1 w.1).1
+words_left (the_out_at h1 h2) w = words_left h2 (words_left h1 w.1.1.1).1
+words_left (the_action h1 h2 h3 h4 h5 e6) w = (words_left h5 (words_left h4 (words_left h3 (words_left h2 (words_left h1 w.1).1)))).1
+words_left (the_initialize h1 h2 h3 h4 e5) w = (words_left h4 (words_left h3 (words_left h2 (words_left h1 w.1.1)))).1
+words_left (the_unlabelled h1) w = words_left h1 w
+words_left (the_labelled h1 h2) w = words_left h2 (words_left h1 w).1
+words_left (the_move h1) w = (words_left h1 w.1.1).1.1.1.1
+words_left (the_schedule h1 e2) w = (words_left h1 w.1.1.1.1).1
+words_left (the_chain h1 h2) w = (words_left h2 (words_left h1 w).1).1
+words_left (the_priority h1 e2) w = (words_left h1 w.1).1
+words_left (the_var_member h1) w = (words_left h1 w).1
+words_left (the_function_member h1) w = words_left h1 w
+words_left (the_procedure_member h1) w = words_left h1 w
+words_left (the_action_member h1) w = words_left h1 w
+words_left (the_priority_member h1) w = words_left h1 w
+words_left the_no_members w = w
+words_left (the_member h1 h2) w = words_left h2 (words_left h1 w)
+words_left (the_schedule_member h1 h2) w = words_left h2 (words_left h1 w)
+words_left (the_unit_var h1) w = (words_left h1 w).1
+words_left (the_unit_function h1) w = words_left h1 w
+words_left the_path_name w = w.1.1
+words_left the_path_all w = w.1.1
+words_left (the_path_on h1) w = words_left h1 w.1.1
+words_left (the_import h1) w = (words_left h1 w.1.1).1
+words_left (the_actor h1 h2 h3 h4 e5) w = (words_left h4 (words_left h3 (words_left h2 (words_left h1 w.1.1.1).1).1).1).1
+words_left (the_unit h1 e2) w = (words_left h1 w.1.1.1).1
+words_left (the_actor_file h1 h2) w = words_left h2 (words_left h1 w)
+words_left (the_unit_file h1 h2) w = words_left h2 (words_left h1 w)
+words_left (the_file h1) w = words_left h1 w
+words_left (the_package_file h1 h2) w = words_left h2 (words_left h1 w.1).1

@@ -1,0 +1,5 @@
+use Rattle.law_sources.proofs.ScopeScopes as scopes
+use Rattle.law_sources.proofs.scope_laws.actions_are_scoped.Goals as goal
+
+pub returns : goal.returns
+returns c = scopes.actions_are_scoped

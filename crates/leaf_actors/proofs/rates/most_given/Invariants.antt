@@ -1,8 +1,0 @@
-use Rattle.std.proofs.Common.{◌≡◌}
-use Rattle.cal_model.specs.Rates.{give}
-use Rattle.cal_model.specs.View.{actor_of}
-use Rattle.source_network.specs.Actors.{most}
-use Rattle.leaf_actors.proofs.rates.most_given.Given as goal
-
-abbrev pub invariant-loop-action : goal.invariant-loop-action
-invariant-loop-action l = l.largest ≡ most (λ a. give (actor_of l.b) a l.port) l.action

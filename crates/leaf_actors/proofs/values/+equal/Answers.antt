@@ -1,7 +1,0 @@
-use Rattle.std.proofs.Common.{◌∙◌}
-use Rattle.leaf_actors.proofs.Ended.{ended}
-use Rattle.leaf_actors.proofs.values.+equal.Goals as goal
-
-pub are_equal-returns : goal.are_equal-returns
-are_equal-returns t c =
-    c.is_empty.ensures ∙ ended c.items.rest.now c.items.left.now c.in_default.ensures.cases ∙ c.items.invariant.same

@@ -1,5 +1,0 @@
-use Rattle.std.proofs.Common.{length}
-use Rattle.list_lower.proofs.generators.+makes_none.Given as goal
-
-abbrev pub decreases-makes_none : goal.decreases-makes_none
-decreases-makes_none l = length l.gens.now

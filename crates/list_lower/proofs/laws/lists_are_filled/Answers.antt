@@ -1,5 +1,0 @@
-use Rattle.list_lower.proofs.Filled.{fills_with}
-use Rattle.list_lower.proofs.laws.lists_are_filled.Goals as goal
-
-pub returns : goal.returns
-returns c = λ fs names e t d base n m code below room coded. fills_with names e t d base n m code below room coded

@@ -1,5 +1,0 @@
-use Rattle.std.proofs.Common.{length}
-use Rattle.list_lower.proofs.routines.+in_formals.Given as goal
-
-abbrev pub decreases-in_formals : goal.decreases-in_formals
-decreases-in_formals l = length l.formals.now

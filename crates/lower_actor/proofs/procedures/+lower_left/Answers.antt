@@ -1,0 +1,11 @@
+use Rattle.std.proofs.Common.{ap}
+use Rattle.cal_model.specs.View.{actor_of}
+use Rattle.lower_base.specs.Callees.{functions_view}
+use Rattle.lower_stmt.specs.Procedures.{procedures_view}
+use Rattle.lower_actor.proofs.Chosen.{no-procedure-more}
+use Rattle.lower_actor.proofs.procedures.+lower_left.Goals as goal
+
+pub returns-in-None-clause-none : goal.returns-in-None-clause-none
+returns-in-None-clause-none t c =
+    no-procedure-more (actor_of c.args.b.now) (functions_view c.args.callees.now) (procedures_view c.deref.result.now) (procedures_view c.args.procedures.now.items) c.deref-2.result.now c.args.left.now.items (ap procedures_view c.deref.ensures.value) c.deref-2.ensures.value
+    (c.in_ok-found.ensures.none c.in-None.is)

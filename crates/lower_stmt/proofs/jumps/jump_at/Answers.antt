@@ -1,0 +1,7 @@
+use Rattle.std.proofs.Common.{sym, ap, set, ◌∙◌}
+use Rattle.std.proofs.lemmas.List.{set_at}
+use Rattle.code_ir.specs.declared.instr.Instr.TheVariants as op
+use Rattle.lower_stmt.proofs.jumps.jump_at.Goals as goal
+
+pub returns-clause-aimed : goal.returns-clause-aimed
+returns-clause-aimed c = λ before rest i is at. ap (λ xs. set xs c.args.place (op.Jump c.args.target)) is ∙ set_at before i rest (op.Jump c.args.target) c.args.place (sym at)

@@ -1,0 +1,12 @@
+use Rattle.std.proofs.Common.{◌++◌, [], ◌∷◌, map, ap, sym, ◌∙◌, arith}
+use Rattle.std.specs.List.{range_with_len}
+use Rattle.std.proofs.lemmas.List.FromFn.{map-range_with_len_more}
+use Rattle.cal_model.specs.Rates.{need}
+use Rattle.cal_model.specs.View.{actor_of}
+use Rattle.lower_tables.proofs.rates.needs_of.Goals as goal
+
+pub loop-port-preserved : goal.loop-port-preserved
+loop-port-preserved c =
+    c.in_ok-push.ensures.items ∙ ap (λ xs. xs ++ c.need.result ∷ []) c.loop-port.invariant
+    ∙ ap (λ n. map (need (actor_of c.args.b.now) c.args.action) (range_with_len 0 c.loop-port.port) ++ n ∷ []) c.need.ensures
+    ∙ sym (map-range_with_len_more (need (actor_of c.args.b.now) c.args.action) 0 c.loop-port.port c.loop-port.port (omega arith))

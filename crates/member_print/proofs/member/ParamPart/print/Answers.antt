@@ -1,9 +1,0 @@
-use Rattle.cal_lexer.specs.Lexeme.{Lexeme}
-use Rattle.member_print.proofs.Texts.{then}
-use Rattle.member_print.proofs.Pieces.{said_start}
-use Rattle.member_print.proofs.member.ParamPart.print.Goals as goal
-
-pub returns : goal.returns
-returns c =
-    (then (then c.print_type.ensures c.print_ident.ensures)
-    (said_start Lexeme.Equal c.args.self.now.start c.print_under.ensures))

@@ -1,5 +1,0 @@
-use Rattle.member_print.proofs.Texts.{then}
-use Rattle.member_print.proofs.member.PortDeclPart.print.Goals as goal
-
-pub returns : goal.returns
-returns c = (then c.print_type.ensures c.print_ident.ensures)

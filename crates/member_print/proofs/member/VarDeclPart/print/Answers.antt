@@ -1,9 +1,0 @@
-use Rattle.cal_lexer.specs.Words.{lexeme_of}
-use Rattle.member_print.proofs.Texts.{then}
-use Rattle.member_print.proofs.Pieces.{said_signed}
-use Rattle.member_print.proofs.member.VarDeclPart.print.Goals as goal
-
-pub returns : goal.returns
-returns c =
-    (then (then c.print_type.ensures c.print_ident.ensures)
-    (said_signed c.args.self.now.changes (lexeme_of c.start_sign.result) c.args.self.now.start c.start_sign.ensures c.print_under.ensures))

@@ -1,9 +1,0 @@
-use Rattle.std.proofs.Common.{map, take}
-use Rattle.cal_ast.specs.Tree.{listed}
-use Rattle.cal_ast.specs.View.{member_tree}
-use Rattle.member_print.specs.Tokens.{each_member}
-use Rattle.member_print.specs.Writes.{Writes}
-use Rattle.member_print.proofs.member.print_members.Given as goal
-
-abbrev pub invariant-loop-member : goal.invariant-loop-member
-invariant-loop-member l = Writes l.initial.out (each_member (listed (map member_tree (take l.member-index l.members)))) l.out

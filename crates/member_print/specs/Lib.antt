@@ -1,4 +1,0 @@
-pub mod Spelling
-pub mod Tokens
-pub mod Inputs
-pub mod Writes

@@ -1,5 +1,0 @@
-use Rattle.network_job.proofs.Wired.{any_may_be_open}
-use Rattle.network_job.proofs.laws.any_ports_may_be_open.Goals as goal
-
-pub returns : goal.returns
-returns g c = any_may_be_open g.M.Meaning.State

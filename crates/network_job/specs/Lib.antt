@@ -1,6 +1,0 @@
-pub mod Network
-pub mod Files
-pub mod Leaving
-pub mod Answering
-pub mod Preparing
-pub mod Arriving

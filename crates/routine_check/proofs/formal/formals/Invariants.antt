@@ -1,9 +1,0 @@
-use Rattle.std.proofs.Common.{length}
-use Rattle.routine_check.proofs.Walks.{AreBehind}
-use Rattle.routine_check.proofs.formal.formals.Given as goal
-
-abbrev pub invariant-formals : goal.invariant-formals
-invariant-formals l = AreBehind l.locals.items l.seen l.rest l.initial.rest l.names
-
-abbrev pub decreases-formals : goal.decreases-formals
-decreases-formals l = length l.rest

@@ -1,7 +1,0 @@
-use Rattle.std.specs.Prelude.{map}
-use Rattle.std.specs.Arc.{arc_value}
-use Rattle.runner_rows.specs.Fits.{HasFewRates, OfFirst}
-use Rattle.runner_rows.proofs.fits.have_few_rates.Given as goal
-
-abbrev pub invariant-loop-i : goal.invariant-loop-i
-invariant-loop-i l = OfFirst l.i (map arc_value l.actors) HasFewRates

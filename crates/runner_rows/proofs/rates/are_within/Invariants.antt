@@ -1,5 +1,0 @@
-use Rattle.runner_rows.specs.Fits.{IsWithin, OfFirst}
-use Rattle.runner_rows.proofs.rates.are_within.Given as goal
-
-abbrev pub invariant-loop-a : goal.invariant-loop-a
-invariant-loop-a l = OfFirst l.a l.actor.actions (IsWithin l.gives l.port l.capacity)

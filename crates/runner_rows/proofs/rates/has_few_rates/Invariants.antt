@@ -1,5 +1,0 @@
-use Rattle.runner_rows.specs.Fits.{HasFewOf, OfFirst}
-use Rattle.runner_rows.proofs.rates.has_few_rates.Given as goal
-
-abbrev pub invariant-loop-a : goal.invariant-loop-a
-invariant-loop-a l = OfFirst l.a l.actor.actions HasFewOf

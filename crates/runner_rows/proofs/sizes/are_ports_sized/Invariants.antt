@@ -1,9 +1,0 @@
-use Rattle.std.specs.Prelude.{◌≡◌, length}
-use Rattle.runner_rows.specs.Links.{are_ports_sized}
-use Rattle.runner_rows.proofs.sizes.are_ports_sized.Given as goal
-
-abbrev pub invariant-ports : goal.invariant-ports
-invariant-ports l = are_ports_sized l.rest ≡ are_ports_sized l.initial.rest
-
-abbrev pub decreases-ports : goal.decreases-ports
-decreases-ports l = length l.rest

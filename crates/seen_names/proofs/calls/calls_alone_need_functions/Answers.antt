@@ -1,8 +1,0 @@
-use Rattle.seen_names.proofs.Callless.{starts_same, types_same}
-use Rattle.seen_names.proofs.calls.calls_alone_need_functions.Goals as goal
-
-pub returns-clause-types : goal.returns-clause-types
-returns-clause-types c = types_same
-
-pub returns-clause-starts : goal.returns-clause-starts
-returns-clause-starts c = starts_same

@@ -1,9 +1,0 @@
-use Rattle.seen_names.specs.Known.{fun_decls}
-use Rattle.seen_names.proofs.Visiting.{extends_same, extends_then}
-use Rattle.seen_names.proofs.order.visit_each.Goals as goal
-
-pub names-init : goal.names-init
-names-init c = extends_same (fun_decls c.args.funs.now) c.args.order.now
-
-pub names-preserved : goal.names-preserved
-names-preserved c = extends_then (fun_decls c.args.funs.now) c.args.order.now c.names.order c.visit.new.order c.names.invariant c.in_ok-visit.ensures.extends

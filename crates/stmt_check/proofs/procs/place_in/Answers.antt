@@ -1,6 +1,0 @@
-use Rattle.std.proofs.Common.{◌∙◌}
-use Rattle.stmt_check.proofs.FirstPlaces.{found_place}
-use Rattle.stmt_check.proofs.procs.place_in.Goals as goal
-
-pub returns : goal.returns
-returns c = c.copied.ensures ∙ c.get.ensures.value ∙ found_place c.args.name.now c.args.places.now.entries

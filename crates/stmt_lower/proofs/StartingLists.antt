@@ -1,2 +1,0 @@
--- Which cells names have doesn't matter to what is left out of the start of a local.
-pub use Rattle.expr_lower.proofs.Erased.{local_erased}

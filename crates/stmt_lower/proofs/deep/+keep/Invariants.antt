@@ -1,5 +1,0 @@
-use Rattle.std.proofs.Common.{length}
-use Rattle.stmt_lower.proofs.deep.+keep.Given as goal
-
-abbrev pub decreases-keep : goal.decreases-keep
-decreases-keep l = length l.places.now

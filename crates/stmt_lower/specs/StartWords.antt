@@ -1,3 +1,0 @@
--- The words of the contracts of calls that lower the start of a list.
--- Trusted: part of what a promise means.
-pub use Rattle.list_lower.specs.StartWords.{AddsListStart, AddsLocal, HasTakenList, TakesListStart}

@@ -1,3 +1,0 @@
--- Types whose sizes are allowed.
--- Trusted: part of what a promise means.
-pub use Rattle.expr_lower.specs.Types.{is_size, numbers_of_items, type_size}

@@ -1,0 +1,21 @@
+//! Rows of orders, automata, queues, plans of rounds, boards, and the test of code.
+//!
+//! Rows of the parts that runs are made of: orders, automata, queues of tokens, plans of rounds, boards, and the test
+//! of code, over the public calls of `priority_order`, `schedule_fsm`, `token_ring`, `round_plan`, `claim_board` and
+//! `code_ir`.
+//!
+//! Tests that stand beside a crate make it be proved twice.
+#![tactic(auto)]
+
+#[cfg(test)]
+mod automata;
+#[cfg(test)]
+mod boards;
+#[cfg(test)]
+mod codes;
+#[cfg(test)]
+mod orders;
+#[cfg(test)]
+mod rings;
+#[cfg(test)]
+mod rounds;

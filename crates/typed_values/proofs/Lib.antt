@@ -1,3 +1,0 @@
-mod Lists
-mod Sizes
-pub mod Kept

@@ -1,9 +1,0 @@
-use Rattle.std.proofs.Common.{◌≡◌, length}
-use Rattle.used_names.specs.Naming.{ports_tree, with_names}
-use Rattle.used_names.proofs.stmts.add_ports.Given as goal
-
-abbrev pub invariant-ports : goal.invariant-ports
-invariant-ports l = with_names (ports_tree l.rest) l.names ≡ with_names (ports_tree l.initial.rest) l.initial.names
-
-abbrev pub decreases-ports : goal.decreases-ports
-decreases-ports l = length l.rest

@@ -1,9 +1,0 @@
-use Rattle.std.proofs.Common.{◌≡◌, length}
-use Rattle.used_names.specs.Naming.{vars_tree, with_names}
-use Rattle.used_names.proofs.stmts.add_vars.Given as goal
-
-abbrev pub invariant-vars : goal.invariant-vars
-invariant-vars l = with_names (vars_tree l.rest) l.names ≡ with_names (vars_tree l.initial.rest) l.initial.names
-
-abbrev pub decreases-vars : goal.decreases-vars
-decreases-vars l = length l.rest

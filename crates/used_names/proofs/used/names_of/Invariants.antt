@@ -1,6 +1,0 @@
-use Rattle.std.proofs.Common.{◌≡◌, drop, map}
-use Rattle.used_names.specs.Using.{outer_view, with_outers}
-use Rattle.used_names.proofs.used.names_of.Given as goal
-
-abbrev pub invariant-loop-d : goal.invariant-loop-d
-invariant-loop-d l = with_outers (map outer_view (drop l.d-index l.decls)) l.names ≡ with_outers (map outer_view l.decls) l.initial.names

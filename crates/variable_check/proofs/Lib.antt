@@ -1,7 +1,0 @@
-mod Faults
-mod Starts
-mod Settling
-mod Firsts
-mod Adding
-mod Alone
-mod Headers

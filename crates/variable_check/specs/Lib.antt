@@ -1,4 +1,0 @@
-pub mod Causes
-pub mod Views
-pub mod Faults
-pub mod Valuing
