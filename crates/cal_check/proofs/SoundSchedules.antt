@@ -13,7 +13,7 @@ use Rattle.cal_model.specs.Sound.{AreDistinct, AreTagged, Each, IsMove, IsTagged
 use Rattle.cal_model.specs.Tags.{Transition, each_above, is_prefix_tag, may_be_meant, moves_by, moves_by_tags, moves_of, number_of_name, pairs_of, stands_for, stands_from}
 use Rattle.cal_check.specs.Formed.{AreMoves, IsScheduleFormed}
 use Rattle.cal_check.specs.Laws.{IsSchedule}
-use Rattle.cal_check.specs.Schedules.{chains_pairs, moves_broken, moves_in, moves_listed, pairs_in, schedule_broken, some_departs, states_of, tags_broken, tags_listed, text_of, transition_of, transitions_of}
+use Rattle.cal_check.specs.Schedules.{chains_pairs, moves_broken, moves_in, moves_listed, pairs_in, schedule_broken, some_conflict, states_of, tags_broken, tags_listed, text_of, transition_of, transitions_of}
 use Rattle.cal_check.proofs.Departs.{none-elsewhere}
 use Rattle.cal_check.proofs.Fine.{none-of, unless-true}
 use Rattle.cal_check.proofs.Lists.{each-append, each-of, head-or-rest, in-none}
@@ -130,7 +130,7 @@ lead-there actor from (tag ∷ tags) to m h =
     ⊎_elim (λ c. lead-by from to (stands_for tag actor) m c) (λ c. lead-there actor from tags to m c)
     (Contains-append_cases (moves_by from (stands_for tag actor) to) (moves_by_tags actor from tags to) m h)
 
-one-more : (actor : Actor) (t : Transition) (before : List Move) → LeadToOne before → some_departs (moves_of actor t) before ≡ false → LeadToOne (before ++ moves_of actor t)
+one-more : (actor : Actor) (t : Transition) (before : List Move) → LeadToOne before → some_conflict (moves_of actor t) before ≡ false → LeadToOne (before ++ moves_of actor t)
 one-more actor t before one none m n c d e f =
     let own = moves_of actor t in
     let to = number_of_name t.to actor.states in
@@ -157,7 +157,7 @@ lead-to-one (tree.cons (tree.move from tags to at) ms) before actor formed one h
     let own = moves_of actor t in
     let p = none-of (tags_broken tags actor.actions) _ h in
     let q = none-of _ (moves_broken ms (before ++ own) actor) p.1 in
-    let none : some_departs own before ≡ false = not-some (some_departs own before) (unless-true (not (some_departs own before)) ambiguous_transition at q.0) in
+    let none : some_conflict own before ≡ false = not-some (some_conflict own before) (unless-true (not (some_conflict own before)) ambiguous_transition at q.0) in
     subst LeadToOne (append_assoc before own (moves_listed actor (transitions_of ms)))
     (lead-to-one ms (before ++ own) actor formed (one-more actor t before one none) q.1)
 lead-to-one other before actor formed one h = absurd (formed)

@@ -62,22 +62,22 @@ moves_in (Some (tree.schedule start moves at)) actor = moves_listed actor (trans
 moves_in other actor = []
 
 -- one of two moves sends an action from a state elsewhere than the other
-abbrev pub departs : Move → Move → Bool
-departs m n = (m.from == n.from) && ((m.action == n.action) && not (m.to == n.to))
+abbrev pub conflicts_with : Move → Move → Bool
+conflicts_with m n = (m.from == n.from) && ((m.action == n.action) && not (m.to == n.to))
 
-abbrev pub departs_from : Move → List Move → Bool
-departs_from m [] = false
-departs_from m (n ∷ ns) = departs m n || departs_from m ns
+abbrev pub conflicts_with_one : Move → List Move → Bool
+conflicts_with_one m [] = false
+conflicts_with_one m (n ∷ ns) = conflicts_with m n || conflicts_with_one m ns
 
-abbrev pub some_departs : List Move → List Move → Bool
-some_departs [] before = false
-some_departs (m ∷ ms) before = departs_from m before || some_departs ms before
+abbrev pub some_conflict : List Move → List Move → Bool
+some_conflict [] before = false
+some_conflict (m ∷ ms) before = conflicts_with_one m before || some_conflict ms before
 
 -- transitions, each of which leads as those before it do, and whose tags stand for actions
 abbrev pub moves_broken : Tree → List Move → Actor → List Violation
 moves_broken (tree.cons (tree.move from tags to at) ms) before actor =
     tags_broken tags actor.actions
-    ++ (unless (not (some_departs
+    ++ (unless (not (some_conflict
     (moves_of actor (transition_of (tree.move from tags to at))) before)) ambiguous_transition at
     ++ moves_broken ms
     (before ++ moves_of actor (transition_of (tree.move from tags to at))) actor)

@@ -9,9 +9,9 @@ use Rattle.schedule_fsm.proofs.Rows.{place_below}
 use Rattle.cal_model.specs.Actor.{Move}
 use Rattle.cal_model.specs.Sound.{Each}
 use Rattle.cal_model.specs.Tags.{moves_by}
-use Rattle.cal_check.specs.Schedules.{departs, departs_from, some_departs}
+use Rattle.cal_check.specs.Schedules.{conflicts_with, conflicts_with_one, some_conflict}
 use Rattle.check_member.specs.Targets.{IsTold, Tells}
-use Rattle.cal_check.proofs.Departs.{Elsewhere, among-departs, departs-is, none-departs, some-departs}
+use Rattle.cal_check.proofs.Departs.{Elsewhere, among-conflicts_with, conflicts_with-is, none-conflicts_with, some-conflicts_with}
 use Rattle.cal_check.proofs.Lists.{at-head, each-append, each-front, each-map, head-or-rest, in-none, in-rest}
 
 -- ---- the table
@@ -27,11 +27,11 @@ some-is : (n m : ℕ) → Some n ≡ Some m → n ≡ m
 some-is n m h = cc
 
 -- none of the moves that the table has leads elsewhere
-told-none : (states columns : ℕ) (table : List (Option ℕ)) (m : Move) (ms : List Move) → Each (IsTold states columns table) ms → IsOne columns table m → departs_from m ms ≡ false
+told-none : (states columns : ℕ) (table : List (Option ℕ)) (m : Move) (ms : List Move) → Each (IsTold states columns table) ms → IsOne columns table m → conflicts_with_one m ms ≡ false
 told-none states columns table m [] each one = refl
-told-none states columns table m (n ∷ ms) each one = go (departs m n) (departs-is m n) (told-none states columns table m ms each.1 one)
+told-none states columns table m (n ∷ ms) each one = go (conflicts_with m n) (conflicts_with-is m n) (told-none states columns table m ms each.1 one)
   where
-    go : (b : Bool) → (b ≡ true → Elsewhere m n) → departs_from m ms ≡ false → (b || departs_from m ms) ≡ false
+    go : (b : Bool) → (b ≡ true → Elsewhere m n) → conflicts_with_one m ms ≡ false → (b || conflicts_with_one m ms) ≡ false
     go true f ih =
         let e = f refl in
         let there : entry columns table m.from m.action ≡ Some n.to =
@@ -39,11 +39,11 @@ told-none states columns table m (n ∷ ms) each one = go (departs m n) (departs
         absurd (e.2 (sym (one n.to there)))
     go false f ih = ih
 
--- the entry of a move holds another state, so an earlier move departs
+-- the entry of a move holds another state, so an earlier move conflicts_with
 told-some : (states columns : ℕ) (table : List (Option ℕ)) (m : Move) (before : List Move) (other : ℕ) → Contains before (record { from = m.from; action = m.action; to = other })
-    → other ≢ m.to → departs_from m before ≡ true
+    → other ≢ m.to → conflicts_with_one m before ≡ true
 told-some states columns table m before other found differs =
-    among-departs m (record { from = m.from; action = m.action; to = other }) before found (refl, refl, λ e. differs (sym e))
+    among-conflicts_with m (record { from = m.from; action = m.action; to = other }) before found (refl, refl, λ e. differs (sym e))
 
 module _ (states columns : ℕ) (table : List (Option ℕ)) (before : List Move) (m : Move) (tells : Tells states columns table before) (from_in : m.from < states) (action_in : m.action < columns) (one : IsOne columns table m) where
   abbrev grown : List (Option ℕ)
@@ -123,10 +123,10 @@ module _ (states columns from to : ℕ) (before : List Move) (acts : List ℕ) (
   action_in : now.action < columns
   action_in = acts_in k 0 in_acts
 
-  pub departs-nowhere : some_departs (moves_by from (take k acts) to) before ≡ false → IsOne columns table now → some_departs (moves_by from (take (k + 1) acts) to) before ≡ false
-  departs-nowhere h one =
-      ap (λ ms. some_departs ms before) (one-further from to acts k in_acts)
-      ∙ none-departs (moves_by from (take k acts) to) now before h
+  pub conflicts_with-nowhere : some_conflict (moves_by from (take k acts) to) before ≡ false → IsOne columns table now → some_conflict (moves_by from (take (k + 1) acts) to) before ≡ false
+  conflicts_with-nowhere h one =
+      ap (λ ms. some_conflict ms before) (one-further from to acts k in_acts)
+      ∙ none-conflicts_with (moves_by from (take k acts) to) now before h
       (told-none states columns table now before (each-front (IsTold states columns table) before (moves_by from (take k acts) to) told.each) one)
 
   pub told-further : IsOne columns table now → Tells states columns (set table (place_of columns now) (Some to)) (before ++ moves_by from (take (k + 1) acts) to)
@@ -135,17 +135,17 @@ module _ (states columns from to : ℕ) (before : List Move) (acts : List ℕ) (
       (append_assoc before (moves_by from (take k acts) to) (now ∷ []) ∙ ap (λ ms. before ++ ms) (sym (one-further from to acts k in_acts)))
       (entered states columns table (before ++ moves_by from (take k acts) to) now told from_in action_in one)
 
-  pub departs-elsewhere : (other : ℕ) → entry columns table from now.action ≡ Some other → other ≢ to → some_departs (moves_by from acts to) before ≡ true
-  departs-elsewhere other found differs =
+  pub conflicts_with-elsewhere : (other : ℕ) → entry columns table from now.action ≡ Some other → other ≢ to → some_conflict (moves_by from acts to) before ≡ true
+  conflicts_with-elsewhere other found differs =
       let n : Move = move_by from now.action other in
       let there : Contains before n =
       ⊎_elim (λ c. c) (λ c. absurd (differs (leads-there from to (take k acts) n c)))
       (Contains-append_cases before (moves_by from (take k acts) to) n (told.only from now.action other from_in action_in found)) in
-      some-departs now (moves_by from acts to) before (is-move from to acts k in_acts) (told-some states columns table now before other there differs)
+      some-conflicts_with now (moves_by from acts to) before (is-move from to acts k in_acts) (told-some states columns table now before other there differs)
 
 -- all are entered
-pub all-departs : (from to : ℕ) (before : List Move) (acts : List ℕ) (k : ℕ) → length acts ≤ k → some_departs (moves_by from (take k acts) to) before ≡ false → some_departs (moves_by from acts to) before ≡ false
-all-departs from to before acts k h d = ap (λ xs. some_departs (moves_by from xs to) before) (sym (take_all k acts h)) ∙ d
+pub all-conflicts_with : (from to : ℕ) (before : List Move) (acts : List ℕ) (k : ℕ) → length acts ≤ k → some_conflict (moves_by from (take k acts) to) before ≡ false → some_conflict (moves_by from acts to) before ≡ false
+all-conflicts_with from to before acts k h d = ap (λ xs. some_conflict (moves_by from xs to) before) (sym (take_all k acts h)) ∙ d
 
 pub all-told : (states columns from to : ℕ) (before : List Move) (acts : List ℕ) (k : ℕ) (table : List (Option ℕ)) → length acts ≤ k
     → Tells states columns table (before ++ moves_by from (take k acts) to) → Tells states columns table (before ++ moves_by from acts to)

@@ -9,7 +9,7 @@ use Rattle.cal_ast.specs.declared.action.Move.{Move as DeclaredMove}
 use Rattle.cal_model.specs.Actor.{Actor, Move}
 use Rattle.cal_model.specs.Sound.{max_states}
 use Rattle.cal_model.specs.Tags.{moves_of}
-use Rattle.cal_check.specs.Schedules.{moves_broken, moves_listed, schedule_broken, some_departs, states_of, tags_broken, transition_of, transitions_of}
+use Rattle.cal_check.specs.Schedules.{moves_broken, moves_listed, schedule_broken, some_conflict, states_of, tags_broken, transition_of, transitions_of}
 use Rattle.cal_check.specs.Violations.{unless}
 use Rattle.check_member.specs.Judging.{Refuses}
 use Rattle.check_member.specs.Parts.{schedule_and_states_broken, tags_tree, transitions_tree}
@@ -21,19 +21,19 @@ module _ (actor : Actor) (m : DeclaredMove) (others : List DeclaredMove) (before
   abbrev own : List Move
   own = moves_of actor (transition_of (move_tree m))
 
-  pub moves-fine : (grown : List Move) → tags_broken (tags_tree m.tags.items) actor.actions ≡ [] → some_departs own before ≡ false → grown ≡ before ++ own
+  pub moves-fine : (grown : List Move) → tags_broken (tags_tree m.tags.items) actor.actions ≡ [] → some_conflict own before ≡ false → grown ≡ before ++ own
       → moves_broken (transitions_tree others) grown actor ≡ moves_broken (transitions_tree (m ∷ others)) before actor
   moves-fine grown tags one added =
       ap (λ g. moves_broken (transitions_tree others) g actor) added
       ∙ sym (ap (λ b. unless (not b) ambiguous_transition m.at ++ moves_broken (transitions_tree others) (before ++ own) actor) one)
-      ∙ sym (ap (λ vs. vs ++ (unless (not (some_departs own before)) ambiguous_transition m.at ++ moves_broken (transitions_tree others) (before ++ own) actor)) tags)
+      ∙ sym (ap (λ vs. vs ++ (unless (not (some_conflict own before)) ambiguous_transition m.at ++ moves_broken (transitions_tree others) (before ++ own) actor)) tags)
 
-  pub moves-refused : (f : MemberFault) → Refuses f (tags_broken (tags_tree m.tags.items) actor.actions ++ unless (not (some_departs own before)) ambiguous_transition m.at)
+  pub moves-refused : (f : MemberFault) → Refuses f (tags_broken (tags_tree m.tags.items) actor.actions ++ unless (not (some_conflict own before)) ambiguous_transition m.at)
       → Refuses f (moves_broken (transitions_tree (m ∷ others)) before actor)
   moves-refused f h =
       refuses-same f _ (moves_broken (transitions_tree (m ∷ others)) before actor)
-      (append_assoc (tags_broken (tags_tree m.tags.items) actor.actions) (unless (not (some_departs own before)) ambiguous_transition m.at) (moves_broken (transitions_tree others) (before ++ own) actor))
-      (refuses-left f (tags_broken (tags_tree m.tags.items) actor.actions ++ unless (not (some_departs own before)) ambiguous_transition m.at)
+      (append_assoc (tags_broken (tags_tree m.tags.items) actor.actions) (unless (not (some_conflict own before)) ambiguous_transition m.at) (moves_broken (transitions_tree others) (before ++ own) actor))
+      (refuses-left f (tags_broken (tags_tree m.tags.items) actor.actions ++ unless (not (some_conflict own before)) ambiguous_transition m.at)
       (moves_broken (transitions_tree others) (before ++ own) actor) h)
 
   pub moves-added : (grown : List Move) → grown ≡ before ++ own

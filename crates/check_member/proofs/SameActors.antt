@@ -6,7 +6,7 @@ use Rattle.cal_ast.specs.Tree.{Tree}
 use Rattle.cal_model.specs.Actor.{Action, Actor, Move}
 use Rattle.cal_model.specs.Tags.{Transition, each_above, moves_by, moves_by_tags, moves_of, number_of_name, pairs_of, stands_for}
 use Rattle.cal_check.specs.Violations.{unless}
-use Rattle.cal_check.specs.Schedules.{chains_pairs, moves_broken, moves_in, moves_listed, pairs_in, schedule_broken, some_departs, tags_broken, tags_listed, transition_of, transitions_of}
+use Rattle.cal_check.specs.Schedules.{chains_pairs, moves_broken, moves_in, moves_listed, pairs_in, schedule_broken, some_conflict, tags_broken, tags_listed, transition_of, transitions_of}
 use Rattle.check_member.specs.Parts.{actor_with}
 
 abbrev bare : Actor → Actor
@@ -26,8 +26,8 @@ listed-same actor (t ∷ ts) = ap (λ ms. ms ++ moves_listed actor ts) (of-trans
 broken-same : (ms : Tree) (before : List Move) (actor : Actor) → moves_broken ms before actor ≡ moves_broken ms before (bare actor)
 broken-same (tree.cons (tree.move from tags to at) ms) before actor =
     let t : Transition = transition_of (tree.move from tags to at) in
-    ap (λ own. tags_broken tags actor.actions ++ (unless (not (some_departs own before)) ambiguous_transition at ++ moves_broken ms (before ++ own) actor)) (of-transition actor t)
-    ∙ ap (λ vs. tags_broken tags actor.actions ++ (unless (not (some_departs (moves_of (bare actor) t) before)) ambiguous_transition at ++ vs)) (broken-same ms (before ++ moves_of (bare actor) t) actor)
+    ap (λ own. tags_broken tags actor.actions ++ (unless (not (some_conflict own before)) ambiguous_transition at ++ moves_broken ms (before ++ own) actor)) (of-transition actor t)
+    ∙ ap (λ vs. tags_broken tags actor.actions ++ (unless (not (some_conflict (moves_of (bare actor) t) before)) ambiguous_transition at ++ vs)) (broken-same ms (before ++ moves_of (bare actor) t) actor)
 broken-same other before actor = refl
 
 of-chain : (actor : Actor) (tags : List (List (List ℕ))) → pairs_of actor tags ≡ pairs_of (actor_with actor.actions []) tags

@@ -6,7 +6,7 @@ ghost use Rattle.cal_ast.specs.View.{move_tree, schedule_tree};
 ghost use Rattle.cal_model.specs.Actor.{Actor};
 ghost use Rattle.cal_model.specs.Sound.{IsTagged, max_actions, max_states};
 ghost use Rattle.cal_model.specs.Tags.{is_seen, moves_by, moves_of, number_of_name};
-ghost use Rattle.cal_check.specs.Schedules.{moves_broken, moves_in, moves_listed, some_departs, states_of, tags_broken, transition_of, transitions_of};
+ghost use Rattle.cal_check.specs.Schedules.{moves_broken, moves_in, moves_listed, some_conflict, states_of, tags_broken, transition_of, transitions_of};
 ghost use Rattle.cal_check.specs.Violations.{unless};
 ghost use Rattle.check_member.specs.Judging.{Checks, Refuses};
 ghost use Rattle.check_member.specs.Parts.{action_views, actor_with, move_of_step, schedule_and_states_broken, schedule_view, tags_tree, transitions_tree};
@@ -15,7 +15,7 @@ ghost use Rattle.check_member.specs.Targets.{AreSeen, IsSeen, Tells};
 use crate::fault::MemberFault;
 use crate::name_index::NameIndex;
 use crate::tags::{check_tags, meant_by_tags};
-use crate::targets::{departs, empty_table};
+use crate::targets::{conflicts_with, empty_table};
 use cal_ast::{Ident, Move, Schedule};
 use cal_model::BoundAction;
 use rvc_base::{Memory, Rule};
@@ -179,7 +179,7 @@ fn add_moves(
     ensures tags { OnOk result
         (tags_broken (tags_tree transition.now.tags.items) (action_views actions.now) ≡ []) }
     ensures one_target { OnOk result
-        (some_departs (moves_of (actor_with (action_views actions.now) states.now)
+        (some_conflict (moves_of (actor_with (action_views actions.now) states.now)
         (transition_of (move_tree transition.now))) (map move_of_step steps.old.items) ≡ false) }
     ensures added { OnOk result (map move_of_step steps.new.items ≡ map move_of_step steps.old.items
         ++ moves_of (actor_with (action_views actions.now) states.now) (transition_of (move_tree transition.now))) }
@@ -187,7 +187,7 @@ fn add_moves(
         (map move_of_step steps.new.items)) }
     ensures broken { IfErr result (λ fault. Refuses fault
         (tags_broken (tags_tree transition.now.tags.items) (action_views actions.now)
-        ++ unless (not (some_departs (moves_of (actor_with (action_views actions.now) states.now)
+        ++ unless (not (some_conflict (moves_of (actor_with (action_views actions.now) states.now)
         (transition_of (move_tree transition.now))) (map move_of_step steps.old.items)))
         ambiguous_transition transition.now.at)) }
     ensures size { length targets.new ≡ length targets.old }
@@ -196,7 +196,7 @@ fn add_moves(
     let meant = meant_by_tags(*steps.allocator(), &transition.tags, actions)?;
     let from = state_number(states, &transition.from);
     let to = state_number(states, &transition.to);
-    if departs(targets, actions.len(), from, &meant, to) {
+    if conflicts_with(targets, actions.len(), from, &meant, to) {
         return Err(MemberFault::broken(Rule::AMBIGUOUS_TRANSITION, transition.at));
     }
     add_steps(steps, from, &meant, to)?;

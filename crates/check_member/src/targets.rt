@@ -4,7 +4,7 @@ ghost use Rattle.std.specs.Prelude.{◌≡◌, ◌≢◌, ◌<◌, ◌≤◌, �
 ghost use Rattle.cal_model.specs.Actor.{Move};
 ghost use Rattle.cal_model.specs.Sound.{max_actions, max_states};
 ghost use Rattle.cal_model.specs.Tags.{moves_by};
-ghost use Rattle.cal_check.specs.Schedules.{some_departs};
+ghost use Rattle.cal_check.specs.Schedules.{some_conflict};
 ghost use Rattle.check_member.specs.Targets.{Tells};
 
 use std::alloc::{AllocError, Global};
@@ -28,7 +28,7 @@ pub(crate) fn empty_table(
 
 /// Enters into a table with so many columns that each of these actions leads from one state to another, until one leads
 /// elsewhere already. Whether one does.
-pub(crate) fn departs(
+pub(crate) fn conflicts_with(
     targets: &mut [Option<u16>],
     columns: usize,
     from: u16,
@@ -39,11 +39,11 @@ pub(crate) fn departs(
     ensures elsewhere { result ≡ true → (states : ℕ) (before : List Move)
         → from < states → All (λ action. action < columns) actions.now
         → Tells states columns targets.old before
-        → some_departs (moves_by from actions.now to) before ≡ true }
+        → some_conflict (moves_by from actions.now to) before ≡ true }
     ensures nowhere { result ≡ false → (states : ℕ) (before : List Move)
         → from < states → All (λ action. action < columns) actions.now
         → Tells states columns targets.old before
-        → some_departs (moves_by from actions.now to) before ≡ false }
+        → some_conflict (moves_by from actions.now to) before ≡ false }
     ensures entered { result ≡ false → (states : ℕ) (before : List Move)
         → from < states → All (λ action. action < columns) actions.now
         → Tells states columns targets.old before

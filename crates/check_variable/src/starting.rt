@@ -20,7 +20,7 @@ use crate::fault::is_not_constant;
 use cal_ast::Expr;
 use cal_model::{Kind, Shape, Value, constants_are_values};
 use check_values::{has_kind, stored, zero_of};
-use const_eval::{Env, KindFault, Names, Stop, eval_to_end};
+use const_eval::{Env, EvalError, KindFault, Names, eval_to_end};
 use rvc_base::{Memory, Rule};
 use std::alloc::Global;
 
@@ -101,13 +101,13 @@ fn value_at(alloc: Global, env: &Env, t: &Shape, k: &Kind, e: &Expr) -> Result<S
     let at = place_of(e);
     match eval_to_end(alloc, env, e) {
         Ok(value) => Ok(kept(alloc, t, k, &value)?),
-        Err(Stop::Trap(_)) => Err(KindFault::Broken {
+        Err(EvalError::Trap(_)) => Err(KindFault::Broken {
             rule: Rule::CONSTANT_TRAPS,
             at,
         }),
-        Err(Stop::Lacks) => Ok(Started::NotConstant(at)),
-        Err(Stop::Clashes) => Ok(Started::Useless),
-        Err(Stop::Memory) => Err(KindFault::Memory),
+        Err(EvalError::Lacks) => Ok(Started::NotConstant(at)),
+        Err(EvalError::Clashes) => Ok(Started::Useless),
+        Err(EvalError::Memory) => Err(KindFault::Memory),
     }
 }
 

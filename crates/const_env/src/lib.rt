@@ -28,5 +28,5 @@ pub use inside::{Inside, Variable};
 pub use lengths::is_counted;
 pub use meant::Meant;
 pub use names::Names;
-pub use stop::Stop;
+pub use stop::EvalError;
 pub use variables::Variables;

@@ -5,7 +5,7 @@ use std::alloc::{AllocError, AllocFailed};
 
 /// Why an evaluation ends without a value.
 #[derive(Clone, Copy, Debug, PartialEq, Eq)]
-pub enum Stop {
+pub enum EvalError {
     Trap(Trap),
     /// A name is reached that means nothing.
     Lacks,
@@ -15,35 +15,35 @@ pub enum Stop {
     Memory,
 }
 
-impl From<AllocError> for Stop {
+impl From<AllocError> for EvalError {
     ghost use Rattle.std.specs.Prelude.{◌≡◌};
-    ghost use Rattle.const_env.specs.declared.stop.Stop.TheVariants.{Memory};
+    ghost use Rattle.const_env.specs.declared.stop.EvalError.TheVariants.{Memory};
 
     ghost from_gives = { λ _ stop. stop ≡ Memory };
 
-    fn from(_refused: AllocError) -> Stop {
-        Stop::Memory
+    fn from(_refused: AllocError) -> EvalError {
+        EvalError::Memory
     }
 }
 
-impl<T: Drop> From<AllocFailed<T>> for Stop {
+impl<T: Drop> From<AllocFailed<T>> for EvalError {
     ghost use Rattle.std.specs.Prelude.{◌≡◌};
-    ghost use Rattle.const_env.specs.declared.stop.Stop.TheVariants.{Memory};
+    ghost use Rattle.const_env.specs.declared.stop.EvalError.TheVariants.{Memory};
 
     ghost from_gives = { λ _ stop. stop ≡ Memory };
 
-    fn from(_refused: AllocFailed<T>) -> Stop {
-        Stop::Memory
+    fn from(_refused: AllocFailed<T>) -> EvalError {
+        EvalError::Memory
     }
 }
 
-impl From<Memory> for Stop {
+impl From<Memory> for EvalError {
     ghost use Rattle.std.specs.Prelude.{◌≡◌};
-    ghost use Rattle.const_env.specs.declared.stop.Stop.TheVariants.{Memory};
+    ghost use Rattle.const_env.specs.declared.stop.EvalError.TheVariants.{Memory};
 
     ghost from_gives = { λ _ stop. stop ≡ Memory };
 
-    fn from(_refused: Memory) -> Stop {
-        Stop::Memory
+    fn from(_refused: Memory) -> EvalError {
+        EvalError::Memory
     }
 }

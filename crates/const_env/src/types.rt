@@ -7,7 +7,7 @@ ghost use Rattle.cal_model.specs.View.{value_view};
 ghost use Rattle.const_env.specs.Meant.{IsKept, counted, erased, given_view, kept_bits, kept_list, kept_named, number_in};
 ghost use Rattle.const_env.specs.Outcome.{Evaluates};
 
-use crate::stop::Stop;
+use crate::stop::EvalError;
 use crate::value::of_number;
 use cal_model::Value;
 use rvc_base::{DEFAULT_SIZE, MAX_SIZE, Num, Scalar, conv};
@@ -120,7 +120,7 @@ pub fn counted(t: Option<Scalar>, number: Num) -> Value
 /// # Errors
 ///
 /// `Clashes` if no type has the name, or not with these arguments.
-pub fn type_named(name: &str, given: Given) -> Result<Option<Scalar>, Stop>
+pub fn type_named(name: &str, given: Given) -> Result<Option<Scalar>, EvalError>
     ensures named { (left : ℕ) → Evaluates
         (λ kept. kept) result left (needed (kept_named name.now (given_view given)) left) }
     ensures sized { IfOk result IsKept }
@@ -137,11 +137,11 @@ pub fn type_named(name: &str, given: Given) -> Result<Option<Scalar>, Stop>
     if name == "List" {
         return list(given);
     }
-    Err(Stop::Clashes)
+    Err(EvalError::Clashes)
 }
 
 /// A signed type, whose size is the greatest if none is given.
-fn signed(size: Option<u128>) -> Result<Option<Scalar>, Stop>
+fn signed(size: Option<u128>) -> Result<Option<Scalar>, EvalError>
     ensures kept { (left : ℕ) → Evaluates
         (λ kept. kept) result left (needed (kept_bits size (λ n. Scalar.Int n)) left) }
     ensures sized { IfOk result IsKept }
@@ -150,13 +150,13 @@ fn signed(size: Option<u128>) -> Result<Option<Scalar>, Stop>
         return Ok(Some(Scalar::Int(DEFAULT_SIZE)));
     };
     if size < 1 || size > u128::from(MAX_SIZE) {
-        return Err(Stop::Clashes);
+        return Err(EvalError::Clashes);
     }
     Ok(Some(Scalar::Int(size as u8)))
 }
 
 /// An unsigned type, whose size is the greatest if none is given.
-fn unsigned(size: Option<u128>) -> Result<Option<Scalar>, Stop>
+fn unsigned(size: Option<u128>) -> Result<Option<Scalar>, EvalError>
     ensures kept { (left : ℕ) → Evaluates
         (λ kept. kept) result left (needed (kept_bits size (λ n. Scalar.Uint n)) left) }
     ensures sized { IfOk result IsKept }
@@ -165,13 +165,13 @@ fn unsigned(size: Option<u128>) -> Result<Option<Scalar>, Stop>
         return Ok(Some(Scalar::Uint(DEFAULT_SIZE)));
     };
     if size < 1 || size > u128::from(MAX_SIZE) {
-        return Err(Stop::Clashes);
+        return Err(EvalError::Clashes);
     }
     Ok(Some(Scalar::Uint(size as u8)))
 }
 
 /// A list type, which is given the type of its items and its size.
-fn list(given: Given) -> Result<Option<Scalar>, Stop>
+fn list(given: Given) -> Result<Option<Scalar>, EvalError>
     ensures kept { (left : ℕ) → Evaluates
         (λ kept. kept) result left (needed (kept_list (given_view given)) left) }
     ensures sized { IfOk result IsKept }
@@ -179,5 +179,5 @@ fn list(given: Given) -> Result<Option<Scalar>, Stop>
     if given.has_items && given.size.is_some() {
         return Ok(None);
     }
-    Err(Stop::Clashes)
+    Err(EvalError::Clashes)
 }

@@ -15,7 +15,7 @@ ghost use Rattle.const_env.specs.Held.{held, names_in};
 use crate::ending::eval_to_end;
 use cal_ast::Expr;
 use cal_model::{Kind, Value, kinds_are_kept};
-use const_env::{Env, KindFault, Names, Stop};
+use const_env::{Env, EvalError, KindFault, Names};
 use const_expr::kind;
 use rvc_base::Trap;
 use std::alloc::Global;
@@ -73,11 +73,11 @@ pub fn eval_const(alloc: Global, env: &Env, e: &Expr) -> Result<Value, ConstFaul
     never_clashes();
     match eval_to_end(alloc, env, e) {
         Ok(value) => Ok(value),
-        Err(Stop::Trap(trap)) => Err(ConstFault::Trap(trap)),
-        Err(Stop::Lacks) => Err(ConstFault::NotConstant),
+        Err(EvalError::Trap(trap)) => Err(ConstFault::Trap(trap)),
+        Err(EvalError::Lacks) => Err(ConstFault::NotConstant),
         // Nothing clashes if the expression has a kind.
-        Err(Stop::Clashes) => Err(ConstFault::NotConstant),
-        Err(Stop::Memory) => Err(ConstFault::Memory),
+        Err(EvalError::Clashes) => Err(ConstFault::NotConstant),
+        Err(EvalError::Memory) => Err(ConstFault::Memory),
     }
 }
 

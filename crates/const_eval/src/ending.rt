@@ -10,7 +10,7 @@ ghost use Rattle.const_env.specs.Outcome.{Stops};
 
 use cal_ast::Expr;
 use cal_model::Value;
-use const_env::{Env, Stop};
+use const_env::{Env, EvalError};
 use const_expr::scope::Scope;
 use const_expr::{all_turns, eval};
 use std::alloc::Global;
@@ -22,7 +22,7 @@ use std::alloc::Global;
 ///
 /// `Trap` if it traps, `Lacks` if it reaches a name that the environment lacks, and `Clashes` if it reaches a part that is
 /// of another kind than its form asks, whichever comes first. `Memory` if memory runs out.
-pub fn eval_to_end(alloc: Global, env: &Env, e: &Expr) -> Result<Value, Stop>
+pub fn eval_to_end(alloc: Global, env: &Env, e: &Expr) -> Result<Value, EvalError>
     ensures value { IfOk result (λ value. (left : ℕ)
         × (value_of (expr_tree e.now) (held env.now) ≡ Gives (value_view value) left)) }
     ensures stop { IfErr result (λ stop. Stops stop (value_of (expr_tree e.now) (held env.now))) }

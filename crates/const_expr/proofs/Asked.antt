@@ -12,7 +12,7 @@ use Rattle.const_env.specs.Counting.{Variable, known_variable, hide, names_insid
 use Rattle.const_env.specs.Held.{Kept, globals_of, held, names_in}
 use Rattle.const_expr.specs.Evaluable.{env_of, value_of}
 use Rattle.const_env.specs.Outcome.{Stops}
-use Rattle.const_env.specs.declared.stop.Stop.{Stop}
+use Rattle.const_env.specs.declared.stop.EvalError.{EvalError}
 use Rattle.const_env.proofs.Named.{constants_are, hidden_constants}
 
 pub as_asked : (e : Tree) (env : Constants) (calls : Calls) (seen : Env) (n : ℕ) → calls ≡ calls_of env.funs → seen ≡ env_of env → n ≡ max_turns → value_of e env ≡ eval e calls seen n
@@ -38,5 +38,5 @@ constant_among e env vs calls seen n f g h =
     ∙ ap (λ c. eval e c seen n) (sym f)
 
 -- .. and so what ends it
-pub stops_as_asked : (s : Stop) (e : Tree) (env : Constants) (calls : Calls) (seen : Env) (n : ℕ) → calls ≡ calls_of env.funs → seen ≡ env_of env → n ≡ max_turns → Stops s (eval e calls seen n) → Stops s (value_of e env)
+pub stops_as_asked : (s : EvalError) (e : Tree) (env : Constants) (calls : Calls) (seen : Env) (n : ℕ) → calls ≡ calls_of env.funs → seen ≡ env_of env → n ≡ max_turns → Stops s (eval e calls seen n) → Stops s (value_of e env)
 stops_as_asked s e env calls seen n f g h is = subst (λ out. Stops s out) (sym (as_asked e env calls seen n f g h)) is

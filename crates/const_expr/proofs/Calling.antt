@@ -22,7 +22,7 @@ use Rattle.const_expr.specs.Scoping.{calls, frame, seen}
 use Rattle.const_env.specs.declared.inside.Inside.{Inside}
 use Rattle.const_expr.specs.declared.scope.Scope.{Scope}
 use Rattle.const_env.specs.Outcome.{Stops}
-use Rattle.const_env.specs.declared.stop.Stop.{Stop}
+use Rattle.const_env.specs.declared.stop.EvalError.{EvalError}
 use Rattle.const_expr.proofs.Going.{stops_on}
 use Rattle.const_expr.proofs.Weights.{fun_size, locals_size, room, size, weight}
 
@@ -120,7 +120,7 @@ called_lacks zero name funs globals args left e = refl
 called_lacks (suc n) name funs globals args left e = ap (λ o. elim o [ None ↦ Lacks | Some f ↦ answered f (calls_within n funs) globals args left ]) (sym e)
 
 -- .. and no more than the arguments if these end it
-pub called_stops : (depth : ℕ) (name : List ℕ) (funs : List Fun) (fun : BoundFun) (globals : List Var) (args : Values) (left : ℕ) (formals : List BoundLocal) (s : Stop)
+pub called_stops : (depth : ℕ) (name : List ℕ) (funs : List Fun) (fun : BoundFun) (globals : List Var) (args : Values) (left : ℕ) (formals : List BoundLocal) (s : EvalError)
     → 0 < depth → Some (fun_view fun) ≡ fun_named name funs → formals ≡ fun.formals.items → Stops s (needed (arguments (map local_view formals) args) left) → Stops s (calls_within depth funs globals name args left)
 called_stops zero name funs fun globals args left formals s l e f h = absurd (omega arith)
 called_stops (suc n) name funs fun globals args left formals s l e f h =

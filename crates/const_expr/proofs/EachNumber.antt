@@ -11,7 +11,7 @@ use Rattle.cal_model.specs.Env.{Env, with_local}
 use Rattle.cal_model.specs.Expression.{Calls, each_from, elements, eval, span}
 use Rattle.const_env.specs.Meant.{counted, counter_var}
 use Rattle.const_env.specs.Outcome.{Stops}
-use Rattle.const_env.specs.declared.stop.Stop.{Stop}
+use Rattle.const_env.specs.declared.stop.EvalError.{EvalError}
 use Rattle.const_expr.proofs.Going.{each_done, each_more, each_stops}
 use Rattle.const_expr.proofs.Ranging.{next_fits, span_last, span_next, span_none, span_some}
 
@@ -39,7 +39,7 @@ done_last low number high f left m now news whole e h d =
     sym d.2 ∙ ap (λ b. adds (span number b) number f left now) (sym e) ∙ ap (λ n. adds n number f left now) (span_last number)
     ∙ each_more zero number f left m now news h ∙ each_done (number +ℤ pos 1) f m news
 
-done_stops : (low number high : ℤ) (f : ℤ → ℕ → Out Values) (left : ℕ) (now : Values) (whole : Out Values) (s : Stop)
+done_stops : (low number high : ℤ) (f : ℤ → ℕ → Out Values) (left : ℕ) (now : Values) (whole : Out Values) (s : EvalError)
     → Stops s (and_then (f number left) (λ vs k. Gives (joined now vs) k)) → AreDone low number high f left now whole → Stops s whole
 done_stops low number high f left now whole s h d =
     subst (Stops s) (ap (λ n. adds n number f left now) (sym (span_some number high d.1)) ∙ d.2) (each_stops (unsigned_abs (high -ℤ number)) number f left now s h)
@@ -102,7 +102,7 @@ numbers_end gens item calls inside env inner name t v n low high left m now news
     done_last low (to_z num_width n) high (element_of gens item calls env name t) left m now news whole (is_last n high most same)
     (seen_inside (λ o. and_then o (λ vs k. Gives (joined now vs) k) ≡ Gives news m) gens item calls inside env inner name v (counted t (to_z num_width n)) left e f g h) d
 
-pub numbers_stop : (gens item : Tree) (calls inside : Calls) (env inner : Env) (name : List ℕ) (t : Option Scalar) (v : Value) (n : ℕ) (low high : ℤ) (left : ℕ) (now : Values) (whole : Out Values) (s : Stop)
+pub numbers_stop : (gens item : Tree) (calls inside : Calls) (env inner : Env) (name : List ℕ) (t : Option Scalar) (v : Value) (n : ℕ) (low high : ℤ) (left : ℕ) (now : Values) (whole : Out Values) (s : EvalError)
     → inside ≡ calls → inner ≡ with_local (counter_var name v) env → v ≡ counted t (to_z num_width n)
     → Stops s (and_then (elements gens (λ e k. eval item inside e k) inside inner left) (λ vs k. Gives (joined now vs) k))
     → AreDone low (to_z num_width n) high (element_of gens item calls env name t) left now whole → Stops s whole

@@ -14,12 +14,12 @@ use Rattle.cal_model.specs.Value.{Value, Values, Items, one, joined}
 use Rattle.cal_model.specs.View.{in_order, value_view}
 use Rattle.cal_model.specs.declared.value.Value.{Value as Declared}
 use Rattle.const_env.specs.Outcome.{Evaluates}
-use Rattle.const_env.specs.declared.stop.Stop.{Stop}
+use Rattle.const_env.specs.declared.stop.EvalError.{EvalError}
 use Rattle.const_expr.proofs.Going.{all_more, gives_same, stops_alone}
 use Rattle.const_env.proofs.Lists.{joined_nil, one_more}
 use Rattle.const_expr.proofs.Weights.{size}
 
-pub alone_evaluates : (r : Result Declared Stop) (m : ℕ) (o : Out Value) (left : ℕ) → Evaluates value_view r m o → Evaluates value_view r left (alone o left)
+pub alone_evaluates : (r : Result Declared EvalError) (m : ℕ) (o : Out Value) (left : ℕ) → Evaluates value_view r m o → Evaluates value_view r left (alone o left)
 alone_evaluates (Ok v) m o left h = ap (λ x. alone x left) h
 alone_evaluates (Err s) m o left h = stops_alone s o left h
 

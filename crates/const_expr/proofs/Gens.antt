@@ -14,7 +14,7 @@ use Rattle.cal_model.specs.Env.{Env, variable, with_local}
 use Rattle.cal_model.specs.Expression.{Calls, each_from, elements, eval, range_of, span, type_meant}
 use Rattle.const_env.specs.Meant.{counted, counter_var, kept_in, name_of, number_in}
 use Rattle.const_env.specs.Outcome.{Stops}
-use Rattle.const_env.specs.declared.stop.Stop.{Stop}
+use Rattle.const_env.specs.declared.stop.EvalError.{EvalError}
 use Rattle.const_expr.proofs.Going.{stops_in, stops_on}
 use Rattle.const_expr.proofs.Typed.{kept, ranged, with_type}
 
@@ -72,7 +72,7 @@ gens_range gens first others item calls env t was low from high to left e f g h 
 -- ---- how they end
 
 -- the type ends it
-pub gens_stop_type : (gens : List Gen) (first : Gen) (others : List Gen) (item : Env → ℕ → Out Value) (calls : Calls) (env : Env) (left : ℕ) (done : Values) (s : Stop) → gens ≡ first ∷ others
+pub gens_stop_type : (gens : List Gen) (first : Gen) (others : List Gen) (item : Env → ℕ → Out Value) (calls : Calls) (env : Env) (left : ℕ) (done : Values) (s : EvalError) → gens ≡ first ∷ others
     → Stops s (kept (type_meant (type_tree (out-Gen first).shape) calls env left))
     → Stops s (and_then (elements (listed (map gen_tree gens)) item calls env left) (λ vs k. Gives (joined done vs) k))
 gens_stop_type gens first others item calls env left done s e h =
@@ -81,13 +81,13 @@ gens_stop_type gens first others item calls env left done s e h =
     (stops_on s (type_meant (type_tree (out-Gen first).shape) calls env left) (λ u h. and_then (alone (eval (expr_tree (out-Gen first).from) calls env max_turns) h) (λ a j. and_then (alone (eval (expr_tree (out-Gen first).to) calls env max_turns) j) (λ b k. range_of a b (λ x y. each_in (listed (map gen_tree others)) item calls env (name_of first) u x y k))))
     (stops_in s (type_meant (type_tree (out-Gen first).shape) calls env left) kept_in h)))
 
-low_stops : (o : Out Shape) (p q : Out Value) (F : Shape → ℤ → ℤ → ℕ → Out Values) (t : Option Scalar) (left : ℕ) (s : Stop) → kept o ≡ Gives t left → Stops s (alone p left) → Stops s (first_gives o p q F)
+low_stops : (o : Out Shape) (p q : Out Value) (F : Shape → ℤ → ℤ → ℕ → Out Values) (t : Option Scalar) (left : ℕ) (s : EvalError) → kept o ≡ Gives t left → Stops s (alone p left) → Stops s (first_gives o p q F)
 low_stops o p q F t left s e h =
     with_type o t left (λ u h. and_then (alone p h) (λ a j. and_then (alone q j) (λ b k. range_of a b (λ x y. F u x y k)))) (Stops s) e
     (λ u. stops_on s (alone p left) (λ a j. and_then (alone q j) (λ b k. range_of a b (λ x y. F u x y k))) h)
 
 -- .. or the lower end
-pub gens_stop_low : (gens : List Gen) (first : Gen) (others : List Gen) (item : Env → ℕ → Out Value) (calls : Calls) (env : Env) (t : Option Scalar) (left : ℕ) (done : Values) (s : Stop) → gens ≡ first ∷ others
+pub gens_stop_low : (gens : List Gen) (first : Gen) (others : List Gen) (item : Env → ℕ → Out Value) (calls : Calls) (env : Env) (t : Option Scalar) (left : ℕ) (done : Values) (s : EvalError) → gens ≡ first ∷ others
     → kept (type_meant (type_tree (out-Gen first).shape) calls env left) ≡ Gives t left
     → Stops s (alone (eval (expr_tree (out-Gen first).from) calls env max_turns) left)
     → Stops s (and_then (elements (listed (map gen_tree gens)) item calls env left) (λ vs k. Gives (joined done vs) k))
@@ -96,14 +96,14 @@ gens_stop_low gens first others item calls env t left done s e f h =
     (stops_on s (first_gives (type_meant (type_tree (out-Gen first).shape) calls env left) (eval (expr_tree (out-Gen first).from) calls env max_turns) (eval (expr_tree (out-Gen first).to) calls env max_turns) (each_in (listed (map gen_tree others)) item calls env (name_of first))) (λ vs k. Gives (joined done vs) k)
     (low_stops (type_meant (type_tree (out-Gen first).shape) calls env left) (eval (expr_tree (out-Gen first).from) calls env max_turns) (eval (expr_tree (out-Gen first).to) calls env max_turns) (each_in (listed (map gen_tree others)) item calls env (name_of first)) t left s f h))
 
-high_stops : (o : Out Shape) (p q : Out Value) (F : Shape → ℤ → ℤ → ℕ → Out Values) (t : Option Scalar) (v : Value) (left : ℕ) (s : Stop) → kept o ≡ Gives t left → alone p left ≡ Gives v left → Stops s (alone q left) → Stops s (first_gives o p q F)
+high_stops : (o : Out Shape) (p q : Out Value) (F : Shape → ℤ → ℤ → ℕ → Out Values) (t : Option Scalar) (v : Value) (left : ℕ) (s : EvalError) → kept o ≡ Gives t left → alone p left ≡ Gives v left → Stops s (alone q left) → Stops s (first_gives o p q F)
 high_stops o p q F t v left s e f h =
     with_type o t left (λ u h. and_then (alone p h) (λ a j. and_then (alone q j) (λ b k. range_of a b (λ x y. F u x y k)))) (Stops s) e
     (λ u. subst (λ x. Stops s (and_then x (λ a j. and_then (alone q j) (λ b k. range_of a b (λ x y. F u x y k))))) (sym f)
     (stops_on s (alone q left) (λ b k. range_of v b (λ x y. F u x y k)) h))
 
 -- .. or the upper one
-pub gens_stop_high : (gens : List Gen) (first : Gen) (others : List Gen) (item : Env → ℕ → Out Value) (calls : Calls) (env : Env) (t : Option Scalar) (v : Value) (left : ℕ) (done : Values) (s : Stop) → gens ≡ first ∷ others
+pub gens_stop_high : (gens : List Gen) (first : Gen) (others : List Gen) (item : Env → ℕ → Out Value) (calls : Calls) (env : Env) (t : Option Scalar) (v : Value) (left : ℕ) (done : Values) (s : EvalError) → gens ≡ first ∷ others
     → kept (type_meant (type_tree (out-Gen first).shape) calls env left) ≡ Gives t left
     → alone (eval (expr_tree (out-Gen first).from) calls env max_turns) left ≡ Gives v left
     → Stops s (alone (eval (expr_tree (out-Gen first).to) calls env max_turns) left)

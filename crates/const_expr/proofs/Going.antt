@@ -3,13 +3,13 @@ use Rattle.std.proofs.Common.{◌≡◌, ℕ, zero, suc, ℤ, pos, ◌+ℤ◌, r
 use Rattle.cal_model.specs.Value.{Value, Values, Nil, Cons, one, joined}
 use Rattle.cal_model.specs.Outcome.{Out, Gives, Traps, Lacks, Clashes, and_then, alone}
 use Rattle.cal_model.specs.Expression.{each_from}
-use Rattle.const_env.specs.declared.stop.Stop.{Stop}
-use Rattle.const_env.specs.declared.stop.Stop.TheVariants as stop
+use Rattle.const_env.specs.declared.stop.EvalError.{EvalError}
+use Rattle.const_env.specs.declared.stop.EvalError.TheVariants as stop
 use Rattle.const_env.specs.Outcome.{Stops}
 use Rattle.const_env.proofs.Lists.{joined_joined, joined_nil}
 
 -- a step that ends evaluation ends the whole
-pub stops_on : {A B : Type 0} (s : Stop) (o : Out A) (f : A → ℕ → Out B) → Stops s o → Stops s (and_then o f)
+pub stops_on : {A B : Type 0} (s : EvalError) (o : Out A) (f : A → ℕ → Out B) → Stops s o → Stops s (and_then o f)
 stops_on (stop.Trap c) o f h = ap (λ x. and_then x f) h
 stops_on stop.Lacks o f h = ap (λ x. and_then x f) h
 stops_on stop.Clashes o f h = ap (λ x. and_then x f) h
@@ -20,7 +20,7 @@ pub goes_on : {A B : Type 0} (o : Out A) (a : A) (m : ℕ) (f : A → ℕ → Ou
 goes_on o a m f h = ap (λ x. and_then x f) h
 
 -- what is made of the value of a step doesn't end it
-pub stops_in : {A B : Type 0} (s : Stop) (o : Out A) (g : A → B) → Stops s (and_then o (λ a k. Gives (g a) k)) → Stops s o
+pub stops_in : {A B : Type 0} (s : EvalError) (o : Out A) (g : A → B) → Stops s (and_then o (λ a k. Gives (g a) k)) → Stops s o
 stops_in (stop.Trap c) (Gives a m) g h = cc
 stops_in (stop.Trap c) (Traps d) g h = cc
 stops_in (stop.Trap c) Lacks g h = cc
@@ -36,7 +36,7 @@ stops_in stop.Clashes Clashes g h = refl
 stops_in stop.Memory o g h = tt
 
 -- what counts for itself ends the same way
-pub stops_alone : {A : Type 0} (s : Stop) (o : Out A) (left : ℕ) → Stops s o → Stops s (alone o left)
+pub stops_alone : {A : Type 0} (s : EvalError) (o : Out A) (left : ℕ) → Stops s o → Stops s (alone o left)
 stops_alone (stop.Trap c) o left h = ap (λ x. alone x left) h
 stops_alone stop.Lacks o left h = ap (λ x. alone x left) h
 stops_alone stop.Clashes o left h = ap (λ x. alone x left) h
@@ -80,7 +80,7 @@ pub each_more : (n : ℕ) (i : ℤ) (f : ℤ → ℕ → Out Values) (left m : �
     → and_then (each_from (suc n) i f left) (λ vs k. Gives (joined now vs) k) ≡ and_then (each_from n (i +ℤ pos 1) f m) (λ vs k. Gives (joined next vs) k)
 each_more n i f left m now next e = each_after (f i left) (λ h. each_from n (i +ℤ pos 1) f h) now next m e
 
-pub each_stops : (n : ℕ) (i : ℤ) (f : ℤ → ℕ → Out Values) (left : ℕ) (now : Values) (s : Stop) → Stops s (and_then (f i left) (λ vs k. Gives (joined now vs) k))
+pub each_stops : (n : ℕ) (i : ℤ) (f : ℤ → ℕ → Out Values) (left : ℕ) (now : Values) (s : EvalError) → Stops s (and_then (f i left) (λ vs k. Gives (joined now vs) k))
     → Stops s (and_then (each_from (suc n) i f left) (λ vs k. Gives (joined now vs) k))
 each_stops n i f left now s h =
     stops_on s (and_then (f i left) (λ vs m. and_then (each_from n (i +ℤ pos 1) f m) (λ ws k. Gives (joined vs ws) k))) (λ vs k. Gives (joined now vs) k)

@@ -21,7 +21,7 @@ use Rattle.cal_model.specs.Env.{Env}
 use Rattle.cal_model.specs.Expression.{Calls, Given, args_given, bits, eval, list_of, range_of, size_of_value, type_meant, type_named}
 use Rattle.const_env.specs.Meant.{Erased, erased, kept_in, kept_bits, kept_list, kept_named}
 use Rattle.const_env.specs.Outcome.{Stops}
-use Rattle.const_env.specs.declared.stop.Stop.{Stop}
+use Rattle.const_env.specs.declared.stop.EvalError.{EvalError}
 use Rattle.const_expr.proofs.Going.{stops_in, stops_on}
 
 -- the single type of what is meant
@@ -126,14 +126,14 @@ value_first : (args : List TypeArg) (first : TypeArg) (others : List TypeArg) (n
     → args_given (listed (map type_arg_tree args)) calls env left ≡ and_then (alone (eval (expr_tree value) calls env max_turns) left) (with_size (λ m. args_given (listed (map type_arg_tree others)) calls env m))
 value_first args first others name value calls env left e f = args_open args first others (tree.value_arg (ident_tree name) (expr_tree value)) calls env left e (ap type_arg_tree f ∙ value_is name value)
 
-pub shape_stops : (args : List TypeArg) (first : TypeArg) (others : List TypeArg) (name : Ident) (shape : TypeExpr) (calls : Calls) (env : Env) (left : ℕ) (s : Stop) → args ≡ first ∷ others → first ≡ forms.Shape name shape
+pub shape_stops : (args : List TypeArg) (first : TypeArg) (others : List TypeArg) (name : Ident) (shape : TypeExpr) (calls : Calls) (env : Env) (left : ℕ) (s : EvalError) → args ≡ first ∷ others → first ≡ forms.Shape name shape
     → Stops s (kept (type_meant (type_tree shape) calls env left)) → Stops s (erase (args_given (listed (map type_arg_tree args)) calls env left))
 shape_stops args first others name shape calls env left s e f h =
     subst (λ o. Stops s (erase o)) (sym (shape_first args first others name shape calls env left e f))
     (stops_on s (and_then (type_meant (type_tree shape) calls env left) (with_items (λ m. args_given (listed (map type_arg_tree others)) calls env m))) (λ given k. Gives (erased given) k)
     (stops_on s (type_meant (type_tree shape) calls env left) (with_items (λ m. args_given (listed (map type_arg_tree others)) calls env m)) (stops_in s (type_meant (type_tree shape) calls env left) kept_in h)))
 
-pub after_shape_stops : (args : List TypeArg) (first : TypeArg) (others : List TypeArg) (name : Ident) (shape : TypeExpr) (calls : Calls) (env : Env) (t : Option Scalar) (left : ℕ) (s : Stop) → args ≡ first ∷ others → first ≡ forms.Shape name shape
+pub after_shape_stops : (args : List TypeArg) (first : TypeArg) (others : List TypeArg) (name : Ident) (shape : TypeExpr) (calls : Calls) (env : Env) (t : Option Scalar) (left : ℕ) (s : EvalError) → args ≡ first ∷ others → first ≡ forms.Shape name shape
     → kept (type_meant (type_tree shape) calls env left) ≡ Gives t left → Stops s (erase (args_given (listed (map type_arg_tree others)) calls env left)) → Stops s (erase (args_given (listed (map type_arg_tree args)) calls env left))
 after_shape_stops args first others name shape calls env t left s e f g h =
     subst (λ o. Stops s (erase o)) (sym (shape_first args first others name shape calls env left e f))
@@ -149,14 +149,14 @@ shape_given args first others name shape calls env t g left e f h rest =
     ∙ with_type (type_meant (type_tree shape) calls env left) t left (with_items (λ m. args_given (listed (map type_arg_tree others)) calls env m)) (λ o. erase o ≡ Gives (record { has_items = true; size = g.size }) left) h
     (λ u. items_more (args_given (listed (map type_arg_tree others)) calls env left) g u left rest)
 
-pub value_stops : (args : List TypeArg) (first : TypeArg) (others : List TypeArg) (name : Ident) (value : Expr) (calls : Calls) (env : Env) (left : ℕ) (s : Stop) → args ≡ first ∷ others → first ≡ forms.Value name value
+pub value_stops : (args : List TypeArg) (first : TypeArg) (others : List TypeArg) (name : Ident) (value : Expr) (calls : Calls) (env : Env) (left : ℕ) (s : EvalError) → args ≡ first ∷ others → first ≡ forms.Value name value
     → Stops s (alone (eval (expr_tree value) calls env max_turns) left) → Stops s (erase (args_given (listed (map type_arg_tree args)) calls env left))
 value_stops args first others name value calls env left s e f h =
     subst (λ o. Stops s (erase o)) (sym (value_first args first others name value calls env left e f))
     (stops_on s (and_then (alone (eval (expr_tree value) calls env max_turns) left) (with_size (λ m. args_given (listed (map type_arg_tree others)) calls env m))) (λ given k. Gives (erased given) k)
     (stops_on s (alone (eval (expr_tree value) calls env max_turns) left) (with_size (λ m. args_given (listed (map type_arg_tree others)) calls env m)) h))
 
-pub after_value_stops : (args : List TypeArg) (first : TypeArg) (others : List TypeArg) (name : Ident) (value : Expr) (calls : Calls) (env : Env) (v : Value) (left : ℕ) (s : Stop) → args ≡ first ∷ others → first ≡ forms.Value name value
+pub after_value_stops : (args : List TypeArg) (first : TypeArg) (others : List TypeArg) (name : Ident) (value : Expr) (calls : Calls) (env : Env) (v : Value) (left : ℕ) (s : EvalError) → args ≡ first ∷ others → first ≡ forms.Value name value
     → alone (eval (expr_tree value) calls env max_turns) left ≡ Gives v left → Stops s (erase (args_given (listed (map type_arg_tree others)) calls env left)) → Stops s (erase (args_given (listed (map type_arg_tree args)) calls env left))
 after_value_stops args first others name value calls env v left s e f g h =
     subst (λ o. Stops s (erase o)) (sym (value_first args first others name value calls env left e f ∙ ap (λ x. and_then x (with_size (λ m. args_given (listed (map type_arg_tree others)) calls env m))) g))
@@ -179,7 +179,7 @@ type_open : (t : TypeExpr) (calls : Calls) (env : Env) (left : ℕ)
     → type_meant (type_tree t) calls env left ≡ and_then (args_given (listed (map type_arg_tree (out-TypeExpr t).args.items)) calls env left) (λ given m. needed (type_named (string_bytes (out-TypeExpr t).name.text) given) m)
 type_open t calls env left = ap (λ x. type_meant x calls env left) (type_is t)
 
-pub meant_stops : (t : TypeExpr) (args : List TypeArg) (calls : Calls) (env : Env) (left : ℕ) (s : Stop) → args ≡ (out-TypeExpr t).args.items
+pub meant_stops : (t : TypeExpr) (args : List TypeArg) (calls : Calls) (env : Env) (left : ℕ) (s : EvalError) → args ≡ (out-TypeExpr t).args.items
     → Stops s (erase (args_given (listed (map type_arg_tree args)) calls env left)) → Stops s (kept (type_meant (type_tree t) calls env left))
 meant_stops t args calls env left s e h =
     subst (λ o. Stops s (kept o)) (sym (type_open t calls env left))

@@ -12,10 +12,10 @@ use crate::evaluate::eval;
 use crate::scope::Scope;
 use cal_ast::Expr;
 use cal_model::{Value, constants_are_values};
-use const_env::{Names, Stop};
+use const_env::{EvalError, Names};
 
 /// What a constant expression gives, with its own count of turns.
-pub(crate) fn value_of(names: &Names, e: &Expr) -> Result<Value, Stop>
+pub(crate) fn value_of(names: &Names, e: &Expr) -> Result<Value, EvalError>
     ensures { (left : ℕ) × Evaluates value_view result left
         (constant (expr_tree e.now) (names_view names.now)) }
 {

@@ -11,7 +11,7 @@ ghost use Rattle.const_expr.specs.Scoping.{frame};
 ghost use Rattle.const_env.specs.Sizes.{are_sized};
 
 use cal_model::{BoundLocal, Value};
-use const_env::Stop;
+use const_env::EvalError;
 use const_env::value::stored;
 use rvc_base::{MAX_TURNS, Trap};
 use std::alloc::Global;
@@ -24,12 +24,12 @@ pub fn all_turns() -> u32
 }
 
 /// Makes a turn. If none is left, that is one too many.
-pub(crate) fn turn(left: &mut u32) -> Result<(), Stop>
+pub(crate) fn turn(left: &mut u32) -> Result<(), EvalError>
     ensures ok { OnOk result (left.old ≡ suc left.new) }
-    ensures err { IfErr result (λ stop. (stop ≡ Stop.Trap TurnLimit) × (left.old ≡ 0)) }
+    ensures err { IfErr result (λ stop. (stop ≡ EvalError.Trap TurnLimit) × (left.old ≡ 0)) }
 {
     if *left == 0 {
-        return Err(Stop::Trap(Trap::TurnLimit));
+        return Err(EvalError::Trap(Trap::TurnLimit));
     }
     *left -= 1;
     Ok(())
@@ -40,7 +40,7 @@ pub(crate) fn entry(
     alloc: Global,
     formals: &[BoundLocal],
     args: &[Value],
-) -> Result<Vec<Value>, Stop>
+) -> Result<Vec<Value>, EvalError>
     requires { are_sized (map local_view formals.now) ≡ true }
     ensures { (left : ℕ) → Evaluates
         (λ kept. frame formals.now kept.items) result left
@@ -48,7 +48,7 @@ pub(crate) fn entry(
         left) }
 {
     if formals.len() != args.len() {
-        return Err(Stop::Clashes);
+        return Err(EvalError::Clashes);
     }
     let mut kept = Vec::new(alloc);
     for place in 0..formals.len() {

@@ -21,7 +21,7 @@ use crate::entry::{entry, turn};
 use crate::scope::{Declared, Local, Scope};
 use cal_ast::{BinOp, Expr, ExprForm, Gen, TypeArg, TypeExpr};
 use cal_model::{BoundFun, BoundLocal, Value};
-use const_env::Stop;
+use const_env::EvalError;
 use const_env::operators::{applied, decides, indexed, literal, prefixed};
 use const_env::types::{Counting, Given, counted, number, type_named};
 use const_env::value::{list_of, stored, stored_single, zero_of};
@@ -35,7 +35,7 @@ use rvc_base::{MAX_TURNS, Num, Scalar};
 /// `Trap` if it traps, `Lacks` if it reaches a name that means nothing, and `Clashes` if it reaches a part that is of
 /// another kind than its form asks, whichever comes first. `Memory` if memory runs out.
 #[cycle(eval)]
-pub fn eval(scope: &Scope, e: &Expr, left: &mut u32) -> Result<Value, Stop>
+pub fn eval(scope: &Scope, e: &Expr, left: &mut u32) -> Result<Value, EvalError>
     ensures { Evaluates value_view result left.new
         (eval (expr_tree e.now) (calls scope.now) (seen scope.now) left.old) }
 {
@@ -63,7 +63,7 @@ pub fn eval(scope: &Scope, e: &Expr, left: &mut u32) -> Result<Value, Stop>
 
 /// The values of expressions in order.
 #[cycle(eval)]
-fn eval_all(scope: &Scope, exprs: &[Expr], left: &mut u32) -> Result<Vec<Value>, Stop>
+fn eval_all(scope: &Scope, exprs: &[Expr], left: &mut u32) -> Result<Vec<Value>, EvalError>
     ensures { Evaluates (λ values. in_order (map value_view values.items)) result left.new
         (eval_all (listed (map expr_tree exprs.now)) (calls scope.now) (seen scope.now) left.old) }
 {
@@ -77,7 +77,7 @@ fn eval_all(scope: &Scope, exprs: &[Expr], left: &mut u32) -> Result<Vec<Value>,
 
 /// The list of the values of expressions.
 #[cycle(eval)]
-fn eval_list(scope: &Scope, exprs: &[Expr], left: &mut u32) -> Result<Value, Stop>
+fn eval_list(scope: &Scope, exprs: &[Expr], left: &mut u32) -> Result<Value, EvalError>
     ensures { Evaluates value_view result left.new
         (eval (tree.list (listed (map expr_tree exprs.now)) 0) (calls scope.now)
         (seen scope.now) left.old) }
@@ -88,7 +88,13 @@ fn eval_list(scope: &Scope, exprs: &[Expr], left: &mut u32) -> Result<Value, Sto
 
 /// A condition, and then the branch that it chooses.
 #[cycle(eval)]
-fn eval_if(scope: &Scope, test: &Expr, yes: &Expr, no: &Expr, left: &mut u32) -> Result<Value, Stop>
+fn eval_if(
+    scope: &Scope,
+    test: &Expr,
+    yes: &Expr,
+    no: &Expr,
+    left: &mut u32,
+) -> Result<Value, EvalError>
     ensures { Evaluates value_view result left.new
         (eval (tree.if_expr (expr_tree test.now) (expr_tree yes.now) (expr_tree no.now) 0)
         (calls scope.now) (seen scope.now) left.old) }
@@ -96,14 +102,14 @@ fn eval_if(scope: &Scope, test: &Expr, yes: &Expr, no: &Expr, left: &mut u32) ->
     match eval(scope, test, left)? {
         Value::Bool(true) => eval(scope, yes, left),
         Value::Bool(false) => eval(scope, no, left),
-        Value::Num(_) => Err(Stop::Clashes),
-        Value::List(_) => Err(Stop::Clashes),
+        Value::Num(_) => Err(EvalError::Clashes),
+        Value::List(_) => Err(EvalError::Clashes),
     }
 }
 
 /// A list, the place in it, and then what stands there. Of a list that has a name only the item is copied.
 #[cycle(eval)]
-fn eval_index(scope: &Scope, base: &Expr, place: &Expr, left: &mut u32) -> Result<Value, Stop>
+fn eval_index(scope: &Scope, base: &Expr, place: &Expr, left: &mut u32) -> Result<Value, EvalError>
     ensures { Evaluates value_view result left.new
         (eval (tree.index (expr_tree base.now) (expr_tree place.now) 0) (calls scope.now)
         (seen scope.now) left.old) }
@@ -117,7 +123,7 @@ fn eval_index(scope: &Scope, base: &Expr, place: &Expr, left: &mut u32) -> Resul
 
 /// A place in a list, and then what stands there.
 #[cycle(eval)]
-fn eval_item(scope: &Scope, list: &Value, place: &Expr, left: &mut u32) -> Result<Value, Stop>
+fn eval_item(scope: &Scope, list: &Value, place: &Expr, left: &mut u32) -> Result<Value, EvalError>
     ensures { Evaluates value_view result left.new
         (and_then (eval (expr_tree place.now) (calls scope.now) (seen scope.now) left.old)
         (λ i k. indexed (value_view list.now) i k)) }
@@ -135,7 +141,7 @@ fn eval_binary(
     first: &Expr,
     second: &Expr,
     left: &mut u32,
-) -> Result<Value, Stop>
+) -> Result<Value, EvalError>
     ensures { Evaluates value_view result left.new
         (eval (tree.binary op (expr_tree first.now) (expr_tree second.now) 0) (calls scope.now)
         (seen scope.now) left.old) }
@@ -152,7 +158,7 @@ fn eval_binary(
 
 /// The arguments, one turn, and then the function.
 #[cycle(eval)]
-fn eval_call(scope: &Scope, name: &str, args: &[Expr], left: &mut u32) -> Result<Value, Stop>
+fn eval_call(scope: &Scope, name: &str, args: &[Expr], left: &mut u32) -> Result<Value, EvalError>
     ensures { Evaluates value_view result left.new
         (eval (tree.call name.now (listed (map expr_tree args.now)) 0) (calls scope.now)
         (seen scope.now) left.old) }
@@ -164,16 +170,16 @@ fn eval_call(scope: &Scope, name: &str, args: &[Expr], left: &mut u32) -> Result
 
 /// What the function of the name gives for arguments.
 #[cycle(eval)]
-fn called(scope: &Scope, name: &str, args: &[Value], left: &mut u32) -> Result<Value, Stop>
+fn called(scope: &Scope, name: &str, args: &[Value], left: &mut u32) -> Result<Value, EvalError>
     ensures { Evaluates value_view result left.new
         (calls scope.now (seen scope.now).globals name.now
         (in_order (map value_view args.now)) left.old) }
 {
     if scope.depth == 0 {
-        return Err(Stop::Lacks);
+        return Err(EvalError::Lacks);
     }
     let Some(fun) = scope.env.fun(name) else {
-        return Err(Stop::Lacks);
+        return Err(EvalError::Lacks);
     };
     let arguments = entry(scope.alloc, &fun.formals, args)?;
     let inner = scope.entered(fun, &arguments);
@@ -187,7 +193,7 @@ fn answer(
     fun: &BoundFun,
     locals: &[BoundLocal],
     left: &mut u32,
-) -> Result<Value, Stop>
+) -> Result<Value, EvalError>
     requires result { is_size fun.now.result ≡ true }
     requires locals { are_sized (map local_view locals.now) ≡ true }
     ensures { Evaluates value_view result left.new
@@ -210,7 +216,7 @@ fn answer(
 
 /// The first value of a local.
 #[cycle(eval)]
-fn first_value(scope: &Scope, local: &BoundLocal, left: &mut u32) -> Result<Value, Stop>
+fn first_value(scope: &Scope, local: &BoundLocal, left: &mut u32) -> Result<Value, EvalError>
     requires { is_sized (shape_view local.now.shape) ≡ true }
     ensures { Evaluates value_view result left.new
         (first_value (local_view local.now).shape (local_view local.now).start (calls scope.now)
@@ -229,7 +235,7 @@ fn first_value(scope: &Scope, local: &BoundLocal, left: &mut u32) -> Result<Valu
 
 /// The list of the elements of a comprehension.
 #[cycle(eval)]
-fn eval_comp(scope: &Scope, item: &Expr, gens: &[Gen], left: &mut u32) -> Result<Value, Stop>
+fn eval_comp(scope: &Scope, item: &Expr, gens: &[Gen], left: &mut u32) -> Result<Value, EvalError>
     ensures { Evaluates value_view result left.new
         (eval (tree.comp (expr_tree item.now) (listed (map gen_tree gens.now)) 0) (calls scope.now)
         (seen scope.now) left.old) }
@@ -247,7 +253,7 @@ fn elements(
     gens: &[Gen],
     found: &mut Vec<Value>,
     left: &mut u32,
-) -> Result<(), Stop>
+) -> Result<(), EvalError>
     ensures { Evaluates (λ _. in_order (map value_view found.new.items)) result left.new
         (and_then (elements (listed (map gen_tree gens.now))
         (λ inner k. eval (expr_tree item.now) (calls scope.now) inner k) (calls scope.now)
@@ -261,10 +267,10 @@ fn elements(
     let low = constant(scope, &first.from)?;
     let high = constant(scope, &first.to)?;
     let Some(low) = number(&low) else {
-        return Err(Stop::Clashes);
+        return Err(EvalError::Clashes);
     };
     let Some(high) = number(&high) else {
-        return Err(Stop::Clashes);
+        return Err(EvalError::Clashes);
     };
     let range = Counting::between(t, low, high);
     each(scope, item, first, others, range, found, left)
@@ -272,7 +278,12 @@ fn elements(
 
 /// Adds one element: one turn, and then its value.
 #[cycle(eval)]
-fn element(scope: &Scope, item: &Expr, found: &mut Vec<Value>, left: &mut u32) -> Result<(), Stop>
+fn element(
+    scope: &Scope,
+    item: &Expr,
+    found: &mut Vec<Value>,
+    left: &mut u32,
+) -> Result<(), EvalError>
     ensures { Evaluates (λ _. in_order (map value_view found.new.items)) result left.new
         (and_then (elements tree.nil (λ inner k. eval (expr_tree item.now)
         (calls scope.now) inner k) (calls scope.now) (seen scope.now) left.old)
@@ -294,7 +305,7 @@ fn each(
     range: Counting,
     found: &mut Vec<Value>,
     left: &mut u32,
-) -> Result<(), Stop>
+) -> Result<(), EvalError>
     requires { IsKept range.t }
     ensures { Evaluates (λ _. in_order (map value_view found.new.items)) result left.new
         (and_then (each_from (span range.low range.high) range.low
@@ -323,7 +334,7 @@ fn each(
 
 /// The value of a constant expression, which counts its turns for itself.
 #[cycle(eval)]
-fn constant(scope: &Scope, e: &Expr) -> Result<Value, Stop>
+fn constant(scope: &Scope, e: &Expr) -> Result<Value, EvalError>
     ensures { (left : ℕ) → Evaluates value_view result left
         (alone (eval (expr_tree e.now) (calls scope.now) (seen scope.now) max_turns) left) }
 {
@@ -335,7 +346,7 @@ fn constant(scope: &Scope, e: &Expr) -> Result<Value, Stop>
 
 /// The type that is meant, as what a number is stored in: None for a list.
 #[cycle(eval)]
-fn type_meant(scope: &Scope, t: &TypeExpr) -> Result<Option<Scalar>, Stop>
+fn type_meant(scope: &Scope, t: &TypeExpr) -> Result<Option<Scalar>, EvalError>
     ensures means { (left : ℕ) → Evaluates
         (λ kept. kept) result left (and_then
         (type_meant (type_tree t.now) (calls scope.now) (seen scope.now) left)
@@ -348,7 +359,7 @@ fn type_meant(scope: &Scope, t: &TypeExpr) -> Result<Option<Scalar>, Stop>
 
 /// The arguments that a type is given.
 #[cycle(eval)]
-fn args_given(scope: &Scope, args: &[TypeArg]) -> Result<Given, Stop>
+fn args_given(scope: &Scope, args: &[TypeArg]) -> Result<Given, EvalError>
     ensures { (left : ℕ) → Evaluates given_view result left
         (and_then (args_given (listed (map type_arg_tree args.now)) (calls scope.now)
         (seen scope.now) left) (λ given k. Gives (erased given) k)) }

@@ -25,7 +25,7 @@ use const_env::kinds::{
     product, wrong_kind,
 };
 use const_env::ranges::span;
-use const_env::{Inside, KindFault, Names, Stop};
+use const_env::{EvalError, Inside, KindFault, Names};
 use rvc_base::{Num, Rule};
 
 /// The kind of an expression.
@@ -280,13 +280,13 @@ fn number_given(names: &Names, e: &Expr) -> Result<Num, KindFault>
         Ok(Value::Num(number)) => Ok(number),
         Ok(Value::Bool(_)) => Err(not_constant),
         Ok(Value::List(_)) => Err(not_constant),
-        Err(Stop::Trap(_)) => Err(KindFault::Broken {
+        Err(EvalError::Trap(_)) => Err(KindFault::Broken {
             rule: Rule::CONSTANT_TRAPS,
             at: e.at,
         }),
-        Err(Stop::Lacks) => Err(not_constant),
-        Err(Stop::Clashes) => Err(not_constant),
-        Err(Stop::Memory) => Err(KindFault::Memory),
+        Err(EvalError::Lacks) => Err(not_constant),
+        Err(EvalError::Clashes) => Err(not_constant),
+        Err(EvalError::Memory) => Err(KindFault::Memory),
     }
 }
 

@@ -18,7 +18,7 @@ use cal_ast::{Expr, ExprForm, Ident};
 use cal_model::{BoundFun, BoundLocal, Value};
 use const_env::inside::meant_inside;
 use const_env::value::copy;
-use const_env::{Env, Inside, Stop};
+use const_env::{Env, EvalError, Inside};
 use std::alloc::Global;
 
 /// What an expression sees while it is evaluated: locals, the arguments of the function that it stands in, and constants,
@@ -158,13 +158,13 @@ impl<'a> Scope<'a> {
     }
 
     /// What a name means, as a value of its own.
-    pub fn copied(&self, name: &str) -> Result<Value, Stop>
+    pub fn copied(&self, name: &str) -> Result<Value, EvalError>
         ensures { (left : ℕ) → Evaluates value_view result left
             (known (look_up name.now (seen self.now)) left) }
     {
         match self.value(name) {
             Some(value) => Ok(copy(self.alloc, value)?),
-            None => Err(Stop::Lacks),
+            None => Err(EvalError::Lacks),
         }
     }
 

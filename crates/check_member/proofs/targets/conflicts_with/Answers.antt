@@ -1,8 +1,8 @@
 use Rattle.std.proofs.Common.{◌≡◌, ◌+◌, ◌*◌, ◌++◌, Some, None, get_or, set, take, sym, ap, subst, ◌∙◌}
 use Rattle.cal_model.specs.Tags.{moves_by}
 use Rattle.check_member.specs.Targets.{Tells}
-use Rattle.check_member.proofs.Departing.{IsOne, all-departs, all-told, departs-elsewhere, departs-nowhere, move_by, place_of, told-further}
-use Rattle.check_member.proofs.targets.departs.Goals as goal
+use Rattle.check_member.proofs.Departing.{IsOne, all-conflicts_with, all-told, conflicts_with-elsewhere, conflicts_with-nowhere, move_by, place_of, told-further}
+use Rattle.check_member.proofs.targets.conflicts_with.Goals as goal
 
 pub returns-then-enter-clause-elsewhere : goal.returns-then-enter-clause-elsewhere
 returns-then-enter-clause-elsewhere c = λ _ states before f a t.
@@ -11,7 +11,7 @@ returns-then-enter-clause-elsewhere c = λ _ states before f a t.
     let at : c.from.result * c.args.columns + c.from-in-loop-action.result ≡ place_of c.args.columns (move_by c.args.from (get_or acts k 0) c.args.to) =
     ap (λ s. s * c.args.columns + c.from-in-loop-action.result) c.from.ensures ∙ ap (λ x. c.args.from * c.args.columns + x) c.from-in-loop-action.ensures in
     let o = c.enter.ensures.another c.if-enter.true in
-    departs-elsewhere states c.args.columns c.args.from c.args.to before acts k c.loop-action.targets c.loop-action-test.true f a (c.loop-action.invariant.entered states before f a t)
+    conflicts_with-elsewhere states c.args.columns c.args.from c.args.to before acts k c.loop-action.targets c.loop-action-test.true f a (c.loop-action.invariant.entered states before f a t)
     o.0 (ap (λ p. get_or c.loop-action.targets p None) (sym at) ∙ o.1) o.2
 
 pub loop-action-preserved : goal.loop-action-preserved
@@ -27,7 +27,7 @@ loop-action-preserved c =
     record {
       size = c.enter.ensures.size ∙ c.loop-action.invariant.size;
       nowhere = λ states before f a t.
-          departs-nowhere states c.args.columns c.args.from c.args.to before acts k c.loop-action.targets c.loop-action-test.true f a (c.loop-action.invariant.entered states before f a t)
+          conflicts_with-nowhere states c.args.columns c.args.from c.args.to before acts k c.loop-action.targets c.loop-action-test.true f a (c.loop-action.invariant.entered states before f a t)
           (c.loop-action.invariant.nowhere states before f a t) one;
       entered = λ states before f a t.
           subst (λ ts. Tells states c.args.columns ts (before ++ moves_by c.args.from (take (k + 1) acts) c.args.to)) (sym grown)
@@ -40,7 +40,7 @@ returns c =
     let k = c.loop-action.action-index in
     record {
       elsewhere = λ e. absurd (cc);
-      nowhere = λ _ states before f a t. all-departs c.args.from c.args.to before acts k c.loop-action-test.false (c.loop-action.invariant.nowhere states before f a t);
+      nowhere = λ _ states before f a t. all-conflicts_with c.args.from c.args.to before acts k c.loop-action-test.false (c.loop-action.invariant.nowhere states before f a t);
       entered = λ _ states before f a t.
           all-told states c.args.columns c.args.from c.args.to before acts k c.loop-action.targets c.loop-action-test.false (c.loop-action.invariant.entered states before f a t);
       size = c.loop-action.invariant.size;
