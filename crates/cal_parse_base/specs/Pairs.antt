@@ -3,10 +3,10 @@
 use Rattle.std.specs.Prelude.{Bool, true, false}
 use Rattle.cal_ast.specs.Tree.{Tree, if_expr, prefix, binary}
 use Rattle.cal_ast.specs.View.{expr_tree}
-use Rattle.cal_parse_base.specs.declared.tall.TallExpr.{TallExpr}
+use Rattle.cal_parse_base.specs.declared.tall.MeasuredExpr.{MeasuredExpr}
 
 -- the tree of an expression with its height
-abbrev pub tall_tree : TallExpr → Tree
+abbrev pub tall_tree : MeasuredExpr → Tree
 tall_tree x = expr_tree x.expr.value
 
 -- whether a pair of parentheses round an expression is dropped

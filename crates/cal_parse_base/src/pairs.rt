@@ -8,7 +8,7 @@ ghost use Rattle.cal_parse_base.specs.Pairs.{drops, tall_tree};
 
 use crate::cursor::{is_word, take_word};
 use crate::fault::Fault;
-use crate::tall::TallExpr;
+use crate::tall::MeasuredExpr;
 use cal_ast::{Expr, ExprForm};
 use cal_lexer::{Token, Word};
 use std::alloc::Global;
@@ -45,7 +45,7 @@ pub fn is_dropped(expr: &Expr) -> bool
 }
 
 /// Whether an expression in a pair of parentheses fits the room.
-pub fn fits_in_pair(room: u32, inner: &TallExpr) -> bool
+pub fn fits_in_pair(room: u32, inner: &MeasuredExpr) -> bool
     requires { inner.now.high ≤ room }
     ensures { result ≡ nat_le (height (group 0 (tall_tree inner.now))) room }
 {

@@ -10,7 +10,7 @@ use cal_ast::Expr;
 
 /// An expression and its height.
 #[derive(Drop)]
-pub struct TallExpr {
+pub struct MeasuredExpr {
     pub expr: Box<Expr>,
     pub high: u32,
     ghost is_high: { high ≡ height (expr_tree expr.value) },

@@ -7,12 +7,12 @@ use Rattle.cal_ast.specs.View.{expr_tree, gen_tree, type_tree, type_arg_tree}
 use Rattle.cal_lexer.specs.Lexeme.{Lexeme, Placed, plain_tokens}
 use Rattle.cal_lexer.specs.declared.token.Token.{Token}
 use Rattle.cal_parse_base.specs.declared.fault.Fault.{Fault}
-use Rattle.cal_parse_expr.specs.declared.tall.TallExprs.{TallExprs}
-use Rattle.cal_parse_expr.specs.declared.tall.TallGen.{TallGen}
-use Rattle.cal_parse_expr.specs.declared.tall.TallGens.{TallGens}
-use Rattle.cal_parse_expr.specs.declared.tall.TallType.{TallType}
-use Rattle.cal_parse_expr.specs.declared.tall.TallTypeArg.{TallTypeArg}
-use Rattle.cal_parse_expr.specs.declared.tall.TallTypeArgs.{TallTypeArgs}
+use Rattle.cal_parse_expr.specs.declared.tall.MeasuredExprs.{MeasuredExprs}
+use Rattle.cal_parse_expr.specs.declared.tall.MeasuredGen.{MeasuredGen}
+use Rattle.cal_parse_expr.specs.declared.tall.MeasuredGens.{MeasuredGens}
+use Rattle.cal_parse_expr.specs.declared.tall.MeasuredType.{MeasuredType}
+use Rattle.cal_parse_expr.specs.declared.tall.MeasuredTypeArg.{MeasuredTypeArg}
+use Rattle.cal_parse_expr.specs.declared.tall.MeasuredTypeArgs.{MeasuredTypeArgs}
 use Rattle.cal_ast.specs.Places.{begins}
 use Rattle.cal_grammar.specs.Operators.{group, height}
 use Rattle.cal_grammar.specs.Rules.{Rule, Step, chain, expect, finish, read}
@@ -41,22 +41,22 @@ Reads view m r result old new = Answers view (read m r (plain_tokens old)) resul
 
 -- the trees of parts with their heights
 
-abbrev pub each_expr : TallExprs → Tree
+abbrev pub each_expr : MeasuredExprs → Tree
 each_expr xs = listed (map expr_tree xs.exprs.items)
 
-abbrev pub tall_gen : TallGen → Tree
+abbrev pub tall_gen : MeasuredGen → Tree
 tall_gen g = gen_tree g.generator.value
 
-abbrev pub each_gen : TallGens → Tree
+abbrev pub each_gen : MeasuredGens → Tree
 each_gen gs = listed (map gen_tree gs.gens.items)
 
-abbrev pub tall_type : TallType → Tree
+abbrev pub tall_type : MeasuredType → Tree
 tall_type t = type_tree t.shape
 
-abbrev pub tall_type_arg : TallTypeArg → Tree
+abbrev pub tall_type_arg : MeasuredTypeArg → Tree
 tall_type_arg t = type_arg_tree t.arg.value
 
-abbrev pub each_type_arg : TallTypeArgs → Tree
+abbrev pub each_type_arg : MeasuredTypeArgs → Tree
 each_type_arg ts = listed (map type_arg_tree ts.args.items)
 
 -- the word of a truth value

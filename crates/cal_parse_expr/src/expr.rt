@@ -21,7 +21,9 @@ use crate::forms::{
 };
 use crate::leaves::{number, truth, variable};
 use crate::pairs::close_pair;
-use crate::tall::{TallExprs, TallGen, TallGens, TallType, TallTypeArg, TallTypeArgs};
+use crate::tall::{
+    MeasuredExprs, MeasuredGen, MeasuredGens, MeasuredType, MeasuredTypeArg, MeasuredTypeArgs,
+};
 use crate::types::{
     bare_type, closed_type, generated, no_gens, no_type_args, shape_arg, value_arg, with_gen,
     with_type_arg,
@@ -33,7 +35,7 @@ use cal_parse_base::fault::Fault;
 use cal_parse_base::leading::{leading_name, leading_word, starts_expr};
 use cal_parse_base::operators::{LOOSEST, is_operator, is_prefix, take_operator, take_prefix};
 use cal_parse_base::pairs::take_opens;
-use cal_parse_base::tall::TallExpr;
+use cal_parse_base::tall::MeasuredExpr;
 use std::alloc::Global;
 
 /// An expression.
@@ -100,7 +102,12 @@ pub fn type_after(
 
 /// Binary operations of this level and of tighter ones; 0 for an operand with its prefixes.
 #[cycle(reading)]
-fn level_expr(alloc: Global, tokens: &mut &[Token], room: u32, top: u8) -> Result<TallExpr, Fault>
+fn level_expr(
+    alloc: Global,
+    tokens: &mut &[Token],
+    room: u32,
+    top: u8,
+) -> Result<MeasuredExpr, Fault>
     ensures told { Reads tall_tree room (part (level top)) result tokens.old.now tokens.new.now }
     ensures low { IfOk result (λ x. x.high ≤ room) }
 {
@@ -122,8 +129,8 @@ fn operations(
     tokens: &mut &[Token],
     room: u32,
     top: u8,
-    first: TallExpr,
-) -> Result<TallExpr, Fault>
+    first: MeasuredExpr,
+) -> Result<MeasuredExpr, Fault>
     requires { first.high ≤ room }
     ensures told { Answers tall_tree
         (climbs room 0 top (tall_tree first) (plain_tokens tokens.old.now)) result tokens.new.now }
@@ -150,8 +157,8 @@ fn indexes(
     alloc: Global,
     tokens: &mut &[Token],
     room: u32,
-    first: TallExpr,
-) -> Result<TallExpr, Fault>
+    first: MeasuredExpr,
+) -> Result<MeasuredExpr, Fault>
     requires { first.high ≤ room }
     ensures told { Reads tall_tree room
         (places (tall_tree first)) result tokens.old.now tokens.new.now }
@@ -172,7 +179,7 @@ fn indexes(
 
 /// An operand with its prefixes and indexes, which begins with no parenthesis.
 #[cycle(reading)]
-fn operand(alloc: Global, tokens: &mut &[Token], room: u32) -> Result<TallExpr, Fault>
+fn operand(alloc: Global, tokens: &mut &[Token], room: u32) -> Result<MeasuredExpr, Fault>
     requires { stands (same_word LeftParen) tokens.old.now ≡ false }
     ensures told { Reads tall_tree room (part (level 0)) result tokens.old.now tokens.new.now }
     ensures low { IfOk result (λ x. x.high ≤ room) }
@@ -189,7 +196,7 @@ fn operand(alloc: Global, tokens: &mut &[Token], room: u32) -> Result<TallExpr, 
 
 /// An operand without prefixes and indexes, which begins with no parenthesis.
 #[cycle(reading)]
-fn primary(alloc: Global, tokens: &mut &[Token], room: u32) -> Result<TallExpr, Fault>
+fn primary(alloc: Global, tokens: &mut &[Token], room: u32) -> Result<MeasuredExpr, Fault>
     requires { stands (same_word LeftParen) tokens.old.now ≡ false }
     ensures told { Reads tall_tree room (part a_primary) result tokens.old.now tokens.new.now }
     ensures low { IfOk result (λ x. x.high ≤ room) }
@@ -217,7 +224,7 @@ fn primary(alloc: Global, tokens: &mut &[Token], room: u32) -> Result<TallExpr, 
 
 /// A variable or a call.
 #[cycle(reading)]
-fn named(alloc: Global, tokens: &mut &[Token], room: u32) -> Result<TallExpr, Fault>
+fn named(alloc: Global, tokens: &mut &[Token], room: u32) -> Result<MeasuredExpr, Fault>
     requires { stands names tokens.old.now ≡ true }
     ensures told { Does tall_tree room
         (check 1 (take name_body)) result tokens.old.now tokens.new.now }
@@ -235,7 +242,7 @@ fn named(alloc: Global, tokens: &mut &[Token], room: u32) -> Result<TallExpr, Fa
 
 /// An `if`.
 #[cycle(reading)]
-fn choice(alloc: Global, tokens: &mut &[Token], room: u32) -> Result<TallExpr, Fault>
+fn choice(alloc: Global, tokens: &mut &[Token], room: u32) -> Result<MeasuredExpr, Fault>
     requires { stands (same_word If) tokens.old.now ≡ true }
     ensures told { Does tall_tree room
         (check 1 (take if_body)) result tokens.old.now tokens.new.now }
@@ -252,7 +259,7 @@ fn choice(alloc: Global, tokens: &mut &[Token], room: u32) -> Result<TallExpr, F
 
 /// A list or a comprehension.
 #[cycle(reading)]
-fn bracketed(alloc: Global, tokens: &mut &[Token], room: u32) -> Result<TallExpr, Fault>
+fn bracketed(alloc: Global, tokens: &mut &[Token], room: u32) -> Result<MeasuredExpr, Fault>
     requires { stands (same_word LeftBracket) tokens.old.now ≡ true }
     ensures told { Does tall_tree room
         (check 1 (take list_body)) result tokens.old.now tokens.new.now }
@@ -277,7 +284,7 @@ fn bracketed(alloc: Global, tokens: &mut &[Token], room: u32) -> Result<TallExpr
 
 /// Any number of expressions, with commas between them.
 #[cycle(reading)]
-fn tall_args(alloc: Global, tokens: &mut &[Token], room: u32) -> Result<TallExprs, Fault>
+fn tall_args(alloc: Global, tokens: &mut &[Token], room: u32) -> Result<MeasuredExprs, Fault>
     ensures told { Reads each_expr room
         (part (any comma an_expr)) result tokens.old.now tokens.new.now }
     ensures low { IfOk result (λ xs. xs.high ≤ room) }
@@ -290,7 +297,7 @@ fn tall_args(alloc: Global, tokens: &mut &[Token], room: u32) -> Result<TallExpr
 
 /// One expression or more, with commas between them.
 #[cycle(reading)]
-fn tall_exprs(alloc: Global, tokens: &mut &[Token], room: u32) -> Result<TallExprs, Fault>
+fn tall_exprs(alloc: Global, tokens: &mut &[Token], room: u32) -> Result<MeasuredExprs, Fault>
     ensures told { Reads each_expr room
         (part (separated comma an_expr)) result tokens.old.now tokens.new.now }
     ensures low { IfOk result (λ xs. xs.high ≤ room) }
@@ -309,7 +316,7 @@ fn tall_exprs(alloc: Global, tokens: &mut &[Token], room: u32) -> Result<TallExp
 
 /// One generator or more, with commas between them.
 #[cycle(reading)]
-fn tall_gens(alloc: Global, tokens: &mut &[Token], room: u32) -> Result<TallGens, Fault>
+fn tall_gens(alloc: Global, tokens: &mut &[Token], room: u32) -> Result<MeasuredGens, Fault>
     ensures told { Reads each_gen room
         (part (separated comma a_gen)) result tokens.old.now tokens.new.now }
     ensures low { IfOk result (λ xs. xs.high ≤ room) }
@@ -328,7 +335,7 @@ fn tall_gens(alloc: Global, tokens: &mut &[Token], room: u32) -> Result<TallGens
 
 /// A generator.
 #[cycle(reading)]
-fn generator(alloc: Global, tokens: &mut &[Token], room: u32) -> Result<TallGen, Fault>
+fn generator(alloc: Global, tokens: &mut &[Token], room: u32) -> Result<MeasuredGen, Fault>
     ensures told { Reads tall_gen room (part a_gen) result tokens.old.now tokens.new.now }
     ensures low { IfOk result (λ x. x.high ≤ room) }
 {
@@ -345,7 +352,7 @@ fn generator(alloc: Global, tokens: &mut &[Token], room: u32) -> Result<TallGen,
 
 /// A type.
 #[cycle(reading)]
-fn tall_type(alloc: Global, tokens: &mut &[Token], room: u32) -> Result<TallType, Fault>
+fn tall_type(alloc: Global, tokens: &mut &[Token], room: u32) -> Result<MeasuredType, Fault>
     ensures told { Reads tall_type room (part a_type) result tokens.old.now tokens.new.now }
     ensures low { IfOk result (λ x. x.high ≤ room) }
 {
@@ -363,7 +370,7 @@ fn tall_type(alloc: Global, tokens: &mut &[Token], room: u32) -> Result<TallType
 
 /// One argument of a type or more, with commas between them.
 #[cycle(reading)]
-fn type_args(alloc: Global, tokens: &mut &[Token], room: u32) -> Result<TallTypeArgs, Fault>
+fn type_args(alloc: Global, tokens: &mut &[Token], room: u32) -> Result<MeasuredTypeArgs, Fault>
     ensures told { Reads each_type_arg room
         (part (separated comma a_type_arg)) result tokens.old.now tokens.new.now }
     ensures low { IfOk result (λ xs. xs.high ≤ room) }
@@ -382,7 +389,7 @@ fn type_args(alloc: Global, tokens: &mut &[Token], room: u32) -> Result<TallType
 
 /// An argument of a type.
 #[cycle(reading)]
-fn type_arg(alloc: Global, tokens: &mut &[Token], room: u32) -> Result<TallTypeArg, Fault>
+fn type_arg(alloc: Global, tokens: &mut &[Token], room: u32) -> Result<MeasuredTypeArg, Fault>
     ensures told { Reads tall_type_arg room (part a_type_arg) result tokens.old.now tokens.new.now }
     ensures low { IfOk result (λ x. x.high ≤ room) }
 {

@@ -7,14 +7,14 @@ ghost use Rattle.cal_ast.specs.View.{expr_tree};
 ghost use Rattle.cal_parse_base.specs.Pairs.{tall_tree};
 ghost use Rattle.cal_parse_expr.specs.Steps.{Does, call_step, comp_step, each_expr, each_gen, if_step, index_step, list_step};
 
-use crate::tall::{TallExprs, TallGens, tall};
+use crate::tall::{MeasuredExprs, MeasuredGens, tall};
 use cal_ast::{BinOp, ExprForm, Ident};
 use cal_lexer::{Token, Word};
 use cal_parse_base::cursor::{expect, finish};
 use cal_parse_base::fault::Fault;
 use cal_parse_base::operators::Prefix;
 use cal_parse_base::parts::{before_parts, with_part};
-use cal_parse_base::tall::TallExpr;
+use cal_parse_base::tall::MeasuredExpr;
 use std::alloc::{AllocError, Global};
 
 /// A prefix and its operand.
@@ -22,8 +22,8 @@ pub fn prefixed(
     alloc: Global,
     room: u32,
     operator: Prefix,
-    operand: TallExpr,
-) -> Result<TallExpr, AllocError>
+    operand: MeasuredExpr,
+) -> Result<MeasuredExpr, AllocError>
     requires { operand.high < room }
     ensures is { IfOk result (λ x. tall_tree x
         ≡ prefix operator.op (tall_tree operand) operator.at) }
@@ -42,9 +42,9 @@ pub fn operation(
     alloc: Global,
     room: u32,
     op: BinOp,
-    left: TallExpr,
-    right: TallExpr,
-) -> Result<TallExpr, AllocError>
+    left: MeasuredExpr,
+    right: MeasuredExpr,
+) -> Result<MeasuredExpr, AllocError>
     requires left_fits { left.high < room }
     requires right_fits { right.high < room }
     ensures is { IfOk result (λ x. tall_tree x
@@ -66,9 +66,9 @@ pub fn indexed(
     alloc: Global,
     tokens: &mut &[Token],
     room: u32,
-    base: TallExpr,
-    place: TallExpr,
-) -> Result<TallExpr, Fault>
+    base: MeasuredExpr,
+    place: MeasuredExpr,
+) -> Result<MeasuredExpr, Fault>
     requires base_fits { base.high < room }
     requires place_fits { place.high < room }
     ensures told { Does tall_tree room
@@ -91,8 +91,8 @@ pub fn called(
     tokens: &mut &[Token],
     room: u32,
     name: Ident,
-    args: TallExprs,
-) -> Result<TallExpr, Fault>
+    args: MeasuredExprs,
+) -> Result<MeasuredExpr, Fault>
     requires { args.high < room }
     ensures told { Does tall_tree room
         (call_step (string_bytes name.text) name.at (each_expr args)) result tokens.old.now
@@ -113,10 +113,10 @@ pub fn conditional(
     tokens: &mut &[Token],
     room: u32,
     at: u32,
-    test: TallExpr,
-    yes: TallExpr,
-    no: TallExpr,
-) -> Result<TallExpr, Fault>
+    test: MeasuredExpr,
+    yes: MeasuredExpr,
+    no: MeasuredExpr,
+) -> Result<MeasuredExpr, Fault>
     requires test_fits { test.high < room }
     requires yes_fits { yes.high < room }
     requires no_fits { no.high < room }
@@ -143,8 +143,8 @@ pub fn listing(
     tokens: &mut &[Token],
     room: u32,
     at: u32,
-    items: TallExprs,
-) -> Result<TallExpr, Fault>
+    items: MeasuredExprs,
+) -> Result<MeasuredExpr, Fault>
     requires { items.high < room }
     ensures told { Does tall_tree room
         (list_step at (each_expr items)) result tokens.old.now tokens.new.now }
@@ -160,9 +160,9 @@ pub fn comprehension(
     tokens: &mut &[Token],
     room: u32,
     at: u32,
-    item: TallExpr,
-    gens: TallGens,
-) -> Result<TallExpr, Fault>
+    item: MeasuredExpr,
+    gens: MeasuredGens,
+) -> Result<MeasuredExpr, Fault>
     requires item_fits { item.high < room }
     requires gens_fit { gens.high < room }
     ensures told { Does tall_tree room
@@ -179,37 +179,37 @@ pub fn comprehension(
 }
 
 /// No expressions.
-pub fn no_exprs(alloc: Global) -> TallExprs
+pub fn no_exprs(alloc: Global) -> MeasuredExprs
     ensures is { map expr_tree result.exprs.items ≡ [] }
     ensures low { result.high ≡ 0 }
 {
-    TallExprs {
+    MeasuredExprs {
         exprs: Vec::new(alloc),
         high: 0,
     }
 }
 
 /// These expressions and one more.
-pub fn with_expr(found: TallExprs, next: TallExpr) -> Result<TallExprs, AllocError>
+pub fn with_expr(found: MeasuredExprs, next: MeasuredExpr) -> Result<MeasuredExprs, AllocError>
     ensures is { IfOk result (λ xs. map expr_tree xs.exprs.items
         ≡ map expr_tree found.exprs.items ++ tall_tree next ∷ []) }
     ensures high { IfOk result (λ xs. xs.high ≡ max found.high next.high) }
 {
     let exprs = with_part(found.exprs, next.expr)?;
-    Ok(TallExprs {
+    Ok(MeasuredExprs {
         exprs,
         high: found.high.max(next.high),
     })
 }
 
 /// An expression before others.
-pub fn before_exprs(first: TallExpr, others: TallExprs) -> Result<TallExprs, AllocError>
+pub fn before_exprs(first: MeasuredExpr, others: MeasuredExprs) -> Result<MeasuredExprs, AllocError>
     ensures is { IfOk result (λ xs. map expr_tree xs.exprs.items
         ≡ tall_tree first ∷ map expr_tree others.exprs.items) }
     ensures high { IfOk result (λ xs. xs.high ≡ max first.high others.high) }
 {
     let exprs = before_parts(first.expr, others.exprs)?;
-    Ok(TallExprs {
+    Ok(MeasuredExprs {
         exprs,
         high: first.high.max(others.high),
     })

@@ -14,11 +14,11 @@ use cal_lexer::{Token, TokenKind, Word};
 use cal_parse_base::cursor::take_word;
 use cal_parse_base::fault::Fault;
 use cal_parse_base::leading::leading_word;
-use cal_parse_base::tall::TallExpr;
+use cal_parse_base::tall::MeasuredExpr;
 use std::alloc::{AllocError, Global};
 
 /// The number at the front.
-pub fn number(alloc: Global, tokens: &mut &[Token], room: u32) -> Result<TallExpr, Fault>
+pub fn number(alloc: Global, tokens: &mut &[Token], room: u32) -> Result<MeasuredExpr, Fault>
     requires { stands counts tokens.old.now ≡ true }
     ensures told { Does tall_tree room number_step result tokens.old.now tokens.new.now }
     ensures low { IfOk result (λ x. x.high ≤ room) }
@@ -53,7 +53,7 @@ pub fn truth(
     tokens: &mut &[Token],
     room: u32,
     value: bool,
-) -> Result<TallExpr, Fault>
+) -> Result<MeasuredExpr, Fault>
     requires { stands (same_word (truth_word value)) tokens.old.now ≡ true }
     ensures told { Does tall_tree room (truth_step value) result tokens.old.now tokens.new.now }
     ensures low { IfOk result (λ x. x.high ≤ room) }
@@ -63,7 +63,7 @@ pub fn truth(
 }
 
 /// A name that stands alone.
-pub fn variable(alloc: Global, name: Ident) -> Result<TallExpr, AllocError>
+pub fn variable(alloc: Global, name: Ident) -> Result<MeasuredExpr, AllocError>
     ensures is { IfOk result (λ x. tall_tree x ≡ variable (string_bytes name.text) name.at) }
     ensures low { IfOk result (λ x. x.high ≡ 1) }
 {

@@ -11,25 +11,30 @@ use cal_lexer::{Token, Word};
 use cal_parse_base::cursor::{is_word, take_word};
 use cal_parse_base::fault::Fault;
 use cal_parse_base::pairs::{fits_in_pair, is_dropped};
-use cal_parse_base::tall::TallExpr;
+use cal_parse_base::tall::MeasuredExpr;
 use std::alloc::{AllocError, Global};
 
 /// The same expression, which begins here.
-fn moved(inner: TallExpr, at: u32) -> TallExpr
+fn moved(inner: MeasuredExpr, at: u32) -> MeasuredExpr
     requires { drops (tall_tree inner) ≡ true }
     ensures is { tall_tree result ≡ group at (tall_tree inner) }
     ensures same { result.high ≡ inner.high }
 {
     let mut expr = inner.expr;
     expr.at = at;
-    TallExpr {
+    MeasuredExpr {
         expr,
         high: inner.high,
     }
 }
 
 /// An expression in a pair of parentheses whose first stands here.
-fn grouped(alloc: Global, room: u32, at: u32, inner: TallExpr) -> Result<TallExpr, AllocError>
+fn grouped(
+    alloc: Global,
+    room: u32,
+    at: u32,
+    inner: MeasuredExpr,
+) -> Result<MeasuredExpr, AllocError>
     requires { height (group 0 (tall_tree inner)) ≤ room }
     ensures is { IfOk result (λ x. tall_tree x ≡ group at (tall_tree inner)) }
     ensures low { IfOk result (λ x. x.high ≤ room) }
@@ -47,8 +52,8 @@ pub fn close_pair(
     tokens: &mut &[Token],
     room: u32,
     at: u32,
-    inner: TallExpr,
-) -> Result<TallExpr, Fault>
+    inner: MeasuredExpr,
+) -> Result<MeasuredExpr, Fault>
     requires { inner.high ≤ room }
     ensures told { Does tall_tree room (closing_step at (tall_tree inner)) result tokens.old.now
         tokens.new.now }

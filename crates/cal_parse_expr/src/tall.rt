@@ -8,12 +8,12 @@ ghost use Rattle.cal_ast.specs.View.{expr_tree, form_tree, gen_tree, type_arg_tr
 ghost use Rattle.cal_grammar.specs.Operators.{height};
 
 use cal_ast::{Expr, ExprForm, Gen, TypeArg, TypeExpr};
-use cal_parse_base::tall::TallExpr;
+use cal_parse_base::tall::MeasuredExpr;
 use std::alloc::{AllocError, Global};
 
 /// Expressions and the greatest of their heights.
 #[derive(Drop)]
-pub struct TallExprs {
+pub struct MeasuredExprs {
     pub exprs: Vec<Expr>,
     pub high: u32,
     ghost is_high: { high ≡ height (listed (map expr_tree exprs.items)) },
@@ -21,7 +21,7 @@ pub struct TallExprs {
 
 /// A generator and its height.
 #[derive(Drop)]
-pub struct TallGen {
+pub struct MeasuredGen {
     pub generator: Box<Gen>,
     pub high: u32,
     ghost is_high: { high ≡ height (gen_tree generator.value) },
@@ -29,7 +29,7 @@ pub struct TallGen {
 
 /// Generators and the greatest of their heights.
 #[derive(Drop)]
-pub struct TallGens {
+pub struct MeasuredGens {
     pub gens: Vec<Gen>,
     pub high: u32,
     ghost is_high: { high ≡ height (listed (map gen_tree gens.items)) },
@@ -37,7 +37,7 @@ pub struct TallGens {
 
 /// A type and its height.
 #[derive(Drop)]
-pub struct TallType {
+pub struct MeasuredType {
     pub shape: TypeExpr,
     pub high: u32,
     ghost is_high: { high ≡ height (type_tree shape) },
@@ -45,7 +45,7 @@ pub struct TallType {
 
 /// An argument of a type and its height.
 #[derive(Drop)]
-pub struct TallTypeArg {
+pub struct MeasuredTypeArg {
     pub arg: Box<TypeArg>,
     pub high: u32,
     ghost is_high: { high ≡ height (type_arg_tree arg.value) },
@@ -53,18 +53,18 @@ pub struct TallTypeArg {
 
 /// Arguments of a type and the greatest of their heights.
 #[derive(Drop)]
-pub struct TallTypeArgs {
+pub struct MeasuredTypeArgs {
     pub args: Vec<TypeArg>,
     pub high: u32,
     ghost is_high: { high ≡ height (listed (map type_arg_tree args.items)) },
 }
 
 /// An expression of this form that begins here, and its height.
-pub fn tall(alloc: Global, form: ExprForm, at: u32, high: u32) -> Result<TallExpr, AllocError>
+pub fn tall(alloc: Global, form: ExprForm, at: u32, high: u32) -> Result<MeasuredExpr, AllocError>
     requires { high ≡ height (form_tree form at) }
     ensures is { IfOk result (λ x. expr_tree x.expr.value ≡ form_tree form at) }
     ensures same { IfOk result (λ x. x.high ≡ high) }
 {
     let expr = Box::new(alloc, Expr { form, at })?;
-    Ok(TallExpr { expr, high })
+    Ok(MeasuredExpr { expr, high })
 }

@@ -4,6 +4,7 @@ use Rattle.std.specs.Prelude.{ℕ, ◌≤◌, Bool, List, Option, None, Some, is
 use Rattle.rvc_io.specs.Feeds.{Inputs}
 use Rattle.rvc_io.specs.Files.{under}
 use Rattle.rvc_io.specs.MemLibrary.{LibraryState, told}
+use Rattle.rvc_io.specs.Past.{Done}
 use Rattle.rvc_io.specs.Told.{Told}
 use Rattle.cmd_gen_network.specs.Texts.{files_of}
 
@@ -19,10 +20,12 @@ library_of instances name = told (under (files_of instances) name)
 
 -- ---- the feeds
 
--- the bytes that each feed has, whatever name it is opened by; and for each feed how many of them were pulled, if it is open
+-- the bytes that each feed has, whatever name it is opened by; for each feed how many of them were pulled, if it is open; and
+-- what was done
 pub record FeedsState : Type 0 where
   pub bytes : List ℕ
   pub pulled : List (Option ℕ)
+  pub past : List Done
 
 -- how many bytes of a feed were pulled, if it is open; those behind the last count as pulled to their end
 abbrev pub pulled_on : FeedsState → ℕ → Option ℕ

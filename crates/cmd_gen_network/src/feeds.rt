@@ -1,12 +1,12 @@
 //! The feeds of the generator's network.
 
-ghost use Rattle.std.specs.Prelude.{◌≡◌, ◌≤◌, ◌<◌, ◌+◌, ◌++◌, IfOk, MatchOption, None, Some, drop, length, min, replicate, slice_set, take, true};
+ghost use Rattle.std.specs.Prelude.{◌≡◌, ◌≤◌, ◌<◌, ◌+◌, ◌++◌, IfOk, MatchOption, None, Some, [], drop, length, min, replicate, slice_set, take, true};
 ghost use Rattle.cmd_gen_network.specs.Feed.{bytes_of};
 ghost use Rattle.cmd_gen_network.specs.Objects.{feed_is_open, inputs_of, pulled_on};
 
 use crate::feed::feed_bytes;
 use rvc_base::Memory;
-use rvc_io::{Failed, Feeds};
+use rvc_io::{Act, Failed, Feeds, Past};
 use std::alloc::Global;
 use std::marker::Model;
 
@@ -17,6 +17,7 @@ pub struct GeneratedFeeds {
     bytes: Vec<u8>,
     /// For each feed how many bytes of it were pulled, if it is open.
     pulled: Vec<Option<usize>>,
+    past: Past,
 }
 
 impl Model for GeneratedFeeds {
@@ -25,7 +26,11 @@ impl Model for GeneratedFeeds {
 
     ghost Value = { FeedsState };
 
-    ghost view = { λ f. record { bytes = f.bytes.items; pulled = f.pulled.items } };
+    ghost view = { λ f. record {
+      bytes = f.bytes.items;
+      pulled = f.pulled.items;
+      past = f.past.acts;
+    } };
 
     ghost invariant = { λ f. All (IsWithin f.bytes.items) f.pulled.items };
 }
@@ -50,6 +55,7 @@ impl GeneratedFeeds {
         requires count { count ≤ length self.old.bytes }
         ensures pulled { self.new.pulled ≡ slice_set self.old.pulled feed (Some count) }
         ensures bytes { self.new.bytes ≡ self.old.bytes }
+        ensures past { self.new.past ≡ self.old.past }
     {
         self.pulled[feed as usize] = Some(count);
     }
@@ -68,17 +74,22 @@ impl GeneratedFeeds {
 impl Feeds for GeneratedFeeds {
     ghost feeds = { inputs_of };
 
-    fn open(&mut self, feed: u32, _name: &str) -> Result<(), Failed> {
+    ghost past = { λ f. f.past };
+
+    fn open(&mut self, feed: u32, name: &str) -> Result<(), Failed> {
         self.set_count(feed, 0);
+        self.past.note(&Act::Opened(feed, name));
         Ok(())
     }
 
     fn pull(&mut self, feed: u32, buf: &mut [u8]) -> Result<usize, Failed> {
         let Some(count) = self.count(feed) else {
+            self.past.note(&Act::Passed(feed, &buf[..0]));
             return Ok(0);
         };
         let moved = copy_front(self.rest(count), buf);
         self.set_count(feed, count + moved);
+        self.past.note(&Act::Passed(feed, &buf[..moved]));
         Ok(moved)
     }
 }
@@ -101,10 +112,15 @@ fn copy_front(from: &[u8], to: &mut [u8]) -> usize
 pub fn generated_feeds(alloc: Global, instances: u32, feeds: u32) -> Result<GeneratedFeeds, Memory>
     ensures bytes { IfOk result (λ f. f.bytes ≡ bytes_of instances) }
     ensures none_open { IfOk result (λ f. f.pulled ≡ replicate feeds None) }
+    ensures past { IfOk result (λ f. f.past ≡ []) }
 {
     let bytes = feed_bytes(alloc, instances)?;
     let pulled = none_open(alloc, feeds)?;
-    Ok(GeneratedFeeds { bytes, pulled })
+    Ok(GeneratedFeeds {
+        bytes,
+        pulled,
+        past: Past::new(),
+    })
 }
 
 /// So many feeds, none of which is open.

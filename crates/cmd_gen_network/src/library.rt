@@ -34,6 +34,8 @@ impl Library for GeneratedLibrary {
 
     ghost misses = { λ l. l.misses };
 
+    ghost past = { λ l. l.past };
+
     fn read(&mut self, alloc: Global, name: &str, out: &mut Vec<u8>) -> ReadAnswer {
         self.files.read(alloc, name, out)
     }

@@ -6,10 +6,10 @@ use Rattle.cal_ast.specs.Tree.{Tree}
 use Rattle.cal_ast.specs.View.{expr_tree}
 use Rattle.fnl_expr.specs.Stack.{stack}
 use Rattle.fnl_expr.specs.Operations.{Pending, pending}
-use Rattle.fnl_expr.specs.declared.tall.TallExpr.{TallExpr}
+use Rattle.fnl_expr.specs.declared.tall.MeasuredExpr.{MeasuredExpr}
 use Rattle.fnl_expr.specs.declared.operations.Pending.{Pending as ThePending}
 
-abbrev pub tall_tree : TallExpr → Tree
+abbrev pub tall_tree : MeasuredExpr → Tree
 tall_tree t = expr_tree t.expr
 
 abbrev pub pending_of : ThePending → Pending

@@ -8,7 +8,7 @@ ghost use Rattle.fnl_expr.specs.Literals.{literal_of};
 ghost use Rattle.fnl_expr.specs.Views.{tall_tree};
 
 use crate::literal::Literal;
-use crate::tall::TallExpr;
+use crate::tall::MeasuredExpr;
 use cal_ast::{Expr, ExprForm, PrefixOp};
 use std::alloc::{AllocError, Global};
 
@@ -17,7 +17,7 @@ use std::alloc::{AllocError, Global};
 /// # Errors
 ///
 /// An allocation was refused.
-pub fn expr_of_literal(alloc: Global, literal: Literal, at: u32) -> Result<TallExpr, AllocError>
+pub fn expr_of_literal(alloc: Global, literal: Literal, at: u32) -> Result<MeasuredExpr, AllocError>
     ensures { IfOk result (λ e. tall_tree e ≡ literal_tree (literal_of literal) at) }
 {
     match literal {
@@ -33,10 +33,10 @@ pub fn expr_of_literal(alloc: Global, literal: Literal, at: u32) -> Result<TallE
 }
 
 /// A name at an offset.
-pub fn variable(name: String, at: u32) -> TallExpr
+pub fn variable(name: String, at: u32) -> MeasuredExpr
     ensures { tall_tree result ≡ variable (string_bytes name) at }
 {
-    TallExpr {
+    MeasuredExpr {
         expr: Expr {
             form: ExprForm::Name(name),
             at,
@@ -45,10 +45,10 @@ pub fn variable(name: String, at: u32) -> TallExpr
     }
 }
 
-fn number(value: u128, at: u32) -> TallExpr
+fn number(value: u128, at: u32) -> MeasuredExpr
     ensures { tall_tree result ≡ number value at }
 {
-    TallExpr {
+    MeasuredExpr {
         expr: Expr {
             form: ExprForm::Number(value),
             at,
@@ -57,10 +57,10 @@ fn number(value: u128, at: u32) -> TallExpr
     }
 }
 
-fn truth(value: bool, at: u32) -> TallExpr
+fn truth(value: bool, at: u32) -> MeasuredExpr
     ensures { tall_tree result ≡ truth value at }
 {
-    TallExpr {
+    MeasuredExpr {
         expr: Expr {
             form: ExprForm::Bool(value),
             at,
@@ -69,7 +69,7 @@ fn truth(value: bool, at: u32) -> TallExpr
     }
 }
 
-fn negated(alloc: Global, value: u128, at: u32) -> Result<TallExpr, AllocError>
+fn negated(alloc: Global, value: u128, at: u32) -> Result<MeasuredExpr, AllocError>
     ensures { IfOk result (λ e. tall_tree e ≡ prefix prefixes.Neg (number value at) at) }
 {
     let of = Expr {
@@ -80,7 +80,7 @@ fn negated(alloc: Global, value: u128, at: u32) -> Result<TallExpr, AllocError>
         op: PrefixOp::Neg,
         of: Box::new(alloc, of)?,
     };
-    Ok(TallExpr {
+    Ok(MeasuredExpr {
         expr: Expr { form, at },
         high: 2,
     })

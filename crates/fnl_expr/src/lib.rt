@@ -21,4 +21,4 @@ pub use literal::{Literal, literal_given};
 pub use operations::{Pending, before_operator, grouped, list, no_exprs, prefix, with_item};
 pub use operators::{binary_given, prefix_given};
 pub use stop::{Stop, stuck, too_deep, unknown, wrong};
-pub use tall::{TallExpr, TallExprs};
+pub use tall::{MeasuredExpr, MeasuredExprs};

@@ -10,14 +10,14 @@ ghost use Rattle.fnl_expr.specs.Views.{pending_of, tall_tree, waiting_of};
 
 use crate::operators::level;
 use crate::stop::{Stop, too_deep};
-use crate::tall::{MAX_HEIGHT, TallExpr, TallExprs};
+use crate::tall::{MAX_HEIGHT, MeasuredExpr, MeasuredExprs};
 use cal_ast::{BinOp, Expr, ExprForm, PrefixOp};
 use std::alloc::{AllocError, Global};
 
 /// An operand that waits for what stands behind its operator.
 #[derive(Drop)]
 pub struct Pending {
-    pub left: TallExpr,
+    pub left: MeasuredExpr,
     pub op: BinOp,
 }
 
@@ -25,11 +25,11 @@ pub struct Pending {
 fn binary(
     alloc: Global,
     op: BinOp,
-    left: TallExpr,
-    right: TallExpr,
+    left: MeasuredExpr,
+    right: MeasuredExpr,
     at: u32,
     element: u32,
-) -> Result<TallExpr, Stop>
+) -> Result<MeasuredExpr, Stop>
     ensures { Makes tall_tree (meant.made (binary op (tall_tree left) (tall_tree right) at))
         element result }
 {
@@ -42,7 +42,7 @@ fn binary(
         left: Box::new(alloc, left.expr)?,
         right: Box::new(alloc, right.expr)?,
     };
-    Ok(TallExpr {
+    Ok(MeasuredExpr {
         expr: Expr { form, at },
         high,
     })
@@ -53,7 +53,12 @@ fn binary(
 /// # Errors
 ///
 /// `Broken` with F5 at the offset if it is too high; and `Memory`.
-pub fn prefix(alloc: Global, op: PrefixOp, operand: TallExpr, at: u32) -> Result<TallExpr, Stop>
+pub fn prefix(
+    alloc: Global,
+    op: PrefixOp,
+    operand: MeasuredExpr,
+    at: u32,
+) -> Result<MeasuredExpr, Stop>
     ensures { Makes tall_tree (meant.made (prefix op (tall_tree operand) at)) at result }
 {
     let high = operand.high + 1;
@@ -64,7 +69,7 @@ pub fn prefix(alloc: Global, op: PrefixOp, operand: TallExpr, at: u32) -> Result
         op,
         of: Box::new(alloc, operand.expr)?,
     };
-    Ok(TallExpr {
+    Ok(MeasuredExpr {
         expr: Expr { form, at },
         high,
     })
@@ -75,7 +80,7 @@ pub fn prefix(alloc: Global, op: PrefixOp, operand: TallExpr, at: u32) -> Result
 /// # Errors
 ///
 /// `Broken` with F5 at the offset if it is too high.
-pub fn list(items: TallExprs, at: u32) -> Result<TallExpr, Stop>
+pub fn list(items: MeasuredExprs, at: u32) -> Result<MeasuredExpr, Stop>
     ensures { Makes tall_tree (meant.made (list (listed (map expr_tree items.exprs.items)) at))
         at result }
 {
@@ -84,17 +89,17 @@ pub fn list(items: TallExprs, at: u32) -> Result<TallExpr, Stop>
         return Err(too_deep(at));
     }
     let form = ExprForm::List(items.exprs);
-    Ok(TallExpr {
+    Ok(MeasuredExpr {
         expr: Expr { form, at },
         high,
     })
 }
 
 /// No expressions.
-pub fn no_exprs(alloc: Global) -> TallExprs
+pub fn no_exprs(alloc: Global) -> MeasuredExprs
     ensures { map expr_tree result.exprs.items ≡ [] }
 {
-    TallExprs {
+    MeasuredExprs {
         exprs: Vec::new(alloc),
         high: 0,
     }
@@ -105,14 +110,14 @@ pub fn no_exprs(alloc: Global) -> TallExprs
 /// # Errors
 ///
 /// An allocation was refused.
-pub fn with_item(items: TallExprs, next: TallExpr) -> Result<TallExprs, AllocError>
+pub fn with_item(items: MeasuredExprs, next: MeasuredExpr) -> Result<MeasuredExprs, AllocError>
     ensures { IfOk result (λ xs. map expr_tree xs.exprs.items
         ≡ map expr_tree items.exprs.items ++ tall_tree next ∷ []) }
 {
     let high = items.high.max(next.high);
     let mut exprs = items.exprs;
     exprs.push(next.expr)?;
-    Ok(TallExprs { exprs, high })
+    Ok(MeasuredExprs { exprs, high })
 }
 
 /// Takes the operand that waits last, if it waits for no looser operator than this.
@@ -132,7 +137,12 @@ fn pop_due(waiting: &mut Vec<Pending>, op: BinOp) -> Result<Option<Pending>, All
 }
 
 /// An operand that waits, with what stands behind its operator, in the element at an offset.
-fn joined(alloc: Global, pending: Pending, right: TallExpr, element: u32) -> Result<TallExpr, Stop>
+fn joined(
+    alloc: Global,
+    pending: Pending,
+    right: MeasuredExpr,
+    element: u32,
+) -> Result<MeasuredExpr, Stop>
     ensures { Makes tall_tree (meant.joined (pending_of pending) (tall_tree right)) element result }
 {
     let at = pending.left.expr.at;
@@ -148,7 +158,7 @@ pub fn before_operator(
     alloc: Global,
     op: BinOp,
     waiting: Vec<Pending>,
-    operand: TallExpr,
+    operand: MeasuredExpr,
     element: u32,
 ) -> Result<Vec<Pending>, Stop>
     ensures { Makes waiting_of
@@ -171,9 +181,9 @@ pub fn before_operator(
 pub fn grouped(
     alloc: Global,
     waiting: Vec<Pending>,
-    operand: TallExpr,
+    operand: MeasuredExpr,
     at: u32,
-) -> Result<TallExpr, Stop>
+) -> Result<MeasuredExpr, Stop>
     requires { 0 < length waiting.items }
     ensures { Makes tall_tree (meant.grouped at (waiting_of waiting) (tall_tree operand))
         at result }

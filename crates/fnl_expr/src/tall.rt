@@ -12,7 +12,7 @@ pub(crate) const MAX_HEIGHT: u32 = 256;
 
 /// An expression and its height.
 #[derive(Drop)]
-pub struct TallExpr {
+pub struct MeasuredExpr {
     pub expr: Expr,
     pub high: u32,
     ghost is_high: { high ≡ height (expr_tree expr) },
@@ -21,7 +21,7 @@ pub struct TallExpr {
 
 /// Expressions and the greatest of their heights.
 #[derive(Drop)]
-pub struct TallExprs {
+pub struct MeasuredExprs {
     pub exprs: Vec<Expr>,
     pub high: u32,
     ghost is_high: { high ≡ height (listed (map expr_tree exprs.items)) },

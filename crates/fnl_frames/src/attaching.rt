@@ -11,7 +11,7 @@ ghost use Rattle.fnl_frames.specs.declared.frame.Frame.TheVariants as frames;
 use crate::frame::{Class, Frame};
 use crate::net::{NetConnection, NetDecl, NetFile, NetInstance, NetParameter, NetPort, NetSize};
 use cal_ast::{TypeArg, TypeExpr};
-use fnl_expr::{Stop, TallExpr, TallExprs, with_item};
+use fnl_expr::{MeasuredExpr, MeasuredExprs, Stop, with_item};
 
 /// An instance with its class.
 pub fn with_class(round: Frame, class: Class) -> Frame
@@ -38,7 +38,7 @@ pub fn with_class(round: Frame, class: Class) -> Frame
 /// # Errors
 ///
 /// An allocation was refused.
-pub fn with_expr(round: Frame, value: TallExpr) -> Result<Frame, Stop>
+pub fn with_expr(round: Frame, value: MeasuredExpr) -> Result<Frame, Stop>
     ensures { Becomes (meant.with_expr (tall_tree value) (frame_of round)) result }
 {
     match round {
@@ -84,7 +84,7 @@ pub fn with_expr(round: Frame, value: TallExpr) -> Result<Frame, Stop>
 }
 
 /// A list at an offset with one item more.
-fn with_item_in(items: TallExprs, value: TallExpr, at: u32) -> Result<Frame, Stop>
+fn with_item_in(items: MeasuredExprs, value: MeasuredExpr, at: u32) -> Result<Frame, Stop>
     ensures { Becomes (meant.with_expr (tall_tree value) (frame_of (frames.List items at))) result }
 {
     let items = with_item(items, value)?;

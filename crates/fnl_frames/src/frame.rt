@@ -2,7 +2,7 @@
 
 use crate::net::{NetConnection, NetFile, NetParameter};
 use cal_ast::{Ident, PrefixOp, TypeArg, TypeExpr};
-use fnl_expr::{Pending, TallExpr, TallExprs};
+use fnl_expr::{MeasuredExpr, MeasuredExprs, Pending};
 
 /// The class of an instance.
 #[derive(Drop)]
@@ -28,7 +28,7 @@ pub enum Frame {
         param: bool,
         name: String,
         shape: Option<TypeExpr>,
-        value: Option<TallExpr>,
+        value: Option<MeasuredExpr>,
         at: u32,
     },
     Instance {
@@ -39,13 +39,13 @@ pub enum Frame {
     },
     Parameter {
         name: String,
-        value: Option<TallExpr>,
+        value: Option<MeasuredExpr>,
         at: u32,
     },
     Connection(NetConnection),
     /// An attribute `bufferSize` of a connection.
     Size {
-        value: Option<TallExpr>,
+        value: Option<MeasuredExpr>,
         at: u32,
     },
     Type {
@@ -56,7 +56,7 @@ pub enum Frame {
     /// An entry of a type that is an expression.
     Value {
         name: Ident,
-        value: Option<TallExpr>,
+        value: Option<MeasuredExpr>,
     },
     /// An entry of a type that is a type.
     Shape {
@@ -64,19 +64,19 @@ pub enum Frame {
         shape: Option<TypeExpr>,
     },
     List {
-        items: TallExprs,
+        items: MeasuredExprs,
         at: u32,
     },
     Unary {
         op: Option<PrefixOp>,
-        operand: Option<TallExpr>,
+        operand: Option<MeasuredExpr>,
         at: u32,
     },
     /// A `BinOpSeq`: the operands that wait, the last one at the end, and the one that no operator
     /// followed yet.
     Sequence {
         waiting: Vec<Pending>,
-        operand: Option<TallExpr>,
+        operand: Option<MeasuredExpr>,
         at: u32,
     },
     /// An element that has nothing inside.

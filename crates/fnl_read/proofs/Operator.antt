@@ -11,16 +11,16 @@ use Rattle.fnl_frames.specs.Views.{frame_of}
 use Rattle.fnl_read.specs.declared.reader.Reader.{Reader}
 use Rattle.fnl_expr.specs.declared.stop.Stop.{Stop}
 use Rattle.fnl_expr.specs.declared.stop.Stop.TheVariants as stops
-use Rattle.fnl_expr.specs.declared.tall.TallExpr.{TallExpr}
+use Rattle.fnl_expr.specs.declared.tall.MeasuredExpr.{MeasuredExpr}
 use Rattle.fnl_expr.specs.declared.operations.Pending.{Pending as ThePending}
 use Rattle.fnl_frames.specs.declared.frame.Frame.{Frame as TheFrame}
 use Rattle.fnl_frames.specs.declared.frame.Frame.TheVariants as frames
 
 abbrev pub NotUnary : TheFrame → Type 0
-NotUnary f = (op : Option PrefixOp) (operand : Option TallExpr) (there : ℕ) → f ≡ frames.Unary op operand there → ⊥
+NotUnary f = (op : Option PrefixOp) (operand : Option MeasuredExpr) (there : ℕ) → f ≡ frames.Unary op operand there → ⊥
 
 abbrev pub NotSequence : TheFrame → Type 0
-NotSequence f = (waiting : Vec ThePending Global) (operand : Option TallExpr) (there : ℕ) → f ≡ frames.Sequence waiting operand there → ⊥
+NotSequence f = (waiting : Vec ThePending Global) (operand : Option MeasuredExpr) (there : ℕ) → f ≡ frames.Sequence waiting operand there → ⊥
 
 pub no_operator : (f : TheFrame) (attributes : List Attribute) (at : ℕ) (s : State) → NotUnary f → NotSequence f
     → operator_in (frame_of f) attributes at s ≡ Fault unknown_element at

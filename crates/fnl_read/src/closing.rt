@@ -13,7 +13,7 @@ ghost use Rattle.fnl_frames.specs.declared.frame.Frame.TheVariants as frames;
 
 use crate::reader::Reader;
 use cal_ast::{Expr, Ident, PrefixOp, TypeArg, TypeExpr};
-use fnl_expr::{Pending, Stop, TallExpr, TallExprs, grouped, list, prefix, stuck};
+use fnl_expr::{MeasuredExpr, MeasuredExprs, Pending, Stop, grouped, list, prefix, stuck};
 use fnl_frames::{
     Class, Frame, NetConnection, NetDecl, NetFile, NetInstance, NetParameter, NetPort, NetSize,
     with_arg, with_connection, with_decl, with_expr, with_instance, with_net, with_parameter,
@@ -134,7 +134,7 @@ impl Reader {
         param: bool,
         name: String,
         shape: Option<TypeExpr>,
-        value: Option<TallExpr>,
+        value: Option<MeasuredExpr>,
         there: u32,
         at: u32,
     ) -> Result<(), Stop>
@@ -186,7 +186,7 @@ impl Reader {
     fn end_parameter(
         &mut self,
         name: String,
-        value: Option<TallExpr>,
+        value: Option<MeasuredExpr>,
         there: u32,
         at: u32,
     ) -> Result<(), Stop>
@@ -213,7 +213,7 @@ impl Reader {
         Ok(())
     }
 
-    fn end_size(&mut self, value: Option<TallExpr>, there: u32, at: u32) -> Result<(), Stop>
+    fn end_size(&mut self, value: Option<MeasuredExpr>, there: u32, at: u32) -> Result<(), Stop>
         ensures { Ends (frames.Size value there) at self.old self.new result }
     {
         let Some(value) = value else {
@@ -241,7 +241,7 @@ impl Reader {
         Ok(())
     }
 
-    fn end_value(&mut self, name: Ident, value: Option<TallExpr>, at: u32) -> Result<(), Stop>
+    fn end_value(&mut self, name: Ident, value: Option<MeasuredExpr>, at: u32) -> Result<(), Stop>
         ensures { Ends (frames.Value name value) at self.old self.new result }
     {
         let Some(value) = value else {
@@ -265,7 +265,7 @@ impl Reader {
     }
 
     /// An expression ends.
-    fn end_expr(&mut self, value: TallExpr, at: u32) -> Result<(), Stop>
+    fn end_expr(&mut self, value: MeasuredExpr, at: u32) -> Result<(), Stop>
         ensures { Stepped (meant.leave (with_expr (tall_tree value)) at (state_of self.old))
             self.new result }
     {
@@ -274,7 +274,7 @@ impl Reader {
         Ok(())
     }
 
-    fn end_list(&mut self, items: TallExprs, there: u32, at: u32) -> Result<(), Stop>
+    fn end_list(&mut self, items: MeasuredExprs, there: u32, at: u32) -> Result<(), Stop>
         ensures { Ends (frames.List items there) at self.old self.new result }
     {
         if items.exprs.is_empty() {
@@ -287,7 +287,7 @@ impl Reader {
     fn end_unary(
         &mut self,
         op: Option<PrefixOp>,
-        operand: Option<TallExpr>,
+        operand: Option<MeasuredExpr>,
         there: u32,
         at: u32,
     ) -> Result<(), Stop>
@@ -306,7 +306,7 @@ impl Reader {
     fn end_sequence(
         &mut self,
         waiting: Vec<Pending>,
-        operand: Option<TallExpr>,
+        operand: Option<MeasuredExpr>,
         there: u32,
         at: u32,
     ) -> Result<(), Stop>
@@ -324,7 +324,7 @@ impl Reader {
 }
 
 /// An expression without its height.
-fn expr_of(value: Option<TallExpr>) -> Option<Expr>
+fn expr_of(value: Option<MeasuredExpr>) -> Option<Expr>
     ensures { option_map expr_tree result ≡ option_map tall_tree value }
 {
     match value {

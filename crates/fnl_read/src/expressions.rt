@@ -7,7 +7,7 @@ ghost use Rattle.fnl_read.specs.Stepped.{Opens, Operates};
 
 use crate::reader::Reader;
 use fnl_expr::{
-    ExprKind, Form, Pending, Stop, TallExpr, before_operator, binary_given, expr_of_literal,
+    ExprKind, Form, MeasuredExpr, Pending, Stop, before_operator, binary_given, expr_of_literal,
     kind_given, literal_given, long, no_exprs, prefix_given, text_given, unknown, variable, wrong,
 };
 use fnl_frames::{Frame, with_expr};
@@ -98,7 +98,7 @@ impl Reader {
     fn open_prefix(
         &mut self,
         attributes: &[Attribute],
-        operand: Option<TallExpr>,
+        operand: Option<MeasuredExpr>,
         there: u32,
         at: u32,
     ) -> Result<(), Stop>
@@ -121,7 +121,7 @@ impl Reader {
         &mut self,
         attributes: &[Attribute],
         waiting: Vec<Pending>,
-        operand: TallExpr,
+        operand: MeasuredExpr,
         there: u32,
         at: u32,
     ) -> Result<(), Stop>

@@ -19,6 +19,8 @@ impl Library for Logged {
 
     ghost misses = { λ l. l.files.misses };
 
+    ghost past = { λ l. l.files.past };
+
     fn read(&mut self, alloc: Global, name: &str, out: &mut Vec<u8>) -> ReadAnswer {
         if self.asked.push_str(name).is_err() || self.asked.push_str(" ").is_err() {
             return ReadAnswer::Memory;

@@ -1,6 +1,9 @@
 pub mod Told
 pub mod Count
 pub mod Elsewhere
+pub mod Past
+pub mod Acts
+pub mod Reads
 pub mod Library
 pub mod Channels
 pub mod Feeds

@@ -3,15 +3,17 @@
 use Rattle.std.specs.Prelude.{◌≡◌, ℕ, ◌≤◌, ◌-◌, Bool, true, false, ◌||◌, List, [], Option, None, Some, All, map, length, min, nat_le, is_some, unwrap_or, slice_index_or, vec_capacity, if◌then◌else◌}
 use Rattle.rvc_io.specs.Calls.{CallCount, is_listed}
 use Rattle.rvc_io.specs.Channels.{Channels}
+use Rattle.rvc_io.specs.Past.{Done}
 use Rattle.rvc_io.specs.declared.mem_drains.Channel.{Channel}
 
 -- the most bytes that a call moves, the most that a channel holds, for each channel the bytes that it
--- holds if it is open, and the calls
+-- holds if it is open, the calls, and what was done
 pub record DrainsState : Type 0 where
   pub step : ℕ
   pub room : ℕ
   pub held : List (Option (List ℕ))
   pub calls : CallCount
+  pub past : List Done
 
 -- what a channel holds, if it is open
 abbrev pub held_by : Channel → Option (List ℕ)

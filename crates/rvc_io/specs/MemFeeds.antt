@@ -4,15 +4,17 @@ use Rattle.std.specs.Prelude.{ℕ, ◌<◌, ◌≤◌, Bool, ◌||◌, List, [],
 use Rattle.rvc_io.specs.Calls.{CallCount, is_listed}
 use Rattle.rvc_io.specs.Files.{File, under, bytes_at}
 use Rattle.rvc_io.specs.Feeds.{Inputs}
+use Rattle.rvc_io.specs.Past.{Done}
 use Rattle.rvc_io.specs.declared.mem_feeds.Reading.{Reading}
 
 -- the files, the most bytes that a call moves, for each feed the bytes that are left if it is
--- open, and the calls
+-- open, the calls, and what was done
 pub record FeedsState : Type 0 where
   pub files : List File
   pub step : ℕ
   pub left : List (Option (List ℕ))
   pub calls : CallCount
+  pub past : List Done
 
 -- what is left where a reading of a file has come
 abbrev pub left_of : List File → Option Reading → Option (List ℕ)

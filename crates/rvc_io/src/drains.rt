@@ -1,7 +1,8 @@
 //! Bytes that go out, by channel.
 
-ghost use Rattle.std.specs.Prelude.{◌≡◌, ◌≤◌, ◌<◌, true, false, length, take, OnOk, OnErr, IfOk};
+ghost use Rattle.std.specs.Prelude.{◌≡◌, ◌≤◌, ◌<◌, ◌∷◌, List, true, false, length, take, OnOk, OnErr, IfOk};
 ghost use Rattle.rvc_io.specs.Channels.{Channels, Appends, ChangesOnly, FailsAt, OpensAt, WritesOnly};
+ghost use Rattle.rvc_io.specs.Past.{Done, Opened, Passed};
 
 use crate::Failed;
 
@@ -9,6 +10,8 @@ use crate::Failed;
 pub trait Drains {
     /// What is known of the channels.
     ghost channels: { Self → Channels };
+    /// What was done so far, the last first: which channels were opened, under which names, and which bytes they took.
+    ghost past: { Self → List Done };
 
     /// Opens `channel` under `name`. It then holds nothing.
     ///
@@ -19,7 +22,9 @@ pub trait Drains {
         requires { (channels self.old).is_open channel ≡ false }
         ensures opened { OnOk result (OpensAt channel (channels self.old) (channels self.new)) }
         ensures failed { OnErr result (FailsAt channel (channels self.old) (channels self.new)) }
-        ensures elsewhere { ChangesOnly channels self.old self.new channel };
+        ensures elsewhere { ChangesOnly channels self.old self.new channel }
+        ensures noted { OnOk result (past self.new ≡ Opened channel name.now ∷ past self.old) }
+        ensures unnoted { OnErr result (past self.new ≡ past self.old) };
 
     /// Puts a prefix of `piece` behind what `channel` holds, and says how many bytes it has.
     ///
@@ -34,5 +39,8 @@ pub trait Drains {
         ensures bytes { IfOk result (λ n. Appends channel (channels self.old) (channels self.new)
             (take n piece.now)) }
         ensures failed { OnErr result (FailsAt channel (channels self.old) (channels self.new)) }
-        ensures elsewhere { WritesOnly channels self.old self.new channel };
+        ensures elsewhere { WritesOnly channels self.old self.new channel }
+        ensures noted { IfOk result (λ n. past self.new
+            ≡ Passed channel (take n piece.now) ∷ past self.old) }
+        ensures unnoted { OnErr result (past self.new ≡ past self.old) };
 }

@@ -1,7 +1,8 @@
 //! Bytes that come in, by feed.
 
-ghost use Rattle.std.specs.Prelude.{◌≡◌, ◌≤◌, ◌<◌, true, false, length, OnOk, OnErr, IfOk};
+ghost use Rattle.std.specs.Prelude.{◌≡◌, ◌≤◌, ◌<◌, ◌∷◌, List, true, false, length, take, OnOk, OnErr, IfOk};
 ghost use Rattle.rvc_io.specs.Feeds.{Inputs, FailsOn, Moves, OpensOn, OpensOnly, PullsOnly};
+ghost use Rattle.rvc_io.specs.Past.{Done, Opened, Passed};
 
 use crate::Failed;
 
@@ -9,6 +10,9 @@ use crate::Failed;
 pub trait Feeds {
     /// What is known of the feeds.
     ghost feeds: { Self → Inputs };
+    /// What was done so far, the last first: which feeds were opened, under which names, and which bytes they gave. A pull
+    /// that gave no byte came to the end.
+    ghost past: { Self → List Done };
 
     /// Opens `feed` on the bytes under `name`.
     ///
@@ -19,7 +23,9 @@ pub trait Feeds {
         requires { (feeds self.old).is_open feed ≡ false }
         ensures opened { OnOk result (OpensOn feed name.now (feeds self.old) (feeds self.new)) }
         ensures failed { OnErr result (FailsOn feed (feeds self.old) (feeds self.new)) }
-        ensures elsewhere { OpensOnly feeds self.old self.new feed };
+        ensures elsewhere { OpensOnly feeds self.old self.new feed }
+        ensures noted { OnOk result (past self.new ≡ Opened feed name.now ∷ past self.old) }
+        ensures unnoted { OnErr result (past self.new ≡ past self.old) };
 
     /// Moves a prefix of what is left on `feed` to the front of `buf`, and says how many bytes it has.
     ///
@@ -35,5 +41,8 @@ pub trait Feeds {
         ensures bytes { IfOk result (λ n. Moves n ((feeds self.old).left feed) buf.old buf.new
             ((feeds self.new).left feed)) }
         ensures failed { OnErr result (FailsOn feed (feeds self.old) (feeds self.new)) }
-        ensures elsewhere { PullsOnly feeds self.old self.new feed };
+        ensures elsewhere { PullsOnly feeds self.old self.new feed }
+        ensures noted { IfOk result (λ n. past self.new
+            ≡ Passed feed (take n buf.new) ∷ past self.old) }
+        ensures unnoted { OnErr result (past self.new ≡ past self.old) };
 }

@@ -1,7 +1,8 @@
 //! The outside, as `rvc` sees it: files to read, feeds of bytes, channels that take bytes, and a gate.
 //!
 //! Each trait says what its calls do by what its values *tell* of their content, and by counts of
-//! faults that never fall. The objects in memory tell all.
+//! faults that never fall. The objects in memory tell all. Each trait also says what was done through it so far, which
+//! objects that tell nothing have too ([`Past`]).
 #![tactic(auto)]
 
 mod calls;
@@ -13,6 +14,7 @@ mod library;
 mod mem_drains;
 mod mem_feeds;
 mod mem_library;
+mod past;
 
 pub use drains::Drains;
 pub use feeds::Feeds;
@@ -22,6 +24,7 @@ pub use library::{Library, MAX_FILE_BYTES, ReadAnswer};
 pub use mem_drains::MemDrains;
 pub use mem_feeds::MemFeeds;
 pub use mem_library::MemLibrary;
+pub use past::{Act, Past};
 
 /// A read or a write that failed.
 #[derive(Clone, Copy, Debug, PartialEq, Eq)]

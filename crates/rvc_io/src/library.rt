@@ -4,6 +4,7 @@ ghost use Rattle.std.specs.Prelude.{◌≡◌, ◌≢◌, ◌≤◌, ℕ, List, 
 ghost use Rattle.rvc_io.specs.Told.{Told, IsTold, IsLacking};
 ghost use Rattle.rvc_io.specs.Count.{HasRisen};
 ghost use Rattle.rvc_io.specs.Library.{IsTooLong};
+ghost use Rattle.rvc_io.specs.Past.{Done};
 
 use std::alloc::Global;
 
@@ -26,12 +27,16 @@ pub enum ReadAnswer {
 
 /// Files by name.
 pub trait Library {
+    ghost use Rattle.rvc_io.specs.Reads.{read_as};
+
     /// What is known of the file of this name.
     ghost file: { Self → List ℕ → Told };
     /// How many reads failed so far.
     ghost faults: { Self → ℕ };
     /// How many names were found missing so far.
     ghost misses: { Self → ℕ };
+    /// What was done so far, the last first: which files were asked for, and what came.
+    ghost past: { Self → List Done };
 
     /// Reads the file `name` into `out`, which is empty at first and after every answer but `Found`.
     ///
@@ -50,5 +55,7 @@ pub trait Library {
         ensures nothing_else { result ≢ ReadAnswer.Found → out.new.items ≡ [] }
         ensures same_files { (other : List ℕ) → file self.new other ≡ file self.old other }
         ensures faults_stay { faults self.old ≤ faults self.new }
-        ensures misses_stay { misses self.old ≤ misses self.new };
+        ensures misses_stay { misses self.old ≤ misses self.new }
+        ensures noted { past self.new
+            ≡ read_as result name.now out.new.items (past self.old) };
 }

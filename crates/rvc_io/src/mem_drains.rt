@@ -4,9 +4,10 @@ ghost use Rattle.std.specs.Prelude.{◌≡◌, ◌≤◌, ◌<◌, ◌++◌, ◌
 ghost use Rattle.rvc_io.specs.Channels.{Appends, ChangesOnly, FailsAt, OpensAt, WritesOnly};
 ghost use Rattle.rvc_io.specs.Calls.{CallCount, is_listed, after_call};
 ghost use Rattle.rvc_io.specs.MemDrains.{DrainsState, HasRoom, EachHasRoom, held_by, held_by_each, held_on, channel_is_open, bytes_held, channels_of, opening_fails, put_fails, taken};
+ghost use Rattle.rvc_io.specs.Past.{Done, Opened, Passed};
 
 use crate::calls::Calls;
-use crate::{Drains, Failed};
+use crate::{Act, Drains, Failed, Past};
 use rvc_base::Memory;
 use std::alloc::Global;
 use std::marker::Model;
@@ -25,6 +26,7 @@ pub struct MemDrains {
     room: u32,
     channels: Vec<Channel>,
     calls: Calls,
+    past: Past,
 }
 
 impl Model for MemDrains {
@@ -38,6 +40,7 @@ impl Model for MemDrains {
       room = d.room;
       held = held_by_each d.channels.items;
       calls = d.calls;
+      past = d.past.acts;
     } };
 
     ghost invariant = { λ d. (0 < d.step) × EachHasRoom d.room d.channels.items };
@@ -65,6 +68,7 @@ impl MemDrains {
         ensures first_open { IfOk result (λ d. d.held ≡ Some [] ∷ replicate (channels - 1) None) }
         ensures calls { IfOk result (λ d. d.calls ≡ record
             { failing = failing.items; made = 0; faults = 0 }) }
+        ensures past { IfOk result (λ d. d.past ≡ []) }
     {
         let channels = empty_channels(alloc, channels, room)?;
         Ok(MemDrains {
@@ -72,6 +76,7 @@ impl MemDrains {
             room,
             channels,
             calls: Calls::new(failing),
+            past: Past::new(),
         })
     }
 
@@ -117,6 +122,7 @@ impl MemDrains {
         ensures step { self.new.step ≡ self.old.step }
         ensures room { self.new.room ≡ self.old.room }
         ensures calls { self.new.calls ≡ self.old.calls }
+        ensures past { self.new.past ≡ self.old.past }
     {
         self.channels[channel as usize].is_open = true;
     }
@@ -130,6 +136,7 @@ impl MemDrains {
         ensures step { self.new.step ≡ self.old.step }
         ensures room { self.new.room ≡ self.old.room }
         ensures calls { self.new.calls ≡ self.old.calls }
+        ensures past { self.new.past ≡ self.old.past }
     {
         let Ok(()) = self.channels[channel as usize]
             .bytes
@@ -143,13 +150,17 @@ impl MemDrains {
 impl Drains for MemDrains {
     ghost channels = { channels_of };
 
-    fn open(&mut self, channel: u32, _name: &str) -> Result<(), Failed>
+    ghost past = { λ d. d.past };
+
+    fn open(&mut self, channel: u32, name: &str) -> Result<(), Failed>
         requires { channel_is_open self.old channel ≡ false }
         ensures opened { OnOk result (OpensAt channel (channels_of self.old)
             (channels_of self.new)) }
         ensures failed { OnErr result (FailsAt channel (channels_of self.old)
             (channels_of self.new)) }
         ensures elsewhere { ChangesOnly channels_of self.old self.new channel }
+        ensures noted { OnOk result (self.new.past ≡ Opened channel name.now ∷ self.old.past) }
+        ensures unnoted { OnErr result (self.new.past ≡ self.old.past) }
 
         // When it fails, and the whole change.
         ensures fails { is_err result ≡ opening_fails self.old channel }
@@ -165,6 +176,7 @@ impl Drains for MemDrains {
             return Err(Failed);
         }
         self.set_open(channel);
+        self.past.note(&Act::Opened(channel, name));
         Ok(())
     }
 
@@ -178,6 +190,9 @@ impl Drains for MemDrains {
         ensures failed { OnErr result (FailsAt channel (channels_of self.old)
             (channels_of self.new)) }
         ensures elsewhere { WritesOnly channels_of self.old self.new channel }
+        ensures noted { IfOk result (λ n. self.new.past
+            ≡ Passed channel (take n piece.now) ∷ self.old.past) }
+        ensures unnoted { OnErr result (self.new.past ≡ self.old.past) }
 
         // When it fails, how many bytes it takes, and the whole change.
         ensures fails { is_err result ≡ put_fails self.old channel }
@@ -198,6 +213,7 @@ impl Drains for MemDrains {
         }
         let count = self.taken(channel, piece.len());
         self.append(channel, &piece[..count]);
+        self.past.note(&Act::Passed(channel, &piece[..count]));
         Ok(count)
     }
 }

@@ -1,14 +1,15 @@
 //! Feeds in memory.
 
-ghost use Rattle.std.specs.Prelude.{◌≡◌, ◌≤◌, ◌<◌, ◌++◌, ◌+◌, ℕ, List, [], Bool, IsTrue, true, false, Option, None, Some, IfSome, IfOk, OnOk, OnErr, IsSome, is_some, is_none, is_err, map, length, take, drop, replicate, slice_set, unwrap_or};
+ghost use Rattle.std.specs.Prelude.{◌≡◌, ◌≤◌, ◌<◌, ◌++◌, ◌∷◌, ◌+◌, ℕ, List, [], Bool, IsTrue, true, false, Option, None, Some, IfSome, IfOk, OnOk, OnErr, IsSome, is_some, is_none, is_err, map, length, take, drop, replicate, slice_set, unwrap_or};
 ghost use Rattle.rvc_io.specs.Feeds.{FailsOn, Moves, OpensOn, OpensOnly, PullsOnly};
 ghost use Rattle.rvc_io.specs.Calls.{CallCount, is_listed, after_call};
 ghost use Rattle.rvc_io.specs.Files.{named, are_distinct, under, bytes_at};
 ghost use Rattle.rvc_io.specs.MemFeeds.{FeedsState, left_on, feed_is_open, bytes_left, count_left, inputs_of, opening_fails, moved};
+ghost use Rattle.rvc_io.specs.Past.{Done, Opened, Passed};
 
 use crate::calls::Calls;
 use crate::files::{bytes_at, place_of};
-use crate::{Failed, Feeds};
+use crate::{Act, Failed, Feeds, Past};
 use rvc_base::Memory;
 use std::alloc::Global;
 use std::marker::Model;
@@ -27,6 +28,7 @@ pub struct MemFeeds {
     step: u32,
     readings: Vec<Option<Reading>>,
     calls: Calls,
+    past: Past,
 }
 
 impl Model for MemFeeds {
@@ -42,6 +44,7 @@ impl Model for MemFeeds {
       left = left_of_each
           (map named f.files.items) f.readings.items;
       calls = f.calls;
+      past = f.past.acts;
     } };
 
     ghost invariant = { λ f. (0 < f.step) × AreWithin (map named f.files.items) f.readings.items };
@@ -71,6 +74,7 @@ impl MemFeeds {
         ensures none_open { IfOk result (λ f. f.left ≡ replicate feeds None) }
         ensures calls { IfOk result (λ f. f.calls ≡ record
             { failing = failing.items; made = 0; faults = 0 }) }
+        ensures past { IfOk result (λ f. f.past ≡ []) }
     {
         let readings = no_readings(alloc, feeds)?;
         Ok(MemFeeds {
@@ -78,6 +82,7 @@ impl MemFeeds {
             step,
             readings,
             calls: Calls::new(failing),
+            past: Past::new(),
         })
     }
 
@@ -105,6 +110,7 @@ impl MemFeeds {
         ensures files { self.new.files ≡ self.old.files }
         ensures step { self.new.step ≡ self.old.step }
         ensures calls { self.new.calls ≡ self.old.calls }
+        ensures past { self.new.past ≡ self.old.past }
     {
         self.readings[feed as usize] = Some(reading);
     }
@@ -138,12 +144,16 @@ impl MemFeeds {
 impl Feeds for MemFeeds {
     ghost feeds = { inputs_of };
 
+    ghost past = { λ f. f.past };
+
     fn open(&mut self, feed: u32, name: &str) -> Result<(), Failed>
         requires { feed_is_open self.old feed ≡ false }
         ensures opened { OnOk result (OpensOn feed name.now (inputs_of self.old)
             (inputs_of self.new)) }
         ensures failed { OnErr result (FailsOn feed (inputs_of self.old) (inputs_of self.new)) }
         ensures elsewhere { OpensOnly inputs_of self.old self.new feed }
+        ensures noted { OnOk result (self.new.past ≡ Opened feed name.now ∷ self.old.past) }
+        ensures unnoted { OnErr result (self.new.past ≡ self.old.past) }
 
         // When it fails, and the whole change.
         ensures fails { is_err result ≡ opening_fails self.old feed name.now }
@@ -160,6 +170,7 @@ impl Feeds for MemFeeds {
             return Err(Failed);
         };
         self.set_reading(feed, Reading { place, at: 0 });
+        self.past.note(&Act::Opened(feed, name));
         Ok(())
     }
 
@@ -171,6 +182,9 @@ impl Feeds for MemFeeds {
             (left_on self.new feed)) }
         ensures failed { OnErr result (FailsOn feed (inputs_of self.old) (inputs_of self.new)) }
         ensures elsewhere { PullsOnly inputs_of self.old self.new feed }
+        ensures noted { IfOk result (λ n. self.new.past
+            ≡ Passed feed (take n buf.new) ∷ self.old.past) }
+        ensures unnoted { OnErr result (self.new.past ≡ self.old.past) }
 
         // When it fails, how many bytes it moves, and the whole change.
         ensures fails { is_err result ≡ is_listed self.old.calls }
@@ -194,6 +208,7 @@ impl Feeds for MemFeeds {
         let count = copy_front(self.rest(reading), buf, step);
         let at = reading.at + count;
         self.set_reading(feed, Reading { at, ..reading });
+        self.past.note(&Act::Passed(feed, &buf[..count]));
         Ok(count)
     }
 }

@@ -7,10 +7,11 @@ ghost use Rattle.rvc_io.specs.Library.{IsTooLong, max_file_bytes};
 ghost use Rattle.rvc_io.specs.Calls.{CallCount, is_listed, after_call, one_more};
 ghost use Rattle.rvc_io.specs.Files.{named, are_distinct};
 ghost use Rattle.rvc_io.specs.MemLibrary.{LibraryState, told, bytes_of};
+ghost use Rattle.rvc_io.specs.Past.{Done};
 
 use crate::calls::Calls;
 use crate::files::{bytes_at, place_of};
-use crate::{Library, MAX_FILE_BYTES, ReadAnswer};
+use crate::{Act, Library, MAX_FILE_BYTES, Past, ReadAnswer};
 use std::alloc::Global;
 use std::marker::Model;
 
@@ -20,6 +21,7 @@ pub struct MemLibrary {
     files: Vec<(String, Vec<u8>)>,
     calls: Calls,
     misses: u64,
+    past: Past,
 }
 
 impl Model for MemLibrary {
@@ -33,6 +35,7 @@ impl Model for MemLibrary {
       files = map named l.files.items;
       calls = l.calls;
       misses = l.misses;
+      past = l.past.acts;
     } };
 }
 
@@ -46,21 +49,27 @@ impl MemLibrary {
         ensures files { result.files ≡ map named files.items }
         ensures calls { result.calls ≡ record { failing = failing.items; made = 0; faults = 0 } }
         ensures misses { result.misses ≡ 0 }
+        ensures past { result.past ≡ [] }
     {
         MemLibrary {
             files,
             calls: Calls::new(failing),
             misses: 0,
+            past: Past::new(),
         }
     }
 }
 
 impl Library for MemLibrary {
+    ghost use Rattle.rvc_io.specs.Reads.{read_as};
+
     ghost file = { λ l name. told (bytes_of l name) };
 
     ghost faults = { λ l. l.calls.faults };
 
     ghost misses = { λ l. l.misses };
+
+    ghost past = { λ l. l.past };
 
     fn read(&mut self, _alloc: Global, name: &str, out: &mut Vec<u8>) -> ReadAnswer
         requires { out.old.items ≡ [] }
@@ -78,6 +87,7 @@ impl Library for MemLibrary {
             → told (bytes_of self.new other) ≡ told (bytes_of self.old other) }
         ensures faults_stay { self.old.calls.faults ≤ self.new.calls.faults }
         ensures misses_stay { self.old.misses ≤ self.new.misses }
+        ensures noted { self.new.past ≡ read_as result name.now out.new.items self.old.past }
 
         // When each answer comes, unless memory runs out.
         ensures failed_exactly { (result ≡ ReadAnswer.Failed) ↔ (is_listed self.old.calls ≡ true) }
@@ -102,14 +112,19 @@ impl Library for MemLibrary {
         }
         let Some(place) = place_of(&self.files, name) else {
             self.misses = self.misses.saturating_add(1);
+            self.past.note(&Act::Lacked(name));
             return ReadAnswer::Missing;
         };
         let bytes = bytes_at(&self.files, place);
         if bytes.len() > MAX_FILE_BYTES {
+            self.past.note(&Act::Exceeded(name));
             return ReadAnswer::TooLong;
         }
         match out.extend_from_slice(bytes) {
-            Ok(()) => ReadAnswer::Found,
+            Ok(()) => {
+                self.past.note(&Act::Gave(name, out.as_slice()));
+                ReadAnswer::Found
+            }
             Err(_) => ReadAnswer::Memory,
         }
     }

@@ -3,14 +3,16 @@
 use Rattle.std.specs.Prelude.{ℕ, List, [], ◌∷◌, Bool, true, false, ◌||◌, ◌==◌, slice_index_or}
 use Rattle.std.specs.List.{slice_split, list_any}
 use Rattle.std.specs.Str.{bytes_eq}
+use Rattle.rvc_io.specs.Past.{Done}
 use Rattle.rvc_io.specs.Told.{Told, Untold}
 use Rattle.rvc_io.specs.declared.library.ReadAnswer.{ReadAnswer}
 use Rattle.rvc_io.specs.declared.library.ReadAnswer.TheVariants.{Found, Missing, Failed, TooLong, Memory}
 
--- how many reads failed, and how many names were missing
+-- how many reads failed, how many names were missing, and what was done
 pub record FolderState : Type 0 where
   pub faults : ℕ
   pub misses : ℕ
+  pub past : List Done
 
 -- what is known of a file, which is nothing
 abbrev pub file_told : FolderState → List ℕ → Told

@@ -1,13 +1,15 @@
--- Which of numbered files are open, and what is told of them.
+-- Which of numbered files are open, what was done with them, and what is told of them.
 -- Trusted: part of what a promise means.
-use Rattle.std.specs.Prelude.{ℕ, List, [], Bool, false, ◌||◌, ◌==◌, None, slice_index_or}
+use Rattle.std.specs.Prelude.{ℕ, List, Bool, true, false, ◌||◌, ◌==◌, None, slice_index_or}
 use Rattle.rvc_io.specs.Channels.{Channels}
 use Rattle.rvc_io.specs.Feeds.{Inputs}
+use Rattle.rvc_io.specs.Past.{Done, passed}
 
--- for each number whether its file is open, and how many calls failed
+-- for each number whether its file is open, how many calls failed, and what was done
 pub record OpenState : Type 0 where
   pub flags : List Bool
   pub faults : ℕ
+  pub past : List Done
 
 -- the file of this number is open
 abbrev pub is_open_at : List Bool → ℕ → Bool
@@ -31,7 +33,12 @@ inputs_of f =
       faults = f.faults;
     }
 
--- what is known of the channels: none of their bytes
+-- what is known of the channels: the bytes that they took
 abbrev pub channels_of : OpenState → Channels
 channels_of d =
-    record { tells = false; held = λ channel. []; is_open = channel_is_open d; faults = d.faults }
+    record {
+      tells = true;
+      held = passed d.past;
+      is_open = channel_is_open d;
+      faults = d.faults;
+    }

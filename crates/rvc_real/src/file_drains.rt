@@ -1,26 +1,28 @@
 //! Channels that are files, and standard output.
 
-ghost use Rattle.std.specs.Prelude.{◌≡◌, ◌≢◌, ◌≤◌, ◌<◌, ◌++◌, ℕ, [], true, false, length, take, OnOk, OnErr, IfOk, is_err};
+ghost use Rattle.std.specs.Prelude.{◌≡◌, ◌≢◌, ◌≤◌, ◌<◌, ◌++◌, ◌∷◌, ℕ, [], true, false, length, take, OnOk, OnErr, IfOk, is_err};
 ghost use Rattle.rvc_io.specs.Channels.{Appends, ChangesOnly, FailsAt, OpensAt, WritesOnly};
 ghost use Rattle.rvc_io.specs.Elsewhere.{SameElsewhere};
+ghost use Rattle.rvc_io.specs.Past.{Opened, Passed};
 ghost use Rattle.rvc_real.specs.Counting.{counted};
 ghost use Rattle.rvc_real.specs.Open.{OpenState, channel_is_open, channels_of};
 
 use crate::open_files::OpenFiles;
-use rvc_io::{Drains, Failed};
+use rvc_io::{Act, Drains, Failed, Past};
 use std::alloc::Global;
 use std::io::Write;
 use std::marker::Model;
 use std::rt::Files;
 use std::{fs, io};
 
-/// Channels of which number 0 is standard output and each other is a file, and of whose bytes
-/// nothing is told. A refused growth is a failure too.
+/// Channels of which number 0 is standard output and each other is a file. What is told of their bytes are those that
+/// they took. A refused growth is a failure too.
 #[derive(Drop)]
 pub struct FileDrains<R: Files> {
     rt: R,
     files: OpenFiles<R::File>,
     faults: u64,
+    past: Past,
 }
 
 impl<R: Files> Model for FileDrains<R> {
@@ -28,14 +30,14 @@ impl<R: Files> Model for FileDrains<R> {
 
     ghost Value = { OpenState };
 
-    ghost view = { λ d. record { flags = d.files; faults = d.faults } };
+    ghost view = { λ d. record { flags = d.files; faults = d.faults; past = d.past.acts } };
 }
 
 impl<R: Files + Print> FileDrains<R> {
     /// Channels of the standard output of `rt` and of files that it creates. Only channel 0 is
     /// open.
     pub fn new(rt: R, alloc: Global) -> FileDrains<R>
-        ensures fresh { result ≡ record { flags = []; faults = 0 } }
+        ensures fresh { result ≡ record { flags = []; faults = 0; past = [] } }
         ensures output_open { channel_is_open result 0 ≡ true }
         ensures others_closed { (channel : ℕ) → channel ≢ 0
             → channel_is_open result channel ≡ false }
@@ -44,6 +46,7 @@ impl<R: Files + Print> FileDrains<R> {
             rt,
             files: OpenFiles::new(alloc),
             faults: 0,
+            past: Past::new(),
         }
     }
 
@@ -56,6 +59,7 @@ impl<R: Files + Print> FileDrains<R> {
         ensures same_open { SameElsewhere (channel_is_open self.old) (channel_is_open self.new)
             channel }
         ensures faults { self.new.faults ≡ self.old.faults }
+        ensures past { self.new.past ≡ self.old.past }
     {
         if self.files.make_room(channel).is_err() {
             return false;
@@ -75,6 +79,7 @@ impl<R: Files + Print> FileDrains<R> {
         ensures same_open { (other : ℕ)
             → channel_is_open self.new other ≡ channel_is_open self.old other }
         ensures faults { self.new.faults ≡ self.old.faults }
+        ensures past { self.new.past ≡ self.old.past }
     {
         if channel == 0 {
             return self.rt.write_some(piece);
@@ -89,6 +94,8 @@ impl<R: Files + Print> FileDrains<R> {
 impl<R: Files + Print> Drains for FileDrains<R> {
     ghost channels = { channels_of };
 
+    ghost past = { λ d. d.past };
+
     fn open(&mut self, channel: u32, name: &str) -> Result<(), Failed>
         requires { channel_is_open self.old channel ≡ false }
         ensures opened { OnOk result (OpensAt channel (channels_of self.old)
@@ -96,6 +103,8 @@ impl<R: Files + Print> Drains for FileDrains<R> {
         ensures failed { OnErr result (FailsAt channel (channels_of self.old)
             (channels_of self.new)) }
         ensures elsewhere { ChangesOnly channels_of self.old self.new channel }
+        ensures noted { OnOk result (self.new.past ≡ Opened channel name.now ∷ self.old.past) }
+        ensures unnoted { OnErr result (self.new.past ≡ self.old.past) }
 
         // Each failure is counted once, and nothing else is.
         ensures counted { self.new.faults ≡ counted (is_err result) self.old.faults }
@@ -104,6 +113,7 @@ impl<R: Files + Print> Drains for FileDrains<R> {
             self.faults = self.faults.saturating_add(1);
             return Err(Failed);
         }
+        self.past.note(&Act::Opened(channel, name));
         Ok(())
     }
 
@@ -120,12 +130,18 @@ impl<R: Files + Print> Drains for FileDrains<R> {
         ensures failed { OnErr result (FailsAt channel (channels_of self.old)
             (channels_of self.new)) }
         ensures elsewhere { WritesOnly channels_of self.old self.new channel }
+        ensures noted { IfOk result (λ n. self.new.past
+            ≡ Passed channel (take n piece.now) ∷ self.old.past) }
+        ensures unnoted { OnErr result (self.new.past ≡ self.old.past) }
 
         // Each failure is counted once, and nothing else is.
         ensures counted { self.new.faults ≡ counted (is_err result) self.old.faults }
     {
         match self.write_some(channel, piece) {
-            Ok(count) if count > 0 => Ok(count),
+            Ok(count) if count > 0 => {
+                self.past.note(&Act::Passed(channel, &piece[..count]));
+                Ok(count)
+            }
             _ => {
                 self.faults = self.faults.saturating_add(1);
                 Err(Failed)

@@ -1,25 +1,27 @@
 //! Feeds that are files.
 
-ghost use Rattle.std.specs.Prelude.{◌≡◌, ◌≤◌, ◌<◌, ℕ, List, [], true, false, length, OnOk, OnErr, IfOk, is_err};
+ghost use Rattle.std.specs.Prelude.{◌≡◌, ◌≤◌, ◌<◌, ◌∷◌, ℕ, List, [], true, false, length, take, OnOk, OnErr, IfOk, is_err};
 ghost use Rattle.rvc_io.specs.Elsewhere.{SameElsewhere};
 ghost use Rattle.rvc_io.specs.Feeds.{FailsOn, Moves, OpensOn, OpensOnly, PullsOnly};
+ghost use Rattle.rvc_io.specs.Past.{Opened, Passed};
 ghost use Rattle.rvc_real.specs.Counting.{counted};
 ghost use Rattle.rvc_real.specs.Open.{OpenState, feed_is_open, inputs_of};
 
 use crate::open_files::OpenFiles;
-use rvc_io::{Failed, Feeds};
+use rvc_io::{Act, Failed, Feeds, Past};
 use std::alloc::Global;
 use std::fs;
 use std::io::Read;
 use std::marker::Model;
 use std::rt::Files;
 
-/// Feeds that are files, of whose bytes nothing is told. A refused growth is a failure too.
+/// Feeds that are files. Nothing is told of the bytes that are left on them. A refused growth is a failure too.
 #[derive(Drop)]
 pub struct FileFeeds<R: Files> {
     rt: R,
     files: OpenFiles<R::File>,
     faults: u64,
+    past: Past,
 }
 
 impl<R: Files> Model for FileFeeds<R> {
@@ -27,19 +29,20 @@ impl<R: Files> Model for FileFeeds<R> {
 
     ghost Value = { OpenState };
 
-    ghost view = { λ f. record { flags = f.files; faults = f.faults } };
+    ghost view = { λ f. record { flags = f.files; faults = f.faults; past = f.past.acts } };
 }
 
 impl<R: Files> FileFeeds<R> {
     /// Feeds of the files that `rt` opens. None is open yet.
     pub fn new(rt: R, alloc: Global) -> FileFeeds<R>
-        ensures fresh { result ≡ record { flags = []; faults = 0 } }
+        ensures fresh { result ≡ record { flags = []; faults = 0; past = [] } }
         ensures none_open { (feed : ℕ) → feed_is_open result feed ≡ false }
     {
         FileFeeds {
             rt,
             files: OpenFiles::new(alloc),
             faults: 0,
+            past: Past::new(),
         }
     }
 
@@ -50,6 +53,7 @@ impl<R: Files> FileFeeds<R> {
         ensures closed { result ≡ false → feed_is_open self.new feed ≡ feed_is_open self.old feed }
         ensures same_open { SameElsewhere (feed_is_open self.old) (feed_is_open self.new) feed }
         ensures faults { self.new.faults ≡ self.old.faults }
+        ensures past { self.new.past ≡ self.old.past }
     {
         if self.files.make_room(feed).is_err() {
             return false;
@@ -65,12 +69,16 @@ impl<R: Files> FileFeeds<R> {
 impl<R: Files> Feeds for FileFeeds<R> {
     ghost feeds = { inputs_of };
 
+    ghost past = { λ f. f.past };
+
     fn open(&mut self, feed: u32, name: &str) -> Result<(), Failed>
         requires { feed_is_open self.old feed ≡ false }
         ensures opened { OnOk result (OpensOn feed name.now (inputs_of self.old)
             (inputs_of self.new)) }
         ensures failed { OnErr result (FailsOn feed (inputs_of self.old) (inputs_of self.new)) }
         ensures elsewhere { OpensOnly inputs_of self.old self.new feed }
+        ensures noted { OnOk result (self.new.past ≡ Opened feed name.now ∷ self.old.past) }
+        ensures unnoted { OnErr result (self.new.past ≡ self.old.past) }
 
         // Each failure is counted once, and nothing else is.
         ensures counted { self.new.faults ≡ counted (is_err result) self.old.faults }
@@ -79,6 +87,7 @@ impl<R: Files> Feeds for FileFeeds<R> {
             self.faults = self.faults.saturating_add(1);
             return Err(Failed);
         }
+        self.past.note(&Act::Opened(feed, name));
         Ok(())
     }
 
@@ -91,6 +100,9 @@ impl<R: Files> Feeds for FileFeeds<R> {
             ((inputs_of self.new).left feed)) }
         ensures failed { OnErr result (FailsOn feed (inputs_of self.old) (inputs_of self.new)) }
         ensures elsewhere { PullsOnly inputs_of self.old self.new feed }
+        ensures noted { IfOk result (λ n. self.new.past
+            ≡ Passed feed (take n buf.new) ∷ self.old.past) }
+        ensures unnoted { OnErr result (self.new.past ≡ self.old.past) }
 
         // Each failure is counted once, and nothing else is.
         ensures counted { self.new.faults ≡ counted (is_err result) self.old.faults }
@@ -102,6 +114,7 @@ impl<R: Files> Feeds for FileFeeds<R> {
             self.faults = self.faults.saturating_add(1);
             return Err(Failed);
         };
+        self.past.note(&Act::Passed(feed, &buf[..count]));
         Ok(count)
     }
 }

@@ -8,7 +8,7 @@ ghost use Rattle.rvc_io.specs.Library.{IsTooLong, max_file_bytes};
 ghost use Rattle.rvc_real.specs.Counting.{counted};
 ghost use Rattle.rvc_real.specs.Folder.{FolderState, file_told, parts, is_up, leads_out, is_failed, is_missing};
 
-use rvc_io::{Library, MAX_FILE_BYTES, ReadAnswer};
+use rvc_io::{Act, Library, MAX_FILE_BYTES, Past, ReadAnswer};
 use std::alloc::Global;
 use std::fs;
 use std::io::{Error, ErrorKind, Read};
@@ -21,6 +21,7 @@ pub struct FolderLibrary<R> {
     rt: R,
     faults: u64,
     misses: u64,
+    past: Past,
 }
 
 impl<R> Model for FolderLibrary<R> {
@@ -28,40 +29,53 @@ impl<R> Model for FolderLibrary<R> {
 
     ghost Value = { FolderState };
 
-    ghost view = { λ l. record { faults = l.faults; misses = l.misses } };
+    ghost view = { λ l. record { faults = l.faults; misses = l.misses; past = l.past.acts } };
 }
 
 impl<R: Files> FolderLibrary<R> {
+    ghost use Rattle.rvc_io.specs.Reads.{read_as};
+
     /// The files that `rt` finds below the current folder.
     pub fn new(rt: R) -> FolderLibrary<R>
-        ensures { result ≡ record { faults = 0; misses = 0 } }
+        ensures { result ≡ record { faults = 0; misses = 0; past = [] } }
     {
         FolderLibrary {
             rt,
             faults: 0,
             misses: 0,
+            past: Past::new(),
         }
     }
 
-    /// Counts how a read went.
-    fn count(&mut self, answer: ReadAnswer)
+    /// Counts how the read of `name` went, and notes what came.
+    fn count(&mut self, answer: ReadAnswer, name: &str, bytes: &[u8])
         ensures faults { self.new.faults ≡ counted (is_failed answer) self.old.faults }
         ensures misses { self.new.misses ≡ counted (is_missing answer) self.old.misses }
+        ensures noted { self.new.past ≡ read_as answer name.now bytes.now self.old.past }
     {
         match answer {
+            ReadAnswer::Found => self.past.note(&Act::Gave(name, bytes)),
             ReadAnswer::Failed => self.faults = self.faults.saturating_add(1),
-            ReadAnswer::Missing => self.misses = self.misses.saturating_add(1),
-            _ => {}
+            ReadAnswer::Missing => {
+                self.misses = self.misses.saturating_add(1);
+                self.past.note(&Act::Lacked(name));
+            }
+            ReadAnswer::TooLong => self.past.note(&Act::Exceeded(name)),
+            ReadAnswer::Memory => {}
         }
     }
 }
 
 impl<R: Files> Library for FolderLibrary<R> {
+    ghost use Rattle.rvc_io.specs.Reads.{read_as};
+
     ghost file = { file_told };
 
     ghost faults = { λ l. l.faults };
 
     ghost misses = { λ l. l.misses };
+
+    ghost past = { λ l. l.past };
 
     /// # Errors
     ///
@@ -80,6 +94,7 @@ impl<R: Files> Library for FolderLibrary<R> {
             → file_told self.new other ≡ file_told self.old other }
         ensures faults_stay { self.old.faults ≤ self.new.faults }
         ensures misses_stay { self.old.misses ≤ self.new.misses }
+        ensures noted { self.new.past ≡ read_as result name.now out.new.items self.old.past }
 
         // What holds of every folder.
         ensures within { length out.new.items ≤ max_file_bytes }
@@ -91,7 +106,7 @@ impl<R: Files> Library for FolderLibrary<R> {
         if answer != ReadAnswer::Found {
             out.clear();
         }
-        self.count(answer);
+        self.count(answer, name, out.as_slice());
         answer
     }
 }

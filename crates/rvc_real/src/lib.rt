@@ -1,7 +1,8 @@
 //! The outside as it is: files of the system, and standard output.
 //!
-//! The bodies are the trusted edge: no clause says which bytes the system gives or takes, so these
-//! objects tell nothing of content. Their counts and what is open is proved.
+//! The bodies are the trusted edge: no clause says which bytes the system gives or keeps. So these objects tell nothing of
+//! what files hold that are to be read. What was done through them is noted: which names were opened, which bytes came, and
+//! which were taken. Their counts, and what is open, are proved.
 #![tactic(auto)]
 
 mod file_drains;

@@ -10,4 +10,6 @@ mod adapters;
 #[cfg(test)]
 mod memory;
 #[cfg(test)]
+mod naming;
+#[cfg(test)]
 mod tokens;
