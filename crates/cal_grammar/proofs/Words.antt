@@ -6,7 +6,7 @@ use Rattle.cal_lexer.specs.Words.{word_number}
 use Rattle.cal_grammar.specs.Token.{same_word}
 
 words : List Lexeme
-words = Lexeme.End ∷ Lexeme.Actor ∷ Lexeme.Unit ∷ Lexeme.Package ∷ Lexeme.Import ∷ Lexeme.Action ∷ Lexeme.Initialize ∷ Lexeme.Function ∷ Lexeme.Procedure ∷ Lexeme.Guard ∷ Lexeme.Var ∷ Lexeme.Do ∷ Lexeme.Begin ∷ Lexeme.End ∷ Lexeme.If ∷ Lexeme.Then ∷ Lexeme.Elsif ∷ Lexeme.Else ∷ Lexeme.While ∷ Lexeme.Foreach ∷ Lexeme.For ∷ Lexeme.In ∷ Lexeme.Repeat ∷ Lexeme.Schedule ∷ Lexeme.Fsm ∷ Lexeme.Priority ∷ Lexeme.True ∷ Lexeme.False ∷ Lexeme.Not ∷ Lexeme.And ∷ Lexeme.Or ∷ Lexeme.Div ∷ Lexeme.Mod ∷ Lexeme.EndActor ∷ Lexeme.EndUnit ∷ Lexeme.EndAction ∷ Lexeme.EndInitialize ∷ Lexeme.EndFunction ∷ Lexeme.EndProcedure ∷ Lexeme.EndIf ∷ Lexeme.EndWhile ∷ Lexeme.EndForeach ∷ Lexeme.EndBegin ∷ Lexeme.EndSchedule ∷ Lexeme.EndPriority ∷ Lexeme.LongDoubleArrow ∷ Lexeme.LongArrow ∷ Lexeme.Assign ∷ Lexeme.DotDot ∷ Lexeme.LessEqual ∷ Lexeme.GreaterEqual ∷ Lexeme.NotEqual ∷ Lexeme.ShiftLeft ∷ Lexeme.ShiftRight ∷ Lexeme.AndAnd ∷ Lexeme.OrOr ∷ Lexeme.LeftParen ∷ Lexeme.RightParen ∷ Lexeme.LeftBracket ∷ Lexeme.RightBracket ∷ Lexeme.Comma ∷ Lexeme.Semicolon ∷ Lexeme.Colon ∷ Lexeme.Dot ∷ Lexeme.Plus ∷ Lexeme.Minus ∷ Lexeme.Star ∷ Lexeme.Slash ∷ Lexeme.Equal ∷ Lexeme.Less ∷ Lexeme.Greater ∷ Lexeme.Ampersand ∷ Lexeme.Bar ∷ Lexeme.Caret ∷ Lexeme.Tilde ∷ []
+words = Lexeme.End ∷ Lexeme.Actor ∷ Lexeme.Unit ∷ Lexeme.Package ∷ Lexeme.Import ∷ Lexeme.Action ∷ Lexeme.Initialize ∷ Lexeme.Function ∷ Lexeme.Procedure ∷ Lexeme.Guard ∷ Lexeme.Var ∷ Lexeme.Do ∷ Lexeme.Begin ∷ Lexeme.End ∷ Lexeme.If ∷ Lexeme.Then ∷ Lexeme.Elsif ∷ Lexeme.Else ∷ Lexeme.While ∷ Lexeme.Foreach ∷ Lexeme.For ∷ Lexeme.In ∷ Lexeme.Repeat ∷ Lexeme.Schedule ∷ Lexeme.Fsm ∷ Lexeme.Priority ∷ Lexeme.True ∷ Lexeme.False ∷ Lexeme.Not ∷ Lexeme.And ∷ Lexeme.Or ∷ Lexeme.Div ∷ Lexeme.Mod ∷ Lexeme.EndActor ∷ Lexeme.EndUnit ∷ Lexeme.EndAction ∷ Lexeme.EndInitialize ∷ Lexeme.EndFunction ∷ Lexeme.EndProcedure ∷ Lexeme.EndIf ∷ Lexeme.EndWhile ∷ Lexeme.EndForeach ∷ Lexeme.EndBegin ∷ Lexeme.EndSchedule ∷ Lexeme.EndPriority ∷ Lexeme.LongDoubleArrow ∷ Lexeme.LongArrow ∷ Lexeme.Assign ∷ Lexeme.DotDot ∷ Lexeme.LessEqual ∷ Lexeme.GreaterEqual ∷ Lexeme.NotEqual ∷ Lexeme.ShiftLeft ∷ Lexeme.ShiftRight ∷ Lexeme.AndAnd ∷ Lexeme.OrOr ∷ Lexeme.LeftParen ∷ Lexeme.RightParen ∷ Lexeme.LeftBracket ∷ Lexeme.RightBracket ∷ Lexeme.Comma ∷ Lexeme.Semicolon ∷ Lexeme.Colon ∷ Lexeme.Dot ∷ Lexeme.Plus ∷ Lexeme.Minus ∷ Lexeme.Star ∷ Lexeme.Slash ∷ Lexeme.Equal ∷ Lexeme.Less ∷ Lexeme.Greater ∷ Lexeme.Ampersand ∷ Lexeme.Bar ∷ Lexeme.Caret ∷ Lexeme.Tilde ∷ Lexeme.LeftBrace ∷ Lexeme.RightBrace ∷ []
 
 word_at : ℕ → Lexeme
 unfolding words
@@ -90,6 +90,8 @@ word_known Lexeme.Ampersand = inr refl
 word_known Lexeme.Bar = inr refl
 word_known Lexeme.Caret = inr refl
 word_known Lexeme.Tilde = inr refl
+word_known Lexeme.LeftBrace = inr refl
+word_known Lexeme.RightBrace = inr refl
 
 -- what passes the test is the word
 pub same_is : (v w : Lexeme) → same_word v w ≡ true → w ≡ v

@@ -19,10 +19,10 @@ pub one_kind : (bytes : List ℕ) (n m : ℕ) (k l : Lexeme) → IsNext bytes n 
 one_kind bytes n m k l a b = let e : n ≡ m = one_size bytes n m k l a b in let f = a.is in let g = b.is in cc
 
 -- the same token has the same flaw
-one_flaw : (bytes : List ℕ) (n m : ℕ) (k l : Lexeme) → IsNext bytes n k → IsNext bytes m l → flaw k (take n bytes) (drop n bytes) ≡ flaw l (take m bytes) (drop m bytes)
+pub one_flaw : (bytes : List ℕ) (n m : ℕ) (k l : Lexeme) → IsNext bytes n k → IsNext bytes m l → flaw k (take n bytes) (drop n bytes) ≡ flaw l (take m bytes) (drop m bytes)
 one_flaw bytes n m k l a b = let e : n ≡ m = one_size bytes n m k l a b in let f : k ≡ l = one_kind bytes n m k l a b in rw (e, f)
 
-one_gap : (bytes : List ℕ) (n m : ℕ) → front bytes ≡ Gap n → front bytes ≡ Gap m → n ≡ m
+pub one_gap : (bytes : List ℕ) (n m : ℕ) → front bytes ≡ Gap n → front bytes ≡ Gap m → n ≡ m
 one_gap bytes n m e f = cc
 
 pub one_list : {bytes : List ℕ} {at : ℕ} {ts us : List Placed} → LexesFrom bytes at ts → LexesFrom bytes at us → ts ≡ us

@@ -83,6 +83,8 @@ pub data Lexeme : Type 0 where
   Bar : Lexeme
   Caret : Lexeme
   Tilde : Lexeme
+  LeftBrace : Lexeme
+  RightBrace : Lexeme
 
 -- a token and the offset of its first byte
 pub data Placed : Type 0 where
@@ -166,6 +168,8 @@ lexeme kinds.Ampersand = Ampersand
 lexeme kinds.Bar = Bar
 lexeme kinds.Caret = Caret
 lexeme kinds.Tilde = Tilde
+lexeme kinds.LeftBrace = LeftBrace
+lexeme kinds.RightBrace = RightBrace
 
 abbrev pub plain : Token → Placed
 plain t = placed (lexeme t.kind) t.at

@@ -3,3 +3,5 @@ pub mod Words
 pub mod Lexis
 pub mod Lexes
 pub mod Pieces
+pub mod NetLexes
+pub mod NetPieces

@@ -83,6 +83,8 @@ spelling Lexeme.Ampersand = codes "&"
 spelling Lexeme.Bar = codes "|"
 spelling Lexeme.Caret = codes "^"
 spelling Lexeme.Tilde = codes "~"
+spelling Lexeme.LeftBrace = codes "{"
+spelling Lexeme.RightBrace = codes "}"
 
 -- the token that a reserved word or symbol is
 abbrev pub lexeme_of : Word → Lexeme
@@ -160,6 +162,8 @@ lexeme_of words.Ampersand = Lexeme.Ampersand
 lexeme_of words.Bar = Lexeme.Bar
 lexeme_of words.Caret = Lexeme.Caret
 lexeme_of words.Tilde = Lexeme.Tilde
+lexeme_of words.LeftBrace = Lexeme.LeftBrace
+lexeme_of words.RightBrace = Lexeme.RightBrace
 
 -- a number for each reserved word and symbol, to tell them apart; 0 for names and numbers
 abbrev pub word_number : Lexeme → ℕ
@@ -239,6 +243,8 @@ word_number Lexeme.Ampersand = 71
 word_number Lexeme.Bar = 72
 word_number Lexeme.Caret = 73
 word_number Lexeme.Tilde = 74
+word_number Lexeme.LeftBrace = 75
+word_number Lexeme.RightBrace = 76
 
 -- each of these words beside its text
 abbrev pub spelled : List Lexeme → List (List ℕ × Lexeme)

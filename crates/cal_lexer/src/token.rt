@@ -119,4 +119,8 @@ pub enum TokenKind {
     Caret,
     /// `~`
     Tilde,
+    /// `{`, which only networks have
+    LeftBrace,
+    /// `}`, which only networks have
+    RightBrace,
 }

@@ -114,6 +114,10 @@ pub enum Word {
     Caret,
     /// `~`
     Tilde,
+    /// `{`, which only networks have
+    LeftBrace,
+    /// `}`, which only networks have
+    RightBrace,
 }
 
 /// The texts of the reserved words, for what a macro makes of a table.
@@ -150,7 +154,7 @@ macro_rules! with_symbols {
             OrOr "||", LeftParen "(", RightParen ")", LeftBracket "[", RightBracket "]",
             Comma ",", Semicolon ";", Colon ":", Dot ".", Plus "+", Minus "-", Star "*",
             Slash "/", Equal "=", Less "<", Greater ">", Ampersand "&", Bar "|", Caret "^",
-            Tilde "~",)
+            Tilde "~", LeftBrace "{", RightBrace "}",)
     };
 }
 

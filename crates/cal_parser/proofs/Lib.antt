@@ -1,2 +1,3 @@
+mod AloneAnswers
 mod FileAnswers
 mod ImportPaths

@@ -1,2 +1,4 @@
 pub mod ImportPath
 pub mod Answers
+pub mod Stretch
+pub mod Alone

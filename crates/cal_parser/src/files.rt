@@ -197,7 +197,7 @@ fn file(alloc: Global, tokens: &mut &[Token], room: u32) -> Result<File, Fault>
 }
 
 /// Whether no token is left.
-fn is_at_end(tokens: &[Token]) -> bool
+pub(crate) fn is_at_end(tokens: &[Token]) -> bool
     ensures { result ≡ at_end (ahead (plain_tokens tokens.now)) }
 {
     match tokens.first() {

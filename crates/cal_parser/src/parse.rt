@@ -60,7 +60,7 @@ pub fn parse_file(alloc: Global, file: u32, tokens: &[Token], end: u32) -> Resul
 }
 
 /// The offset of the first token, or the end of the text.
-fn place(tokens: &[Token], end: u32) -> u32
+pub(crate) fn place(tokens: &[Token], end: u32) -> u32
     ensures { result ≡ place_in end (plain_tokens tokens.now) }
 {
     match tokens.first() {
@@ -70,7 +70,7 @@ fn place(tokens: &[Token], end: u32) -> u32
 }
 
 /// Why a file isn't read, given the cause and its offset.
-fn answer(fault: Fault, file: u32, offset: u32) -> Front
+pub(crate) fn answer(fault: Fault, file: u32, offset: u32) -> Front
     ensures { result ≡ answer_of fault file offset }
 {
     let place = Place { file, offset };

@@ -17,7 +17,7 @@ use cal_lexer::Word;
 
 /// Prints an expression.
 #[cycle(print_expr)]
-pub(crate) fn print_expr(e: &Expr, out: &mut Writer)
+pub fn print_expr(e: &Expr, out: &mut Writer)
     ensures { Writes out.old (words (expr_tree e.now)) out.new }
 {
     match &e.form {
@@ -143,7 +143,7 @@ fn print_gen(generator: &Gen, out: &mut Writer)
 
 /// Prints a type.
 #[cycle(print_expr)]
-pub(crate) fn print_type(shape: &TypeExpr, out: &mut Writer)
+pub fn print_type(shape: &TypeExpr, out: &mut Writer)
     ensures { Writes out.old (words (type_tree shape.now)) out.new }
 {
     print_ident(&shape.name, out);

@@ -6,7 +6,7 @@
 #![tactic(auto, using(crate::proofs::Texts::nothing))]
 
 mod action;
-mod expr;
+pub mod expr;
 mod file;
 pub mod member;
 pub mod name;

@@ -62,7 +62,7 @@ impl Writer {
     }
 
     /// Puts a name behind the text.
-    pub(crate) fn put_name(&mut self, name: &str)
+    pub fn put_name(&mut self, name: &str)
         ensures { Writes self.old (Lexeme.Name name.now ∷ []) self.new }
     {
         self.put_token(name, b' ');

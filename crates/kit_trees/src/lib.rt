@@ -11,6 +11,7 @@
 #![tactic(auto)]
 
 mod actions;
+mod alone;
 mod canonical;
 mod constants;
 mod expressions;
@@ -22,6 +23,7 @@ mod statements;
 mod whole;
 mod writer;
 
+pub use alone::{Alone, told_alone};
 pub use canonical::{canon, without_offsets};
 pub use constants::{BEFORE, expression};
 pub use framed::{Frame, Framed, told_in};

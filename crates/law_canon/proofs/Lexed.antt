@@ -10,6 +10,7 @@ use Rattle.rvc_base.specs.Rules.{name_too_long, number_too_big}
 use Rattle.cal_lexer.specs.Lexeme.{Lexeme, Placed}
 use Rattle.cal_lexer.specs.Lexis.{max_name, flaw, begins_name, goes_on_name, is_name, find, first_of_both, words, long_ends, reserved, symbols_of_one, symbols_of_two, symbols_of_three, symbol, word, hexadecimal, decimal_number, number, token_of}
 use Rattle.cal_lexer.specs.Lexes.{LexesFrom, ends, after_gap, after_token}
+use Rattle.cal_lexer.proofs.Braces.{token_braceless}
 use Rattle.law_canon.specs.Printable.{IsPrintable, ArePrintable, kinds}
 
 -- if it is a name, then it is one
@@ -103,6 +104,8 @@ small_number false n other is e = leb-false (2 ^ 128) n is
 token_printable : (kind : Lexeme) (text rest : List ℕ) → token_of text ≡ Some kind → flaw kind text rest ≡ None → IsPrintable kind
 token_printable (Lexeme.Name name) text rest is flawless = (token_sound text (Lexeme.Name name) is, short_name (nat_lt max_name (length name)) (length name) refl flawless)
 token_printable (Lexeme.Number value) text rest is flawless = small_number (nat_le (2 ^ 128) value) value _ refl flawless
+token_printable Lexeme.LeftBrace text rest is flawless = let other = token_braceless text Lexeme.LeftBrace is in absurd cc
+token_printable Lexeme.RightBrace text rest is flawless = let other = token_braceless text Lexeme.RightBrace is in absurd cc
 token_printable _ text rest is flawless = tt
 
 -- What a text lexes to is printable.

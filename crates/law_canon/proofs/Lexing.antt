@@ -118,6 +118,8 @@ back (Lexeme.Number value) rest h =
       next = next_text (decimal value) rest 32 (Lexeme.Number value) refl (front_number (decimal value) (32 ∷ rest) value are) (number_is (decimal value) value are);
       flawless = rw (lt-leb (2 ^ 128) value h, no_leading_zero value h);
     }
+back Lexeme.LeftBrace rest h = absurd h
+back Lexeme.RightBrace rest h = absurd h
 back w rest h = record {
   next = next_text (spelling w) rest (gap_behind w) w refl refl refl;
   flawless = refl;

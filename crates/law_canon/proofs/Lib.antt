@@ -5,13 +5,13 @@ pub mod Lexed
 pub mod Printables
 pub mod Again
 pub mod Samples
-mod Phrases
-mod RespelledExpressions
+pub mod Phrases
+pub mod RespelledExpressions
 mod RespelledStatements
 mod RespelledMembers
 mod RespelledFiles
-mod Said
-mod Operands
-mod Respelled
-mod Placeless
+pub mod Said
+pub mod Operands
+pub mod Respelled
+pub mod Placeless
 mod ReadAgain

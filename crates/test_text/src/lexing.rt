@@ -1,7 +1,7 @@
 //! Texts with the tokens or the fault that the language gives them.
 
 use crate::table::cut;
-use cal_lexer::{MAX_NAME, Word, is_name, lex};
+use cal_lexer::{MAX_NAME, Token, Word, is_name, lex, lex_net};
 use rvc_base::{Front, Memory};
 use std::alloc::{AllocError, Global};
 use std::process::Abort;
@@ -11,22 +11,32 @@ use std::process::Abort;
 enum Asked {
     Kinds,
     Places,
+    /// Of the text of a network, with its places.
+    Network,
+}
+
+/// The tokens of a text that isn't too long, or its fault.
+fn read(alloc: Global, asked: Asked, text: &[u8]) -> Result<Vec<Token>, Front> {
+    if text.len() >= 1 << 32 {
+        return Err(Front::Memory);
+    }
+    match asked {
+        Asked::Kinds | Asked::Places => lex(alloc, 7, text),
+        Asked::Network => lex_net(alloc, 7, text),
+    }
 }
 
 /// The tokens of a text, each as `Debug` prints it, or the fault of the text, with a blank before each.
 fn answer(alloc: Global, asked: Asked, text: &[u8]) -> Result<String, AllocError> {
-    if text.len() >= 1 << 32 {
-        return String::from_str(alloc, " too long");
-    }
     let mut out = String::new(alloc);
-    match lex(alloc, 7, text) {
+    match read(alloc, asked, text) {
         Ok(tokens) => {
             for token in &tokens {
                 let kind = &token.kind;
                 let at = token.at;
                 match asked {
                     Asked::Kinds => write!(out, " {kind:?}")?,
-                    Asked::Places => write!(out, " {kind:?}@{at}")?,
+                    Asked::Places | Asked::Network => write!(out, " {kind:?}@{at}")?,
                 }
             }
         }
@@ -116,7 +126,37 @@ const FAULTS: &str = "
 # actor A() ==> : /*
 = L2 at 16
 # /*/
-= L2 at 0";
+= L2 at 0
+# a { b
+= L1 at 2
+# }
+= L1 at 0
+# actor B() ==> : { end
+= L1 at 16";
+
+#[test]
+fn networks(rt: HostRuntime) {
+    hold(&rt, rt.alloc(), Asked::Network, NETWORKS);
+}
+
+/// Braces, and what stands beside them.
+const NETWORKS: &str = "
+# {}a{1}
+= LeftBrace@0 RightBrace@1 Name(\"a\")@2 LeftBrace@3 Number(1)@4 RightBrace@5
+# -->{ bufferSize = 4; };
+= LongArrow@0 LeftBrace@3 Name(\"bufferSize\")@5 Equal@16 Number(4)@18 Semicolon@19 RightBrace@21 Semicolon@22
+# /* { */ } // {
+= RightBrace@8
+# a{1.5}
+= L4 at 2
+# {!{
+= L1 at 1
+# {\"a\"}
+= L5 at 1
+# {/*}
+= L2 at 1
+# { # }
+= L1 at 2";
 
 #[test]
 fn a_byte_above_ascii(rt: HostRuntime) {

@@ -1,7 +1,7 @@
 //! Texts with the trees that they spell, or the place where they break the grammar.
 
 use crate::table::answered;
-use kit_trees::{Asked, told};
+use kit_trees::{Alone, Asked, told, told_alone};
 use rvc_base::Memory;
 use std::alloc::Global;
 use std::process::Abort;
@@ -153,6 +153,60 @@ fn long_sum(alloc: Global) -> Result<Vec<u8>, Memory> {
     }
     text.extend_from_slice(b" ; ; end")?;
     Ok(text)
+}
+
+/// Stops unless the tokens of a text from one number up to another have this answer.
+fn holds_alone(
+    rt: &impl Abort,
+    alloc: Global,
+    asked: Alone,
+    text: &str,
+    from: u32,
+    to: u32,
+    expected: &str,
+) {
+    let found = told_alone(alloc, asked, text.as_bytes(), from, to).expect(rt, "an answer");
+    assert_eq!(rt; found.as_str(), expected);
+}
+
+/// Stops unless tokens of `( 1 + 2 ) * x , y` spell what they are to spell as an expression.
+fn holds_sum(rt: &impl Abort, alloc: Global, from: u32, to: u32, expected: &str) {
+    holds_alone(
+        rt,
+        alloc,
+        Alone::Expression,
+        "( 1 + 2 ) * x , y",
+        from,
+        to,
+        expected,
+    );
+}
+
+/// Stops unless tokens of `int ( size = 8 ) x` spell what they are to spell as a type.
+fn holds_int(rt: &impl Abort, alloc: Global, from: u32, to: u32, expected: &str) {
+    holds_alone(
+        rt,
+        alloc,
+        Alone::Type,
+        "int ( size = 8 ) x",
+        from,
+        to,
+        expected,
+    );
+}
+
+#[test]
+fn expressions_and_types_alone(rt: HostRuntime) {
+    holds_sum(&rt, rt.alloc(), 0, 7, "(* (+ 1@2 2@6)@0 x@12)@0");
+    holds_sum(&rt, rt.alloc(), 0, 8, "G1 at 14");
+    holds_sum(&rt, rt.alloc(), 0, 6, "G1 at 12");
+    holds_sum(&rt, rt.alloc(), 7, 7, "G1 at 14");
+    holds_sum(&rt, rt.alloc(), 8, 9, "y@16");
+    holds_sum(&rt, rt.alloc(), 9, 9, "G1 at 17");
+    holds_int(&rt, rt.alloc(), 0, 6, "(int@0 size@6=8@13)@0");
+    holds_int(&rt, rt.alloc(), 0, 5, "G1 at 15");
+    holds_int(&rt, rt.alloc(), 0, 7, "G1 at 17");
+    holds_int(&rt, rt.alloc(), 6, 7, "(x@17)@17");
 }
 
 #[test]
