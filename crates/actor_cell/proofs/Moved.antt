@@ -8,6 +8,7 @@ use Rattle.lowered_actor.specs.Actor.{Action, Actor}
 use Rattle.lowered_actor.specs.Facts.{IsLowered}
 use Rattle.lowered_actor.specs.Meaning.{give, start_of}
 use Rattle.net_model.specs.Cell.{Accepts, Clears, FitsQueues}
+use Rattle.firing_slices.specs.Slices.{AcceptsAll}
 use Rattle.actor_cell.specs.Queues.{no_queue, queue_on, AreEmptied, AreFresh}
 use Rattle.actor_cell.specs.Core.{Core, seen, state_in, IsAtStart, IsSound}
 use Rattle.actor_cell.proofs.Bodies.{fits-of}
@@ -54,9 +55,9 @@ same-number q p = by (cases_lt q p) (cases_lt p q)
     by (inr high) (inl low) = inr (λ e. omega (arith, low, e))
     by (inr high) (inr low) = inl (omega (arith, high, low))
 
--- a token came in
-module _ (core : Core) (p : ℕ) (token : ℤ) (queue : Queue) (low : p < length core.inboxes)
-    (is : queue ≡ record { tokens = (queue_on core.inboxes p).tokens ++ token ∷ []; capacity = (queue_on core.inboxes p).capacity }) where
+-- tokens came in
+module _ (core : Core) (p : ℕ) (tokens : List ℤ) (queue : Queue) (low : p < length core.inboxes)
+    (is : queue ≡ record { tokens = (queue_on core.inboxes p).tokens ++ tokens; capacity = (queue_on core.inboxes p).capacity }) where
   abbrev inboxes : List Queue
   inboxes = slice_set core.inboxes p queue
 
@@ -74,8 +75,8 @@ module _ (core : Core) (p : ℕ) (token : ℤ) (queue : Queue) (low : p < length
           (ap (λ one. one.capacity) (here ∙ is))
       by (inr other) = ap (λ one. one.capacity) (there q other)
 
-  pub accepts-of : Accepts (seen core) p token (seen (record core { inboxes = inboxes }))
-  accepts-of = record {
+  pub accepts-all-of : AcceptsAll (seen core) p tokens (seen (record core { inboxes = inboxes }))
+  accepts-all-of = record {
     actor = record {
       same_actor = refl;
       same_inbox_capacities = λ q less. capacity-at inboxes q ∙ (same-capacity q ∙ sym (capacity-at core.inboxes q));
@@ -83,12 +84,28 @@ module _ (core : Core) (p : ℕ) (token : ℤ) (queue : Queue) (low : p < length
       same_journal_room = refl;
     };
     state = refl;
-    there = tokens-at inboxes p ∙ (ap (λ one. one.tokens) (here ∙ is) ∙ ap (λ ts. ts ++ token ∷ []) (sym (tokens-at core.inboxes p)));
+    there = tokens-at inboxes p ∙ (ap (λ one. one.tokens) (here ∙ is) ∙ ap (λ ts. ts ++ tokens) (sym (tokens-at core.inboxes p)));
     elsewhere = λ q less other. tokens-at inboxes q ∙ (ap (λ one. one.tokens) (there q other) ∙ sym (tokens-at core.inboxes q));
     outboxes = λ q less. refl;
     journal = refl;
     trapped = refl;
   }
+
+-- one token came in
+pub accepts-of : (core : Core) (p : ℕ) (token : ℤ) (queue : Queue) (low : p < length core.inboxes)
+    → queue ≡ record { tokens = (queue_on core.inboxes p).tokens ++ token ∷ []; capacity = (queue_on core.inboxes p).capacity }
+    → Accepts (seen core) p token (seen (record core { inboxes = slice_set core.inboxes p queue }))
+accepts-of core p token queue low is =
+    let all = accepts-all-of core p (token ∷ []) queue low is in
+    record {
+      actor = all.actor;
+      state = all.state;
+      there = all.there;
+      elsewhere = all.elsewhere;
+      outboxes = all.outboxes;
+      journal = all.journal;
+      trapped = all.trapped;
+    }
 
 -- the token that came last was taken back
 module _ (core : Core) (p : ℕ) (token : ℤ) (queue : Queue) (low : p < length core.inboxes)

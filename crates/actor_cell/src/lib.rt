@@ -12,6 +12,7 @@ mod limits;
 mod making;
 mod outbox;
 mod rooms;
+mod slices;
 mod steps;
 mod waiting;
 

@@ -66,6 +66,17 @@ impl Outbox {
         }
     }
 
+    /// The tokens as two slices, the first part before the second.
+    #[inline]
+    pub(crate) fn as_slices(&self) -> (&[Num], &[Num])
+        ensures { result.0.now ++ result.1.now ≡ self.now.tokens }
+    {
+        match &self.ring {
+            Some(ring) => ring.as_slices(),
+            None => (&[], &[]),
+        }
+    }
+
     /// Whether so many tokens are at most its capacity; if nobody reads the port, whether it is the room that is named then.
     pub(crate) fn may_hold(&self, room: u32) -> bool
         ensures { IsTrue result → MayHold self.now room }

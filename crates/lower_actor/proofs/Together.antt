@@ -6,6 +6,7 @@ use Rattle.std.proofs.lemmas.List.{length-map}
 use Rattle.std.proofs.lemmas.List.Elements.{All-map}
 use Rattle.std.proofs.lemmas.List.FromFn.{get_or-map-range_with_len, length-map-range_with_len}
 use Rattle.std.proofs.lemmas.Option.{slice_get-get_or}
+use Rattle.rvc_base.specs.Storing.{IsSize}
 use Rattle.cal_model.specs.declared.bound.Bound.{Bound}
 use Rattle.cal_model.specs.Actor.{Actor}
 use Rattle.cal_model.specs.Rates.{give, given_on, need}
@@ -15,7 +16,7 @@ use Rattle.lower_base.specs.declared.draft.Draft.{Draft}
 use Rattle.lowered_actor.specs.Actor as coded
 use Rattle.lowered_actor.specs.declared.parts.ActionCode.{ActionCode}
 use Rattle.lowered_actor.specs.declared.parts.Parts.{Parts}
-use Rattle.lowered_actor.specs.Facts.{FitTogether, Fits}
+use Rattle.lowered_actor.specs.Facts.{AreApart, FitTogether, Fits}
 use Rattle.action_lower.specs.FiringCode.{first_on}
 use Rattle.lower_tables.specs.Tables.{IsPriority, IsSchedule}
 use Rattle.lower_actor.specs.Coded.{AreCodedActions, IsCodeOf, IsCodedAction, all_entries, entries_of}
@@ -92,13 +93,16 @@ module _ (b : Bound) (parts : Parts) (draft : Draft) (schedule : IsSchedule (act
             omega (arith, first, gives, given, inside, cells);
       }
 
-  pub parts-fit : length parts.first.items ≡ parts.code.cells → parts.start < parts.fsm.states → parts.kept ≤ parts.code.cells → All (λ saved. saved.cell < parts.kept) parts.saved.items → FitTogether lowered
-  parts-fit first start kept saved = record {
+  pub parts-fit : length parts.first.items ≡ parts.code.cells → parts.start < parts.fsm.states → parts.kept ≤ parts.code.cells → All (λ saved. saved.cell < parts.kept) parts.saved.items
+      → AreApart parts.saved.items → All (λ saved. IsSize saved.kind) parts.saved.items → FitTogether lowered
+  parts-fit first start kept saved apart sizes = record {
     automaton = schedule.actions ∙ (sym many ∙ sym (length-map parts.actions.items coded.action_of));
     order = priority.count ∙ (sym many ∙ sym (length-map parts.actions.items coded.action_of));
     first = first;
     start = start;
     kept = kept;
     saved = saved;
+    apart = apart;
+    sizes = sizes;
     each = All-map (Fits lowered) coded.action_of parts.actions.items (all-here (λ one. Fits lowered (coded.action_of one)) parts.actions.items action-fits);
   }

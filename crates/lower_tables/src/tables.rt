@@ -4,6 +4,8 @@ ghost use Rattle.std.specs.Prelude.{◌≡◌, ◌<◌, All, IfOk, length};
 ghost use Rattle.cal_model.specs.Eligible.{start_state};
 ghost use Rattle.cal_model.specs.Sound.{IsSound, scalars_of_vars};
 ghost use Rattle.cal_model.specs.View.{actor_of};
+ghost use Rattle.lowered_actor.specs.Facts.{AreApart};
+ghost use Rattle.rvc_base.specs.Storing.{IsSize};
 ghost use Rattle.lower_tables.specs.Tables.{AreRates, IsPriority, IsSchedule, saved_from};
 
 use crate::cells::{cell_count, saved_cells};
@@ -59,6 +61,8 @@ pub fn lower_tables(alloc: Global, b: &Bound) -> Result<Tables, Memory>
     ensures begins { IfOk result (λ tables. tables.start < tables.fsm.states) }
     ensures inside { IfOk result
         (λ tables. All (λ saved. saved.cell < tables.kept) tables.saved.items) }
+    ensures apart { IfOk result (λ tables. AreApart tables.saved.items) }
+    ensures sizes { IfOk result (λ tables. All (λ saved. IsSize saved.kind) tables.saved.items) }
 {
     let fsm = automaton(alloc, b)?;
     let order = order(alloc, b)?;

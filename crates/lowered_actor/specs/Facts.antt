@@ -2,6 +2,7 @@
 -- Trusted: part of what a promise means.
 use Rattle.std.specs.Prelude.{◌≡◌, ℕ, ◌+◌, ◌≤◌, ◌<◌, true, IsTrue, ℤ, pos, zero, suc, List, [], ◌∷◌, length, take, Some, slice_get, slice_index_or, All, Contains}
 use Rattle.rvc_base.specs.Line.{IsLine}
+use Rattle.rvc_base.specs.Storing.{IsSize}
 use Rattle.code_ir.specs.declared.outcome.Outcome.{Outcome}
 use Rattle.code_ir.specs.declared.outcome.Outcome.TheVariants as outcome
 use Rattle.code_ir.specs.Code.{is_among}
@@ -28,6 +29,11 @@ abbrev pub IsSaved : Actor → ℕ → Type 0
 IsSaved actor cell = (k : ℕ) × (saved : StateCell) × (slice_get actor.saved k ≡ Some saved)
     × (saved.cell ≡ cell)
 
+-- no two of these cells are one
+abbrev pub AreApart : List StateCell → Type 0
+AreApart cells = (j k : ℕ) (one other : StateCell) → slice_get cells j ≡ Some one
+    → slice_get cells k ≡ Some other → one.cell ≡ other.cell → j ≡ k
+
 -- the automaton, the order and the actions are of the same actions, and all numbers are in range
 pub record FitTogether (actor : Actor) : Type 0 where
   pub automaton : actor.fsm.actions ≡ length actor.actions
@@ -36,6 +42,8 @@ pub record FitTogether (actor : Actor) : Type 0 where
   pub start : actor.start < actor.fsm.states
   pub kept : actor.kept ≤ actor.code.cells
   pub saved : All (λ saved. saved.cell < actor.kept) actor.saved
+  pub apart : AreApart actor.saved
+  pub sizes : All (λ saved. IsSize saved.kind) actor.saved
   pub each : All (Fits actor) actor.actions
 
 -- ---- runs

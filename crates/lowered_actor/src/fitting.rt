@@ -6,6 +6,7 @@ ghost use Rattle.lowered_actor.specs.Actor.{action_of, actor_of, number_on};
 ghost use Rattle.lowered_actor.specs.Facts.{Fits, FitTogether};
 
 use crate::parts::{ActionCode, Parts, StateCell};
+use crate::saved::{are_apart, have_sizes};
 use code_ir::Admitted;
 use priority_order::Order;
 
@@ -22,6 +23,9 @@ impl Parts {
             return false;
         }
         if self.kept > self.code.cells() || !are_kept(&self.saved, self.kept) {
+            return false;
+        }
+        if !are_apart(&self.saved) || !have_sizes(&self.saved) {
             return false;
         }
         actions_fit(self)

@@ -11,6 +11,7 @@ mod fitting;
 pub mod laws;
 mod lowered;
 mod parts;
+mod saved;
 mod straight;
 
 pub use lowered::{Lowered, Unfit};

@@ -2,7 +2,8 @@
 
 ghost use Rattle.std.specs.Prelude.{◌≡◌, ◌<◌, IfOk, Some, All, length, slice_get};
 ghost use Rattle.lowered_actor.specs.Actor.{action_of, actor_of};
-ghost use Rattle.lowered_actor.specs.Facts.{FitTogether, RunRight, IsLowered};
+ghost use Rattle.lowered_actor.specs.Facts.{AreApart, FitTogether, RunRight, IsLowered};
+ghost use Rattle.rvc_base.specs.Storing.{IsSize};
 ghost use Rattle.lowered_actor.specs.Candidates.{eligible_among};
 
 use crate::candidates::{Candidates, rows};
@@ -165,10 +166,12 @@ impl Lowered {
         self.parts.start
     }
 
-    /// The state cells that a firing may change, in the order of the source.
+    /// The state cells that a firing may change, in the order of the source. No two are one, and each type has a size.
     #[inline]
-    pub fn saved(&self) -> &[StateCell]
-        ensures { result.now ≡ self.now.saved }
+    pub fn state_cells(&self) -> &[StateCell]
+        ensures cells { result.now ≡ self.now.saved }
+        ensures apart { AreApart result.now }
+        ensures sizes { All (λ saved. IsSize saved.kind) result.now }
     {
         &self.parts.saved
     }

@@ -20,7 +20,8 @@ pub struct ActionCode {
     pub sends: Vec<u32>,
 }
 
-/// A cell that holds a scalar of a state variable which changes, and the scalar's type.
+/// A cell that holds a scalar of a state variable which changes, and the scalar's type, which has a size: from 1 to
+/// [`MAX_SIZE`](rvc_base::MAX_SIZE) bits if it is one of numbers.
 #[derive(Clone, Copy, Debug, PartialEq, Eq)]
 pub struct StateCell {
     pub cell: u32,
@@ -43,7 +44,7 @@ pub struct Parts {
     pub kept: u32,
     /// The first state of the schedule.
     pub start: u16,
-    /// The state cells that a firing may change, in the order of the source.
+    /// The state cells that a firing may change, in the order of the source, each once.
     pub saved: Vec<StateCell>,
     /// How many input and output ports there are.
     pub ins: u32,

@@ -133,7 +133,7 @@ fn may_store(parts: &Parts, firing: bool, cell: u32) -> bool
 }
 
 /// Whether a cell is one of these.
-fn is_saved(saved: &[StateCell], cell: u32) -> bool
+pub(crate) fn is_saved(saved: &[StateCell], cell: u32) -> bool
     ensures { result ≡ is_saved saved.now cell }
 {
     for one in saved {

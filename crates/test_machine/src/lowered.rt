@@ -67,6 +67,24 @@ type Found = Result<(usize, usize, u32), Unfit>;
 /// how many state cells there are, and what is found.
 type Row = (&'static [Instr], Instr, &'static [Instr], u32, Found);
 
+/// Cell 1, which is saved.
+const COUNT: StateCell = StateCell {
+    cell: 1,
+    kind: Scalar::Uint(8),
+};
+
+/// The other state cell, of a type of 65 bits.
+const TOO_WIDE: StateCell = StateCell {
+    cell: 0,
+    kind: Scalar::Int(65),
+};
+
+/// The same cell once more, as a truth value.
+const AGAIN: StateCell = StateCell {
+    cell: 1,
+    kind: Scalar::Bool,
+};
+
 const ROWS: &[Row] = &[
     (LESS, LOAD, SUM, 2, Ok((2, 1, 4))),
     (LESS, LOAD, TOKEN, 2, Ok((2, 1, 4))),
@@ -95,8 +113,8 @@ fn candidates<R: Abort>(rt: &R, lowered: &Lowered) -> (usize, usize, u32) {
 }
 
 /// What an actor of two such actions is, the first free and the second eligible in state 0 alone. The second is above
-/// the first. Each fires at 4 and sends a token, which is then in cell 2. Of its state cells 0 and 1 cell 1 is saved.
-fn made<R: Abort>(rt: &R, alloc: Global, row: &Row) -> Found {
+/// the first. Each fires at 4 and sends a token, which is then in cell 2. Its state cells are 0 and 1, and these are saved.
+fn made<R: Abort>(rt: &R, alloc: Global, row: &Row, saved: &[StateCell]) -> Found {
     let (guard, load, end, kept, _want) = row;
     let actor = Actor {
         frame: Frame {
@@ -112,10 +130,7 @@ fn made<R: Abort>(rt: &R, alloc: Global, row: &Row) -> Found {
         sends: &[2],
         first: &[0, 0, 0],
         kept: *kept,
-        saved: &[StateCell {
-            cell: 1,
-            kind: Scalar::Uint(8),
-        }],
+        saved,
         outs: 1,
     };
     let step = Step {
@@ -135,6 +150,13 @@ fn made<R: Abort>(rt: &R, alloc: Global, row: &Row) -> Found {
 #[test]
 fn straight_lines_make_an_actor(rt: HostRuntime) {
     for row in ROWS {
-        assert!(rt; made(&rt, rt.alloc(), row) == row.4, "{row:?}");
+        assert!(rt; made(&rt, rt.alloc(), row, &[COUNT]) == row.4, "{row:?}");
     }
+}
+
+#[test]
+fn saved_cells_are_different_ones_of_some_size(rt: HostRuntime) {
+    let row = &ROWS[0];
+    assert!(rt; made(&rt, rt.alloc(), row, &[COUNT, AGAIN]) == Err(Unfit::DoNotFit));
+    assert!(rt; made(&rt, rt.alloc(), row, &[TOO_WIDE, COUNT]) == Err(Unfit::DoNotFit));
 }

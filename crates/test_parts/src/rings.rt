@@ -25,6 +25,20 @@ fn a_ring_is_a_list(rt: HostRuntime) -> Result<(), Fail> {
 }
 
 #[test]
+fn slices_come_and_go_across_the_end(rt: HostRuntime) -> Result<(), Fail> {
+    let mut ring = Ring::new(rt.alloc(), 4)?;
+    ring.push_all(&[1, 2, 3]);
+    ring.take(2);
+    ring.push_all(&[]);
+    ring.push_all(&[4, 5, 6]);
+    let (front, back) = ring.as_slices();
+    assert!(rt; front == [3, 4].as_slice());
+    assert!(rt; back == [5, 6].as_slice());
+    assert_eq!(rt; ring.room(), 0);
+    Ok(())
+}
+
+#[test]
 fn the_newest_is_taken_back(rt: HostRuntime) -> Result<(), Fail> {
     let mut ring = Ring::new(rt.alloc(), 2)?;
     ring.push(1);

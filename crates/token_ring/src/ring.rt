@@ -75,8 +75,15 @@ impl Ring {
     pub fn peek(&self) -> Peek<'_>
         ensures { result ≡ self.now.tokens }
     {
-        let (front, back) = self.tokens.as_slices();
+        let (front, back) = self.as_slices();
         Peek::new(front, back)
+    }
+
+    /// The tokens as two slices: those up to the end of the block, and behind them those that lie at its start.
+    pub fn as_slices(&self) -> (&[Num], &[Num])
+        ensures { result.0.now ++ result.1.now ≡ self.now.tokens }
+    {
+        self.tokens.as_slices()
     }
 
     /// Puts a token behind the others.
@@ -88,6 +95,17 @@ impl Ring {
         } }
     {
         let _ = self.tokens.push_back(v);
+    }
+
+    /// Puts tokens behind the others, in their order.
+    pub fn push_all(&mut self, tokens: &[Num])
+        requires { length self.old.tokens + length tokens.now ≤ self.old.capacity }
+        ensures { self.new ≡ record {
+          tokens = self.old.tokens ++ tokens.now;
+          capacity = self.old.capacity;
+        } }
+    {
+        let _ = self.tokens.fill_from_slice(tokens);
     }
 
     /// Takes back the token that came last.

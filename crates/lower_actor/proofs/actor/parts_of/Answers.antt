@@ -41,7 +41,7 @@ returns-clause-parts c =
           let le = c.in_ok-actions.ensures.more.cells in
           let same = c.in_ok-code.ensures.code.cells in
           let kept = tables.kept in
-          omega (arith, state, below, le, same, kept)) tables.inside;
+          omega (arith, state, below, le, same, kept)) tables.inside tables.apart tables.sizes;
       actions = c.in_ok-actions.ensures.coded.count ∙ sym (length-map c.args.b.now.actions.items action_view);
       stand = λ facts.
           parts-stand c.args.b.now parts c.lower_actions.new.draft tables.schedule tables.start tables.priority c.in_ok-actions.ensures.coded tables.kept tables.saved tables.ins tables.outs
