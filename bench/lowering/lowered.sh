@@ -16,7 +16,7 @@ for name in $below; do
     fi
     grep "^$name:" "$top/crates.txt" >>"$work/crates.txt"
 done
-echo "lowered_text: rvc_engine cal_files lowered_actor code_ir schedule_fsm fnl_flatten rvc_io rvc_base" >>"$work/crates.txt"
+echo "lowered_text: rvc_engine network_check cal_files lowered_actor code_ir schedule_fsm fnl_flatten rvc_io rvc_base" >>"$work/crates.txt"
 
 # The files below the folder, and the tops, as constants of the program.
 cp "$top/bench/lowering/lower.rt.txt" "$work/crates/lowered_text/src/main.rt"

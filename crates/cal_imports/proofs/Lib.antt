@@ -1,11 +1,11 @@
-mod Answered
-mod Found
-mod HeaderParts
-mod Walks
-mod Stacks
-mod Sizes
-mod FoundNodes
-mod FoundUnits
-mod Behind
-mod Rows
-mod Ordered
+pub mod Answered
+pub mod Found
+pub mod HeaderParts
+pub mod Walks
+pub mod Stacks
+pub mod Sizes
+pub mod FoundNodes
+pub mod FoundUnits
+pub mod Behind
+pub mod Rows
+pub mod Ordered

@@ -58,6 +58,17 @@ impl FileSet {
         self.find(name).is_some()
     }
 
+    /// The file of a class.
+    pub fn get(&self, name: &str) -> Option<&File>
+        ensures { option_map (λ tree. file_tree tree.now) result
+            ≡ option_map (λ s. s.tree) (source_named name.now (sources self.now)) }
+    {
+        match self.find(name) {
+            Some(entry) => Some(&entry.tree),
+            None => None,
+        }
+    }
+
     /// Adds a file with its number, under the class that was asked for: names with dots between.
     ///
     /// # Errors

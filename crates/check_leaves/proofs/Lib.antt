@@ -1,12 +1,12 @@
-mod Moved
-mod Equal
+pub mod Moved
+pub mod Equal
 mod Sizes
 mod Ended
 mod Lists
 mod Numbers
 mod Chain
 mod LikeLeaves
-mod Growing
+pub mod Growing
 mod Scopes
 mod Held
 mod NetLeaves

@@ -1,5 +1,5 @@
 -- Tests for equal values, and for leaves that give equal ones.
--- Not trusted: no promise is read with it.
+-- Trusted: part of what a promise means, that of `give_same`.
 use Rattle.std.specs.Prelude.{ℤ, Bool, true, false, ◌&&◌, List, [], ◌∷◌}
 use Rattle.std.specs.Ordering.{int_eq}
 use Rattle.std.specs.Str.{bytes_eq}

@@ -1,5 +1,5 @@
 -- What is found leaf by leaf.
--- Not trusted: no promise is read with it.
+-- Trusted is what `actor_at` cites: `NamesStandApart`, `IsRefusedAt` and `IsAnswered`. No promise is read with the rest.
 use Rattle.std.specs.Prelude.{◌≡◌, ℕ, ◌<◌, ◌≤◌, List, [], ◌∷◌, ◌++◌, map, length, Contains, Some, slice_get}
 use Rattle.std.specs.declared.result.Result.{Result}
 use Rattle.std.specs.declared.result.Result.TheVariants.{Ok, Err}

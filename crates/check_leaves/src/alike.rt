@@ -14,8 +14,8 @@ fn gives_same(given: &LeafValue, other: &LeafValue) -> bool
     given.name == other.name && is_equal(&given.value, &other.value)
 }
 
-/// Whether both give the same parameters equal values, in one order.
-pub(crate) fn give_same(given: &[LeafValue], others: &[LeafValue]) -> bool
+/// Whether both give the same parameters equal values, in one order. Where the values are given doesn't matter.
+pub fn give_same(given: &[LeafValue], others: &[LeafValue]) -> bool
     ensures { result ≡ give_same (map binding_of given.now) (map binding_of others.now) }
 {
     let mut rest = given;

@@ -6,6 +6,8 @@
 //! so a network takes the time of its leaves, times the distinct values that one class is given. [`heads`] gives the
 //! ports of the actor at each leaf, as flattening takes them.
 //!
+//! Who keeps actors from one network to the next has the same of one leaf: [`actor_at`], [`give_same`] and [`head_of`].
+//!
 //! `specs/Leaves.antt` says which actors these are and what refuses a leaf, in the words of the source network.
 #![tactic(auto)]
 
@@ -22,9 +24,11 @@ mod rates;
 mod values;
 mod whole;
 
+pub use alike::give_same;
 pub use found::LeafActors;
 pub use laws::{
     actors_are_leaves_of_a_network, alike_leaves_are_one_actor, spelled_actors_are_formed,
 };
-pub use ports::heads;
+pub use one::actor_at;
+pub use ports::{head_of, heads};
 pub use whole::check_leaves;

@@ -38,8 +38,15 @@ fn checked(alloc: Global, scope: &Scope, leaf: &Leaf) -> Result<Bound, Front>
     check(alloc, scope, &leaf.bindings, leaf.instance_at)
 }
 
-/// The actor at a leaf.
-pub(crate) fn actor_at(alloc: Global, files: &FileSet, leaf: &Leaf) -> Result<Bound, Front>
+/// The actor at one leaf, over the files to which its class and imports lead. The texts that stand for declarations differ
+/// in each scope of the files, as [`names_differ`](law_sources::names_differ) says of files that are what their texts
+/// spell.
+///
+/// # Errors
+///
+/// `Refused` if there is no actor at the leaf: with a rule that it breaks, by the scope of its class or by its actor. If no
+/// file has its class, that is S3 at the words. `Memory` if memory runs out.
+pub fn actor_at(alloc: Global, files: &FileSet, leaf: &Leaf) -> Result<Bound, Front>
     requires { NamesStandApart (sources files.now) }
     ensures { IsAnswered result (sources files.now) (leaf_of leaf.now) }
 {

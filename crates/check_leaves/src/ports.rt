@@ -61,8 +61,12 @@ fn outs_of(alloc: Global, b: &Bound) -> Result<Vec<HeadPort>, Memory>
     Ok(ports)
 }
 
-/// The ports of an actor.
-fn head_of(alloc: Global, b: &Bound) -> Result<Head, Memory>
+/// The ports of an actor: names, types, and the most tokens that a firing takes or gives there.
+///
+/// # Errors
+///
+/// `Memory` if memory runs out.
+pub fn head_of(alloc: Global, b: &Bound) -> Result<Head, Memory>
     requires { IsSound (actor_of b.now) }
     ensures { IfOk result (λ head. told_head head ≡ head_of (actor_of b.now)) }
 {

@@ -9,11 +9,11 @@ use Rattle.cmd_report.specs.About.{About}
 use Rattle.cmd_report.specs.Report.{certified_line}
 use Rattle.cmd_report.specs.declared.status.Status.{Status}
 use Rattle.cmd_report.specs.declared.status.Status.TheVariants as status
-use Rattle.rvc_engine.specs.Checked.{IsChecked}
-use Rattle.rvc_engine.specs.Refused.{IsFault}
-use Rattle.rvc_engine.specs.declared.checked.Checked.{Checked}
-use Rattle.rvc_engine.specs.declared.fault.BuildFault.{BuildFault}
-use Rattle.rvc_engine.specs.declared.fault.BuildFault.TheVariants as fault
+use Rattle.network_check.specs.Checked.{IsChecked}
+use Rattle.network_check.specs.Refused.{IsFault}
+use Rattle.network_check.specs.declared.checked.Checked.{Checked}
+use Rattle.network_check.specs.declared.fault.BuildFault.{BuildFault}
+use Rattle.network_check.specs.declared.fault.BuildFault.TheVariants as fault
 use Rattle.cmd_network.specs.Answers.{by_files, by_words}
 use Rattle.cmd_network.specs.Commands.{Command, HasFiles, OpenedNothing, about_files, count_none, top_of, words_of}
 use Rattle.cmd_network.specs.Steps.{status_of_build}

@@ -4,7 +4,7 @@ ghost use Rattle.std.specs.Prelude.{◌≡◌, ◌<◌, ◌≤◌, All, IfOk, le
 ghost use Rattle.cal_model.specs.Sound.{Each, IsSound};
 ghost use Rattle.cal_model.specs.View.{actor_of};
 ghost use Rattle.rvc_engine.specs.Built.{AreJudged, IsJudged};
-ghost use Rattle.rvc_engine.specs.Checked.{StandAtLeaves};
+ghost use Rattle.network_check.specs.Checked.{StandAtLeaves};
 ghost use Rattle.check_leaves.specs.Leaves.{actors_at_leaves};
 ghost use Rattle.cmd_network.specs.Commands.{count_none};
 ghost use Rattle.cmd_certify.specs.Steps.{IsVerdict, said_at, status_at, status_from};

@@ -9,7 +9,7 @@ ghost use Rattle.cal_files.specs.Loading.{Counts, TellsAll};
 ghost use Rattle.cal_model.specs.Selection.{State};
 ghost use Rattle.cmd_network.specs.Conforming.{ConformsWith, no_ports};
 ghost use Rattle.net_model.specs.Network.{Network};
-ghost use Rattle.rvc_engine.specs.Top.{top_asked};
+ghost use Rattle.network_check.specs.Top.{top_asked};
 ghost use Rattle.cmd_network.specs.Answers.{IsAnswered};
 ghost use Rattle.cmd_network.specs.Commands.{RefusesJob, command, met_by};
 ghost use Rattle.cmd_certify.specs.Ends.{Comes, IsDecided, IsUndecided};
@@ -23,7 +23,7 @@ use rvc_words::Job;
 use std::alloc::Global;
 
 /// Certifies the actors of a job. The files of its top are read and checked, as
-/// [`check_network`](rvc_engine::check_network) says; then the first port word is refused, if there is one, since no port is
+/// [`check_network`](network_check::check_network) says; then the first port word is refused, if there is one, since no port is
 /// opened; the actor of each leaf is judged by the certification rule, as [`certify`](determinacy_cert::certify) says; and
 /// the report is put on channel 0 (`answered`, whatever feeds there are, which stay as they are). No channel is opened, and
 /// no other is written (`only_report`).

@@ -15,11 +15,11 @@ use Rattle.net_model.specs.declared.wiring.Port.{Port}
 use Rattle.cmd_ports.specs.Matching.{AreMatched, IsWrongWord, names_of}
 use Rattle.cmd_report.specs.Report.{size_lines}
 use Rattle.cmd_report.specs.declared.status.Status.TheVariants as status
-use Rattle.rvc_engine.specs.Checked.{IsChecked, IsNetworkOf}
-use Rattle.rvc_engine.specs.Refused.{IsFault}
-use Rattle.rvc_engine.specs.declared.checked.Checked.{Checked}
-use Rattle.rvc_engine.specs.declared.fault.BuildFault.{BuildFault}
-use Rattle.rvc_engine.specs.declared.fault.BuildFault.TheVariants as fault
+use Rattle.network_check.specs.Checked.{IsChecked, IsNetworkOf}
+use Rattle.network_check.specs.Refused.{IsFault}
+use Rattle.network_check.specs.declared.checked.Checked.{Checked}
+use Rattle.network_check.specs.declared.fault.BuildFault.{BuildFault}
+use Rattle.network_check.specs.declared.fault.BuildFault.TheVariants as fault
 use Rattle.fnl_source.specs.Answers.{HasWiring}
 use Rattle.cmd_network.specs.Answers.{by_files, by_words}
 use Rattle.cmd_network.specs.Commands.{Command, HasFiles, OpenedNothing, about_files, about_net, port_names, top_of, words_of}

@@ -5,7 +5,7 @@ use Rattle.cal_files.specs.Views.{file_names}
 use Rattle.cal_files.specs.declared.names.Names.{Names}
 use Rattle.cmd_ports.specs.Matching.{names_of}
 use Rattle.cmd_report.specs.About.{About}
-use Rattle.rvc_engine.specs.declared.checked.Checked.{Checked}
+use Rattle.network_check.specs.declared.checked.Checked.{Checked}
 use Rattle.rvc_words.specs.Words.{port_text}
 use Rattle.rvc_words.specs.declared.job.Job.{Job}
 

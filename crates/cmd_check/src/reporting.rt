@@ -9,7 +9,7 @@ ghost use Rattle.cmd_check.specs.Steps.{about_checked};
 use cal_files::Names;
 use cmd_network::answered;
 use cmd_report::{REPORT_CHANNEL, Status, Subject, report_check};
-use rvc_engine::Checked;
+use network_check::Checked;
 use rvc_io::Drains;
 use rvc_words::Job;
 

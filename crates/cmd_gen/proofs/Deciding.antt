@@ -14,7 +14,7 @@ use Rattle.cmd_ports.specs.Matching.{IsWrongWord}
 use Rattle.cmd_report.specs.About.{About}
 use Rattle.cmd_report.specs.declared.status.Status.{Status}
 use Rattle.cmd_report.specs.declared.status.Status.TheVariants as status
-use Rattle.rvc_engine.specs.Top.{top_asked}
+use Rattle.network_check.specs.Top.{top_asked}
 use Rattle.fnl_source.specs.Library.{LibraryNetworksAreOne}
 use Rattle.cmd_network.specs.Answers.{IsAnswered, is_reported, is_unreported}
 use Rattle.cmd_network.specs.Commands.{Command, ConformingAreNotRefused, HasFiles, IsToRun, top_of, words_of}

@@ -13,10 +13,10 @@ use Rattle.cal_files.specs.declared.names.Names.{Names}
 use Rattle.cmd_network.specs.Conforming.{output_names}
 use Rattle.cmd_ports.specs.Matching.{AreMatched, IsWrongWord}
 use Rattle.rvc_engine.specs.Built.{IsBuilt}
-use Rattle.rvc_engine.specs.Refused.{IsFault}
-use Rattle.rvc_engine.specs.Top.{top_asked}
-use Rattle.rvc_engine.specs.declared.fault.BuildFault.{BuildFault}
-use Rattle.rvc_engine.specs.declared.fault.BuildFault.TheVariants as build
+use Rattle.network_check.specs.Refused.{IsFault}
+use Rattle.network_check.specs.Top.{top_asked}
+use Rattle.network_check.specs.declared.fault.BuildFault.{BuildFault}
+use Rattle.network_check.specs.declared.fault.BuildFault.TheVariants as build
 use Rattle.rvc_engine.specs.declared.image.Image.{Image}
 use Rattle.cmd_report.specs.declared.status.Status.{Status}
 use Rattle.cmd_report.specs.declared.status.Status.TheVariants as status

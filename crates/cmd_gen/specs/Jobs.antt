@@ -9,7 +9,7 @@ use Rattle.cal_model.specs.Selection.{State}
 use Rattle.net_model.specs.Network.{Network}
 use Rattle.cmd_network.specs.Conforming.{Conforms, output_names}
 use Rattle.cmd_ports.specs.Matching.{AreMatched}
-use Rattle.rvc_engine.specs.Top.{top_asked}
+use Rattle.network_check.specs.Top.{top_asked}
 use Rattle.fnl_source.specs.Library.{IsLibraryNetwork}
 use Rattle.cmd_gen_network.specs.Objects.{library_of}
 use Rattle.cmd_gen_network.specs.Texts.{top_name}

@@ -11,7 +11,7 @@ use Rattle.cal_files.specs.Views.{file_names}
 use Rattle.cal_files.specs.declared.names.Names.{Names}
 use Rattle.cmd_ports.specs.Matching.{AreMatched, IsWrongWord}
 use Rattle.rvc_engine.specs.Built.{IsBuilt}
-use Rattle.rvc_engine.specs.Top.{top_asked}
+use Rattle.network_check.specs.Top.{top_asked}
 use Rattle.rvc_engine.specs.declared.image.Image.{Image}
 use Rattle.cmd_report.specs.Report.{last_line}
 use Rattle.cmd_report.specs.declared.status.Status.{Status}

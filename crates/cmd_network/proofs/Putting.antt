@@ -1,8 +1,8 @@
 -- How a command is answered, by whether its report was put.
 use Rattle.std.proofs.Common.{◌≡◌, ⊎_elim, ℕ, List, refl, sym, subst}
 use Rattle.rvc_io.specs.Channels.{WritesOnlyAt}
-use Rattle.rvc_engine.specs.declared.fault.BuildFault.{BuildFault}
-use Rattle.rvc_engine.specs.declared.fault.BuildFault.TheVariants as build
+use Rattle.network_check.specs.declared.fault.BuildFault.{BuildFault}
+use Rattle.network_check.specs.declared.fault.BuildFault.TheVariants as build
 use Rattle.cmd_report.specs.About.{About}
 use Rattle.cmd_report.specs.Report.{last_line, report}
 use Rattle.cmd_report.specs.declared.status.Status.{Status}

@@ -4,7 +4,7 @@ use Rattle.rvc_base.specs.declared.refusal.Refusal.{Refusal}
 use Rattle.cal_files.specs.Loading.{TellsAll}
 use Rattle.cmd_network.specs.Conforming.{Opened}
 use Rattle.cmd_ports.specs.Matching.{IsWrongWord}
-use Rattle.rvc_engine.specs.Laws.{NetworksAreNotRefused}
+use Rattle.network_check.specs.Laws.{NetworksAreNotRefused}
 use Rattle.fnl_source.specs.Library.{LibraryNetworksAreOne}
 use Rattle.cmd_report.specs.About.{About}
 use Rattle.cmd_network.specs.Answers.{BreaksJob, by_files, by_words}

@@ -10,7 +10,7 @@ use Rattle.net_model.specs.Network.{Network}
 use Rattle.fnl_files.specs.Loading.{IsFaulted}
 use Rattle.cmd_ports.specs.Matching.{IsWrongWord}
 use Rattle.cmd_network.specs.Conforming.{Opened}
-use Rattle.rvc_engine.specs.Refused.{RefusesTop}
+use Rattle.network_check.specs.Refused.{RefusesTop}
 use Rattle.cmd_report.specs.About.{About}
 use Rattle.cmd_report.specs.Report.{report}
 use Rattle.cmd_report.specs.declared.status.Status.{Status}

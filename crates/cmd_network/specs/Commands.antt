@@ -18,9 +18,9 @@ use Rattle.cmd_ports.specs.Matching.{AreMatched, IsWrongWord}
 use Rattle.cmd_network.specs.Conforming.{ConformsWith, Opened, names_of_ports}
 use Rattle.determinacy_cert.specs.declared.fault.CertFault.{CertFault}
 use Rattle.rvc_engine.specs.Built.{AreJudged}
-use Rattle.rvc_engine.specs.Checked.{AreRead}
-use Rattle.rvc_engine.specs.Refused.{RefusesTop}
-use Rattle.rvc_engine.specs.Top.{top_asked}
+use Rattle.network_check.specs.Checked.{AreRead}
+use Rattle.network_check.specs.Refused.{RefusesTop}
+use Rattle.network_check.specs.Top.{top_asked}
 use Rattle.cmd_run_network.specs.Files.{AreInputs, IsChannelOf, OpensOnly}
 use Rattle.cmd_run_network.specs.Leaving.{Setting, setting_of}
 use Rattle.cmd_report.specs.About.{About}

@@ -9,8 +9,8 @@ use Rattle.rvc_words.specs.Words.{port_text}
 use Rattle.rvc_words.specs.declared.job.Job.{Job}
 use Rattle.cal_files.specs.Views.{file_names}
 use Rattle.cal_files.specs.declared.names.Names.{Names}
-use Rattle.rvc_engine.specs.declared.fault.BuildFault.{BuildFault}
-use Rattle.rvc_engine.specs.declared.fault.BuildFault.TheVariants as build
+use Rattle.network_check.specs.declared.fault.BuildFault.{BuildFault}
+use Rattle.network_check.specs.declared.fault.BuildFault.TheVariants as build
 use Rattle.cmd_report.specs.About.{About}
 use Rattle.cmd_report.specs.Puts.{GetsLess, GetsText}
 use Rattle.cmd_report.specs.declared.status.ReadAt.TheVariants.{File}

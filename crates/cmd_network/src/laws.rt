@@ -3,7 +3,7 @@
 ghost use Rattle.cmd_network.specs.Commands.{ConformingAreNotRefused};
 
 use fnl_source::one_library_network;
-use rvc_engine::networks_are_not_refused;
+use network_check::networks_are_not_refused;
 
 /// If a library tells of each name, a job that conforms isn't refused: neither its files nor its port words, whichever
 /// ports are opened.

@@ -4,7 +4,7 @@ ghost use Rattle.std.specs.Prelude.{◌≡◌};
 ghost use Rattle.cmd_network.specs.Steps.{answered, status_of_build};
 
 use cmd_report::{REPORT_CHANNEL, ReadAt, Status};
-use rvc_engine::BuildFault;
+use network_check::BuildFault;
 use rvc_io::Failed;
 
 /// The status of a network that isn't given.

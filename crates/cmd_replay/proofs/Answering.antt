@@ -27,9 +27,9 @@ use Rattle.trace_replay.specs.declared.replayed.Replayed.{Replayed}
 use Rattle.trace_replay.specs.declared.why.ReplayFault.{ReplayFault}
 use Rattle.trace_replay.specs.declared.why.ReplayFault.TheVariants as judged
 use Rattle.rvc_engine.specs.Built.{HasImage, IsBuilt}
-use Rattle.rvc_engine.specs.Refused.{IsFault, IsOutside}
-use Rattle.rvc_engine.specs.declared.fault.BuildFault.{BuildFault}
-use Rattle.rvc_engine.specs.declared.fault.BuildFault.TheVariants as build
+use Rattle.network_check.specs.Refused.{IsFault, IsOutside}
+use Rattle.network_check.specs.declared.fault.BuildFault.{BuildFault}
+use Rattle.network_check.specs.declared.fault.BuildFault.TheVariants as build
 use Rattle.rvc_engine.specs.declared.image.Image.{Image}
 use Rattle.cmd_report.specs.About.{About}
 use Rattle.cmd_report.specs.Report.{last_line}

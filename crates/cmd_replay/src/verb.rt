@@ -6,7 +6,7 @@ ghost use Rattle.cal_model.specs.Selection.{State};
 ghost use Rattle.net_model.specs.Network.{Network};
 ghost use Rattle.rvc_base.specs.declared.refusal.Refusal.{Refusal as Denial};
 ghost use Rattle.cal_files.specs.Loading.{Counts, TellsAll};
-ghost use Rattle.rvc_engine.specs.Top.{top_asked};
+ghost use Rattle.network_check.specs.Top.{top_asked};
 ghost use Rattle.cmd_network.specs.Answers.{IsAnswered};
 ghost use Rattle.cmd_network.specs.Commands.{command, met_by};
 ghost use Rattle.cmd_run_network.specs.Network.{words_of};

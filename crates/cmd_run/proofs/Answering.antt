@@ -32,7 +32,7 @@ use Rattle.round_runner.specs.declared.outcome.RunEnd.TheVariants as end
 use Rattle.net_cells.specs.SourceRuns.{SourcesAreActorNetworks}
 use Rattle.net_cells.specs.Sources.{IsActorNetwork}
 use Rattle.rvc_engine.specs.Built.{HasImage, IsBuilt}
-use Rattle.rvc_engine.specs.Top.{top_asked}
+use Rattle.network_check.specs.Top.{top_asked}
 use Rattle.rvc_engine.specs.declared.image.Image.{Image}
 use Rattle.cmd_run_network.specs.Growth.{GrowTooFar}
 use Rattle.cmd_run_network.specs.Answering.{AreAllOpen, EndIsCaused, HeadFails, IsPermitted, IsUnread, IsUnwritten, LeavesJob}

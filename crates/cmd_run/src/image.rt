@@ -5,7 +5,7 @@ ghost use Rattle.rvc_words.specs.Words.{IsWithin, job_text};
 ghost use Rattle.cal_files.specs.Loading as loading;
 ghost use Rattle.cal_files.specs.Views.{file_names};
 ghost use Rattle.rvc_engine.specs.Built.{IsBuilt};
-ghost use Rattle.rvc_engine.specs.Top.{top_asked};
+ghost use Rattle.network_check.specs.Top.{top_asked};
 ghost use Rattle.cmd_network.specs.Answers.{IsAnswered};
 ghost use Rattle.cmd_run.specs.Ends.{Comes};
 ghost use Rattle.cmd_run.specs.Steps.{CellsRan, ImageRan, IsSourceImage};

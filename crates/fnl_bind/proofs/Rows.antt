@@ -1,5 +1,5 @@
 -- Worked networks: the rules that they break, and the trees that they make.
-use Rattle.std.proofs.Common.{◌≡◌, ◌+◌, ℕ, zero, suc, true, false, List, [], ◌∷◌, pos, refl}
+use Rattle.std.proofs.Common.{◌≡◌, ◌+◌, ℕ, zero, suc, true, false, List, [], ◌∷◌, ◌++◌, pos, refl}
 use Rattle.std.specs.Prelude.{codes, slice_get}
 use Rattle.rvc_base.specs.declared.scalar.Scalar.TheVariants as scalar
 use Rattle.rvc_base.specs.Rules as rules
@@ -12,7 +12,7 @@ use Rattle.cal_model.specs.Value.{Num}
 use Rattle.cal_check.specs.Variables.{Found}
 use Rattle.fnl_read.specs.Net.{Net, Port, a_port, Decl, a_decl, Parameter, a_parameter, Instance, an_instance, Size, a_size, Connection, a_connection}
 use Rattle.cal_check.specs.Violations.{violation}
-use Rattle.fnl_bind.specs.Scopes.{last_component, ports_broken}
+use Rattle.fnl_bind.specs.Scopes.{last_component, ports_broken, unknown_in}
 use Rattle.rvc_base.specs.declared.refusal.Place.{Place as FilePlace}
 use Rattle.fnl_tree.specs.Tree.{Inner, InnerNet, InnerLeaf, Part, Net as BoundNet, Leaf}
 use Rattle.fnl_bind.specs.Library.{Entry}
@@ -167,6 +167,69 @@ an_unknown_name = refl
 an_unknown_type : breaks (net (a_port true (plain_type (codes "byte") 10) (codes "P") 9 ∷ []) [] [] [])
     ≡ found rules.unknown_name 10 ∷ []
 an_unknown_type = refl
+
+-- ---- names inside expressions that only a network's text can have
+
+-- `var int q = (zz);`
+in_parentheses : breaks (decls (variable (int 22) (codes "q") (tree.paren (name (codes "zz") 31) 30) 22 ∷ []))
+    ≡ found rules.unknown_name 31 ∷ []
+in_parentheses = refl
+
+abbrev choice : Tree → Tree
+choice test = tree.if_expr test (number 1 10) (number 2 17) 4
+
+abbrev counting : List ℕ → Tree → Tree → ℕ → Tree
+counting text from to at = tree.gen (int (at + 4)) (tree.ident text (at + 8)) from to at
+
+-- `[item : gens]`
+abbrev made : Tree → List Tree → Tree
+made item gens = tree.comp item (listed gens) 0
+
+-- `for int i in 0 .. 3`
+abbrev up_to_3 : Tree
+up_to_3 = counting (codes "i") (number 0 18) (number 3 23) 5
+
+abbrev n_alone : List (List ℕ)
+n_alone = codes "n" ∷ []
+
+an_unknown_test : unknown_in (choice (name (codes "zz") 7)) n_alone ≡ violation rules.unknown_name 7
+an_unknown_test = refl
+
+a_known_test : unknown_in (choice (name (codes "n") 7)) n_alone ≡ []
+a_known_test = refl
+
+-- `f(zz)`: of the call, and of its argument behind it
+a_call : unknown_in (tree.call (codes "f") (listed (name (codes "zz") 6 ∷ [])) 4) n_alone
+    ≡ violation rules.unknown_name 4 ++ violation rules.unknown_name 6
+a_call = refl
+
+-- a declaration is no function
+a_call_of_a_declaration : unknown_in (tree.call (codes "n") tree.nil 4) n_alone ≡ violation rules.unknown_name 4
+a_call_of_a_declaration = refl
+
+an_unknown_place : unknown_in (tree.index (name (codes "n") 4) (name (codes "zz") 6) 4) n_alone ≡ violation rules.unknown_name 6
+an_unknown_place = refl
+
+an_unknown_item : unknown_in (made (name (codes "j") 1) (up_to_3 ∷ [])) n_alone ≡ violation rules.unknown_name 1
+an_unknown_item = refl
+
+-- the item sees the generators, and so do those behind them
+a_known_item : unknown_in (made (name (codes "i") 1) (up_to_3 ∷ counting (codes "k") (name (codes "i") 43) (name (codes "n") 48) 30 ∷ [])) n_alone ≡ []
+a_known_item = refl
+
+-- neither a generator before it nor a generator itself does
+a_later_generator : unknown_in (made (number 1 1) (counting (codes "k") (number 0 18) (name (codes "i") 23) 5 ∷ up_to_3 ∷ [])) n_alone
+    ≡ violation rules.unknown_name 23
+a_later_generator = refl
+
+its_own_bound : unknown_in (made (number 1 1) (counting (codes "k") (number 0 18) (name (codes "k") 23) 5 ∷ [])) n_alone
+    ≡ violation rules.unknown_name 23
+its_own_bound = refl
+
+-- behind a comprehension nobody sees its generators
+behind_a_comprehension : unknown_in (tree.list (listed (made (name (codes "i") 1) (up_to_3 ∷ []) ∷ name (codes "i") 28 ∷ [])) 0) n_alone
+    ≡ violation rules.unknown_name 28
+behind_a_comprehension = refl
 
 -- ---- types
 

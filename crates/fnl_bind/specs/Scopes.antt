@@ -48,19 +48,49 @@ named_twice names = twice bytes_eq network_name_twice [] names
 
 -- ---- names that are unknown
 
--- Names in an expression or a type that aren't declared, and types that there aren't. The place is that of the element.
-abbrev pub unknown_in : Tree → List (List ℕ) → List Violation
-unknown_in (tree.variable name at) names = unless (is_among name names) unknown_name at
-unknown_in (tree.cons t ts) names = unknown_in t names ++ unknown_in ts names
-unknown_in (tree.present t) names = unknown_in t names
-unknown_in (tree.list items at) names = unknown_in items names
-unknown_in (tree.prefix op e at) names = unknown_in e names
-unknown_in (tree.binary op l r at) names = unknown_in l names ++ unknown_in r names
-unknown_in (tree.type_of (tree.ident name place) args at) names =
-    unless (is_word name) unknown_name at ++ unknown_in args names
-unknown_in (tree.shape_arg x shape) names = unknown_in shape names
-unknown_in (tree.value_arg x value) names = unknown_in value names
-unknown_in other names = []
+-- the name of a generator's variable
+abbrev pub gen_name : Tree → List ℕ
+gen_name (tree.gen shape (tree.ident name place) from to at) = name
+gen_name other = []
+
+-- the names inside these generators: a generator's variable hides what has its name outside
+abbrev pub inside_gens : (gens : Tree) → List (List ℕ) → List (List ℕ)
+inside_gens (tree.cons g gens) names = inside_gens gens (gen_name g ∷ names)
+inside_gens other names = names
+
+abbrev mutual
+  -- Names in an expression or a type that aren't declared, and types that there aren't. The place is that of the
+  -- expression or of the type. A network declares no function, so the name of each call is unknown.
+  pub unknown_in : Tree → List (List ℕ) → List Violation
+  unknown_in (tree.cons t ts) names = unknown_in t names ++ unknown_in ts names
+  unknown_in (tree.present t) names = unknown_in t names
+  unknown_in (tree.number n at) names = []
+  unknown_in (tree.truth b at) names = []
+  unknown_in (tree.variable name at) names = unless (is_among name names) unknown_name at
+  unknown_in (tree.call name args at) names = violation unknown_name at ++ unknown_in args names
+  unknown_in (tree.paren e at) names = unknown_in e names
+  unknown_in (tree.if_expr test first other at) names =
+      unknown_in test names ++ (unknown_in first names ++ unknown_in other names)
+  unknown_in (tree.list items at) names = unknown_in items names
+  unknown_in (tree.comp item gens at) names =
+      unknown_in item (inside_gens gens names) ++ unknown_in_gens gens names
+  unknown_in (tree.gen shape name from to at) names =
+      unknown_in shape names ++ (unknown_in from names ++ unknown_in to names)
+  unknown_in (tree.index base place at) names = unknown_in base names ++ unknown_in place names
+  unknown_in (tree.prefix op e at) names = unknown_in e names
+  unknown_in (tree.binary op l r at) names = unknown_in l names ++ unknown_in r names
+  unknown_in (tree.type_of (tree.ident name place) args at) names =
+      unless (is_word name) unknown_name at ++ unknown_in args names
+  unknown_in (tree.shape_arg x shape) names = unknown_in shape names
+  unknown_in (tree.value_arg x value) names = unknown_in value names
+  -- nothing, and what stands in no expression and no type
+  unknown_in other names = []
+
+  -- Names in generators, each of which sees those before it, and not itself.
+  pub unknown_in_gens : (gens : Tree) → List (List ℕ) → List Violation
+  unknown_in_gens (tree.cons g gens) names =
+      unknown_in g names ++ unknown_in_gens gens (gen_name g ∷ names)
+  unknown_in_gens other names = []
 
 abbrev pub unknown_in_ports : List Port → List (List ℕ) → List Violation
 unknown_in_ports [] names = []

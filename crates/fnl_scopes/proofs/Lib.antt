@@ -2,3 +2,4 @@ mod Steps
 mod Sizes
 mod Repeats
 mod Keys
+mod Gens

@@ -8,6 +8,7 @@
 
 mod circles;
 mod fault;
+mod frames;
 mod known;
 mod name_set;
 mod named;

@@ -2,8 +2,9 @@
 
 use cal_files::Names;
 use lowered_actor::Lowered;
+use network_check::BuildFault;
 use rvc_base::Memory;
-use rvc_engine::{BuildFault, Image, build};
+use rvc_engine::{Image, build};
 use rvc_io::{MemLibrary, names_are_distinct};
 use std::alloc::{AllocError, Global};
 use std::sync::Arc;

@@ -85,3 +85,18 @@ pub fn scope_told(a: Global, files: &str) -> Result<String, Memory> {
         Err(Front::Memory) => Ok(String::from_str(a, "Memory")?),
     }
 }
+
+/// The file of a class among these, as text, or `none`. The files stand as for [`scope_told`].
+///
+/// # Errors
+///
+/// `Memory` if memory runs out.
+pub fn file_told(a: Global, files: &str, class: &str) -> Result<String, Memory> {
+    let Some(set) = set_of(a, files)? else {
+        return Ok(String::from_str(a, "no files")?);
+    };
+    match set.get(class) {
+        Some(file) => printed(a, file),
+        None => Ok(String::from_str(a, "none")?),
+    }
+}

@@ -17,6 +17,6 @@ mod table;
 
 pub use asked::{Asked, told};
 pub use faults::fault_shown;
-pub use imported::scope_told;
+pub use imported::{file_told, scope_told};
 pub use names::names_of;
 pub use table::{answered, cut, role_of};

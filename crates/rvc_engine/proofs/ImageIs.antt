@@ -9,9 +9,9 @@ use Rattle.check_leaves.specs.Leaves.{actors_at_leaves}
 use Rattle.check_leaves.specs.declared.found.LeafActors.{LeafActors}
 use Rattle.fnl_source.specs.Source.{Files}
 use Rattle.rvc_engine.specs.Built.{AreJudged, HasImage, IsImageOf}
-use Rattle.rvc_engine.specs.Checked.{HasSource, IsNetworkOf, StandAtLeaves}
+use Rattle.network_check.specs.Checked.{HasSource, IsNetworkOf, StandAtLeaves}
 use Rattle.rvc_engine.specs.Compiling.{AreCompiled}
-use Rattle.rvc_engine.specs.declared.checked.Checked.{Checked}
+use Rattle.network_check.specs.declared.checked.Checked.{Checked}
 use Rattle.rvc_engine.specs.declared.compiling.Compiled.{Compiled}
 use Rattle.rvc_engine.specs.declared.image.Image.{Image}
 use Rattle.rvc_engine.proofs.Compiled.{as_many_compiled}

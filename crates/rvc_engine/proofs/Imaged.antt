@@ -9,15 +9,15 @@ use Rattle.fnl_files.specs.Views.{files_in}
 use Rattle.fnl_source.specs.Files.{Asked, class_asked}
 use Rattle.fnl_source.specs.Library.{IsLibraryNetwork, LibraryNetworksAreOne}
 use Rattle.rvc_engine.specs.Built.{IsBuilt, IsImageOf}
-use Rattle.rvc_engine.specs.Checked.{CountsMisses}
+use Rattle.network_check.specs.Checked.{CountsMisses}
 use Rattle.rvc_engine.specs.Images.{MeansNet}
-use Rattle.rvc_engine.specs.Laws.{NetworksAreNotRefused}
-use Rattle.rvc_engine.specs.Refused.{IsFault, IsOutside, RefusesTop}
-use Rattle.rvc_engine.specs.Steps.{IsHeld}
-use Rattle.rvc_engine.specs.declared.held.Held.{Held}
+use Rattle.network_check.specs.Laws.{NetworksAreNotRefused}
+use Rattle.network_check.specs.Refused.{IsFault, IsOutside, RefusesTop}
+use Rattle.network_check.specs.Steps.{IsHeld}
+use Rattle.network_check.specs.declared.held.Held.{Held}
 use Rattle.rvc_engine.specs.declared.image.Image.{Image}
-use Rattle.rvc_engine.specs.declared.fault.BuildFault.{BuildFault}
-use Rattle.rvc_engine.specs.declared.fault.BuildFault.TheVariants.{Refused, ReadFault, Memory}
+use Rattle.network_check.specs.declared.fault.BuildFault.{BuildFault}
+use Rattle.network_check.specs.declared.fault.BuildFault.TheVariants.{Refused, ReadFault, Memory}
 
 -- ---- of files that were checked
 

@@ -1,14 +1,3 @@
-mod Tops
-mod Places
-mod Sourced
-mod OneNet
-mod Causes
-mod OneOrder
-mod Kept
-mod Ready
-mod Counted
-mod Ended
-mod LoneTrees
 mod Compiled
 mod ImageIs
 mod Imaged

@@ -14,7 +14,7 @@ use Rattle.determinacy_cert.specs.declared.fault.CertFault.{CertFault}
 use Rattle.determinacy_cert.specs.declared.fault.CertFault.TheVariants.{Uncertified, Memory}
 use Rattle.fnl_source.specs.Files.{Asked, class_asked, files_of, Read}
 use Rattle.fnl_source.specs.Source.{Files, IsSourceNetwork}
-use Rattle.rvc_engine.specs.Checked.{AreRead, IsNetworkOf}
+use Rattle.network_check.specs.Checked.{AreRead, IsNetworkOf}
 use Rattle.rvc_engine.specs.declared.image.Image.{Image}
 
 -- ---- actors

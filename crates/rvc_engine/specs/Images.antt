@@ -6,8 +6,8 @@ use Rattle.cal_model.specs.Selection.{State}
 use Rattle.net_model.specs.Network.{Network}
 use Rattle.fnl_source.specs.Source.{Files}
 use Rattle.rvc_engine.specs.Built.{HasImage}
-use Rattle.rvc_engine.specs.Checked.{HasSource}
-use Rattle.rvc_engine.specs.declared.checked.Checked.{Checked}
+use Rattle.network_check.specs.Checked.{HasSource}
+use Rattle.network_check.specs.declared.checked.Checked.{Checked}
 use Rattle.rvc_engine.specs.declared.image.Image.{Image}
 
 -- the image is that of this network

@@ -1,9 +1,3 @@
-pub mod Top
-pub mod Checked
-pub mod Refused
-pub mod Laws
-pub mod Steps
-pub mod LoneNet
 pub mod Built
 pub mod Answering
 pub mod Compiling

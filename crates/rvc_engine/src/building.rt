@@ -3,15 +3,14 @@
 ghost use Rattle.std.specs.Prelude.{◌≡◌, ℕ, List, IfErr, IfOk};
 ghost use Rattle.fnl_files.specs.Views.{files_in};
 ghost use Rattle.rvc_engine.specs.Built.{IsImageOf};
-ghost use Rattle.rvc_engine.specs.Checked.{HasSource};
+ghost use Rattle.network_check.specs.Checked.{HasSource};
 ghost use Rattle.rvc_engine.specs.Images.{IsAnySource};
-ghost use Rattle.rvc_engine.specs.declared.fault.BuildFault.TheVariants as faults;
+ghost use Rattle.network_check.specs.declared.fault.BuildFault.TheVariants as faults;
 
-use crate::checked::Checked;
 use crate::compiling::{codes_at, compile_all, uncertified_at};
-use crate::fault::BuildFault;
 use crate::image::Image;
 use fnl_files::NetworkFiles;
+use network_check::{BuildFault, Checked};
 use rvc_base::Memory;
 use std::alloc::Global;
 

@@ -10,7 +10,7 @@ ghost use Rattle.cal_ast.specs.Tree.{Tree};
 ghost use Rattle.cal_model.specs.Selection.{State};
 ghost use Rattle.net_model.specs.Network.{Network};
 ghost use Rattle.cmd_network.specs.Conforming.{Conforms, ConformsWith, names_of_ports, no_ports};
-ghost use Rattle.rvc_engine.specs.Top.{top_asked};
+ghost use Rattle.network_check.specs.Top.{top_asked};
 ghost use Rattle.cmd_run_network.specs.Growth.{GrowTooFar};
 ghost use Rattle.cmd_network.specs.Answers.{IsAnswered};
 ghost use Rattle.cmd_network.specs.Commands.{RefusesJob, command, met_by};

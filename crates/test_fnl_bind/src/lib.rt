@@ -12,6 +12,8 @@ mod answers;
 #[cfg(test)]
 mod cases;
 #[cfg(test)]
+mod expressions;
+#[cfg(test)]
 mod limits;
 #[cfg(test)]
 mod refusals;

@@ -25,7 +25,12 @@ fn told(alloc: Global, found: Result<(), ScopeFault>) -> Result<String, AllocErr
     }
 }
 
-fn broken_in(alloc: Global, net: &NetFile, class: &str, above: &str) -> Result<String, AllocError> {
+pub(crate) fn broken_in(
+    alloc: Global,
+    net: &NetFile,
+    class: &str,
+    above: &str,
+) -> Result<String, AllocError> {
     let classes = classes_of(alloc, above)?;
     told(alloc, check_scopes(alloc, net, class, &classes))
 }

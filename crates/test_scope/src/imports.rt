@@ -1,6 +1,6 @@
 //! Actors with what their imports lead to, or the rule of scope that one of their files breaks.
 
-use kit_scopes::{cut, scope_told};
+use kit_scopes::{cut, file_told, scope_told};
 use std::alloc::Global;
 use std::process::Abort;
 
@@ -150,3 +150,24 @@ file V package q; import U.*; unit V : end
 # S6 in 2 at 0
 file A import U.*; actor A() ==> : end
 file U import U.*; unit U : end";
+
+#[test]
+fn files_by_their_classes(rt: HostRuntime) {
+    for row in BY_CLASS.lines() {
+        let (class, want) = cut(row, " = ");
+        let found = file_told(rt.alloc(), THREE, class).expect(&rt, "a text");
+        let holds = found.as_str().trim_end() == want;
+        assert!(rt; holds, "{found}");
+    }
+}
+
+const THREE: &str = "A import lib.U.k; actor A() ==> : end
+file lib.U package lib; unit U : int k = 1; end
+file U unit U : end";
+
+/// Classes with the files that stand under them.
+const BY_CLASS: &str = "A = import lib . U . k ; actor A ( ) ==> : end
+lib.U = package lib ; unit U : int k = 1 ; end
+U = unit U : end
+lib = none
+lib.A = none";

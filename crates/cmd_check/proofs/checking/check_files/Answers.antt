@@ -1,7 +1,7 @@
 use Rattle.std.proofs.Common.{rules, [], refl, subst}
 use Rattle.cal_files.specs.Views.{file_names}
-use Rattle.rvc_engine.specs.Refused.{IsFault}
-use Rattle.rvc_engine.specs.Top.{top_asked}
+use Rattle.network_check.specs.Refused.{IsFault}
+use Rattle.network_check.specs.Top.{top_asked}
 use Rattle.cmd_report.specs.Report.{last_line}
 use Rattle.cmd_network.specs.Steps.{IsPut, about_words, status_of_build}
 use Rattle.cmd_network.proofs.Putting.{last_alone, line_answered}

@@ -2,8 +2,8 @@ use Rattle.std.proofs.Common.{map, subst}
 use Rattle.rvc_words.specs.Words.{port_text}
 use Rattle.cal_files.specs.Views.{file_names}
 use Rattle.rvc_engine.specs.Built.{IsBuilt}
-use Rattle.rvc_engine.specs.Refused.{IsFault}
-use Rattle.rvc_engine.specs.Top.{top_asked}
+use Rattle.network_check.specs.Refused.{IsFault}
+use Rattle.network_check.specs.Top.{top_asked}
 use Rattle.cmd_gen_network.specs.Objects.{file_told}
 use Rattle.cmd_gen.specs.Steps.{CameOf, IsLine}
 use Rattle.cmd_gen.proofs.Made.{came_answered, unbuilt_answered}

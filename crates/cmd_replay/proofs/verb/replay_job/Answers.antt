@@ -4,8 +4,8 @@ use Rattle.fnl_source.specs.Files.{class_asked, files_of}
 use Rattle.fnl_source.specs.Library.{IsLibraryNetwork}
 use Rattle.cmd_report.specs.Report.{last_line}
 use Rattle.rvc_engine.specs.Built.{IsBuilt}
-use Rattle.rvc_engine.specs.Refused.{IsFault, IsOutside}
-use Rattle.rvc_engine.specs.Top.{top_asked}
+use Rattle.network_check.specs.Refused.{IsFault, IsOutside}
+use Rattle.network_check.specs.Top.{top_asked}
 use Rattle.cmd_network.specs.Commands.{Command, command, met_by}
 use Rattle.cmd_network.specs.Steps.{IsPut, about_words, status_of_build}
 use Rattle.cmd_replay.proofs.Answering.{image_answered, image_complete, no_verdict, unbuilt_answered, unbuilt_complete}

@@ -1,7 +1,7 @@
 use Rattle.std.specs.Prelude.{Err}
 use Rattle.cal_files.specs.Views.{file_names}
 use Rattle.fnl_source.specs.Files.{class_asked}
-use Rattle.rvc_engine.specs.Top.{top_asked}
+use Rattle.network_check.specs.Top.{top_asked}
 use Rattle.rvc_engine.proofs.Imaged.{built_missed, built_of, completes_image, no_image, none_checked, refuses_image}
 use Rattle.rvc_engine.proofs.network.build.Goals as goal
 

@@ -7,7 +7,7 @@ use Rattle.cmd_fmt.specs.Reports.{IsCutShort}
 use Rattle.cmd_gen.specs.Jobs.{GeneratedConform, instances_of}
 use Rattle.cmd_replay.specs.Replays.{ConformsToReplay, RefusesReplay}
 use Rattle.cmd_network.specs.Commands.{RefusesJob}
-use Rattle.rvc_engine.specs.Top.{top_asked}
+use Rattle.network_check.specs.Top.{top_asked}
 use Rattle.rvc_words.specs.Words.{job, job_text, texts}
 use Rattle.rvc_top.proofs.Printed.{memory_cut}
 use Rattle.rvc_top.proofs.SameJob.{same_job}

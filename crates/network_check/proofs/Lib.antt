@@ -1,0 +1,11 @@
+pub mod Tops
+pub mod Places
+pub mod Sourced
+pub mod OneNet
+pub mod Causes
+pub mod OneOrder
+pub mod Kept
+pub mod Ready
+pub mod Counted
+pub mod Ended
+pub mod LoneTrees

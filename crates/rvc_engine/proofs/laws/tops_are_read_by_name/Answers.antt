@@ -1,5 +1,0 @@
-use Rattle.rvc_engine.proofs.Tops.{tops_are_read}
-use Rattle.rvc_engine.proofs.laws.tops_are_read_by_name.Goals as goal
-
-pub returns : goal.returns
-returns c = tops_are_read
