@@ -10,10 +10,9 @@ mkdir -p "$work/crates/lowered_text/src"
 below=$(awk -v tops=rvc_engine -f "$top/bench/crates_below.awk" "$top/crates.txt")
 for name in $below; do
     mkdir -p "$work/crates/$name"
-    cp -r "$top/crates/$name/src" "$top/crates/$name/specs" "$work/crates/$name/"
-    if [ -d "$top/crates/$name/proofs" ]; then
-        cp -r "$top/crates/$name/proofs" "$work/crates/$name/"
-    fi
+    for part in src specs proofs; do
+        [ ! -d "$top/crates/$name/$part" ] || cp -r "$top/crates/$name/$part" "$work/crates/$name/"
+    done
     grep "^$name:" "$top/crates.txt" >>"$work/crates.txt"
 done
 echo "lowered_text: rvc_engine network_check cal_files lowered_actor code_ir schedule_fsm fnl_flatten rvc_io rvc_base" >>"$work/crates.txt"
