@@ -40,7 +40,7 @@ use Rattle.expr_lower.proofs.Filled.{grows_fill}
 use Rattle.rvc_base.specs.declared.scalar.Scalar.TheVariants as scalar
 use Rattle.expr_lower.proofs.ApartItems.{apart_adds, item_adds}
 use Rattle.expr_lower.proofs.FixedPlaces.{fixed_is_code, fixed_whole}
-use Rattle.list_lower.proofs.+lower.Goals as goal
+use Rattle.expr_lower.proofs.+lower.Goals as goal
 
 pub exprs::both-returns-clause-ok : goal.exprs::both-returns-clause-ok
 exprs::both-returns-clause-ok t c =

@@ -4,7 +4,7 @@ use Rattle.cal_ast.specs.View.{expr_tree}
 use Rattle.lower_base.specs.PartView.{places_of}
 use Rattle.expr_lower.specs.CounterView.{gens_of}
 use Rattle.expr_lower.proofs.Weights.{spread, weight}
-use Rattle.list_lower.proofs.+lower.Given as goal
+use Rattle.expr_lower.proofs.+lower.Given as goal
 
 abbrev pub decreases-exprs::lower : goal.decreases-exprs::lower
 decreases-exprs::lower l = weight (expr_tree l.e.now)
