@@ -19,7 +19,7 @@ use Rattle.const_env.specs.declared.fault.KindFault.{KindFault}
 use Rattle.const_env.specs.declared.fault.KindFault.TheVariants as fault
 use Rattle.cal_check.specs.Actions.{Around, action_of, tag_parts}
 use Rattle.cal_check.specs.Actors.{actions_broken, actions_in, actions_of, initialized_twice, is_initialize, place_of_action}
-use Rattle.cal_check.specs.Schedules.{chains_broken, moves_broken, pairs_in, priorities_broken, schedule_broken, schedule_in, some_departs, stands_somewhere, tags_broken, transition_of}
+use Rattle.cal_check.specs.Schedules.{chains_broken, moves_broken, pairs_in, priorities_broken, schedule_broken, schedule_in, some_conflict, stands_somewhere, tags_broken, transition_of}
 use Rattle.cal_check.specs.Violations.{Violation, said, unless, violation, without_constants}
 use Rattle.check_stmt.specs.Judging.{Refuses, is_passed}
 use Rattle.check_stmt.proofs.Said.{said_append, said_next, said_on}
@@ -73,10 +73,10 @@ moves_other (tree.cons (tree.move from tags to at) ms) before actor =
     let moves = moves_of actor (transition_of (tree.move from tags to at)) in go moves (moves_other ms (before ++ moves) actor)
   where
     go : (moves : List Move) → Each IsOther (moves_broken ms (before ++ moves) actor)
-        → Each IsOther (tags_broken tags actor.actions ++ (unless (not (some_departs moves before)) ambiguous_transition at ++ moves_broken ms (before ++ moves) actor))
+        → Each IsOther (tags_broken tags actor.actions ++ (unless (not (some_conflict moves before)) ambiguous_transition at ++ moves_broken ms (before ++ moves) actor))
     go moves later =
         each-append IsOther (tags_broken tags actor.actions) _ (tags_other tags actor.actions)
-        (each-append IsOther (unless (not (some_departs moves before)) ambiguous_transition at) _ (ambiguous_other (not (some_departs moves before)) at) later)
+        (each-append IsOther (unless (not (some_conflict moves before)) ambiguous_transition at) _ (ambiguous_other (not (some_conflict moves before)) at) later)
 moves_other other before actor = tt
 
 schedule_other : (o : Option Tree) (actor : Actor) → Each IsOther (schedule_broken o actor)

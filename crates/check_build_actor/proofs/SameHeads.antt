@@ -9,7 +9,7 @@ use Rattle.cal_model.specs.Sound.{max_states}
 use Rattle.cal_model.specs.Tags.{Transition, each_above, is_prefix_tag, may_be_meant, moves_by, moves_by_tags, moves_of, number_of_name, pairs_of, stands_for, stands_from}
 use Rattle.cal_check.specs.Violations.{unless}
 use Rattle.cal_check.specs.Actions.{tag_parts}
-use Rattle.cal_check.specs.Schedules.{chains_broken, chains_pairs, moves_broken, pairs_in, priorities_broken, schedule_broken, schedule_in, some_departs, stands_somewhere, tags_broken, tags_listed, transition_of}
+use Rattle.cal_check.specs.Schedules.{chains_broken, chains_pairs, moves_broken, pairs_in, priorities_broken, schedule_broken, schedule_in, some_conflict, stands_somewhere, tags_broken, tags_listed, transition_of}
 use Rattle.check_build_actor.specs.Building.{heads_of, order_broken}
 
 -- ---- lists of actions with the same heads
@@ -73,9 +73,9 @@ module _ (a b : Actor) (acts : heads_of a.actions ≡ heads_of b.actions) (state
   transitions_same : (ms : Tree) (before : List Move) → moves_broken ms before a ≡ moves_broken ms before b
   transitions_same (tree.cons (tree.move from tags to at) ms) before =
       let t = transition_of (tree.move from tags to at) in
-      ap (λ vs. vs ++ (unless (not (some_departs (moves_of a t) before)) ambiguous_transition at ++ moves_broken ms (before ++ moves_of a t) a)) (tags_same tags)
-      ∙ ap (λ mv. tags_broken tags b.actions ++ (unless (not (some_departs mv before)) ambiguous_transition at ++ moves_broken ms (before ++ mv) a)) (moves_same t)
-      ∙ ap (λ vs. tags_broken tags b.actions ++ (unless (not (some_departs (moves_of b t) before)) ambiguous_transition at ++ vs)) (transitions_same ms (before ++ moves_of b t))
+      ap (λ vs. vs ++ (unless (not (some_conflict (moves_of a t) before)) ambiguous_transition at ++ moves_broken ms (before ++ moves_of a t) a)) (tags_same tags)
+      ∙ ap (λ mv. tags_broken tags b.actions ++ (unless (not (some_conflict mv before)) ambiguous_transition at ++ moves_broken ms (before ++ mv) a)) (moves_same t)
+      ∙ ap (λ vs. tags_broken tags b.actions ++ (unless (not (some_conflict (moves_of b t) before)) ambiguous_transition at ++ vs)) (transitions_same ms (before ++ moves_of b t))
   transitions_same other before = refl
 
   schedule_same : (members : Tree) → schedule_broken (schedule_in members) a ≡ schedule_broken (schedule_in members) b
