@@ -1,0 +1,1 @@
+"""What tools/draw and tools/timeline are made of: readers of actors, networks and traces, and writers of pictures."""
