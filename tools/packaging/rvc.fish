@@ -12,8 +12,8 @@ function __rvc_ports
             echo "$port[1]=$file"
         end
     else if test (count $words) -ge 3
-        set -l script (realpath (command -v rvc))
-        for port in ((dirname $script)/tools/port_names $words[3] 2>/dev/null)
+        set -l folder (dirname (realpath (command -v rvc)))
+        for port in ($folder/tools/port_names $words[3] 2>/dev/null)
             echo "$port="
         end
     end
