@@ -179,7 +179,7 @@ editors() {
     judge 'the type of a network' "$(vim_says "$here/dec/Top.xdf" '&filetype')" 'xml'
     judge 'the type of a network as text' "$(vim_says "$room/N.nl" '&filetype')" 'nl'
     judge 'the colours of an actor' "$(vim_says "$here/dec/Rld.cal" \
-        'join(map([[1, 1], [4, 1], [6, 3], [9, 3], [9, 8], [9, 15], [15, 3], [15, 13], [15, 15]],
+        'join(map([[1, 1], [4, 1], [6, 3], [9, 3], [9, 8], [9, 15], [16, 3], [16, 13], [16, 15]],
         "synIDattr(synID(v:val[0], v:val[1], 1), \"name\")"), " ")')" \
         'calComment calUnit calType calTag calMember calPort calMember calOperator calNumber'
     judge 'the heading of a network as text' "$(vim_says "$room/N.nl" 'synIDattr(synID(1, 1, 1), "name")')" 'nlHeading'
