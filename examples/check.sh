@@ -4,7 +4,8 @@
 #     examples/check.sh RVC
 #
 # RVC is the script `rvc` or another program of these words. A copy of the examples is run, so nothing is written here.
-# The status is 0 if nothing differs, 1 if something does, and 2 if nothing could be run.
+# What is kept is also compared with what other programs give, if these are installed. The status is 0 if nothing differs,
+# 1 if something does, and 2 if nothing could be run.
 set -u
 
 if [[ $# -ne 1 ]] || ! rvc=$(command -v -- "$1"); then
@@ -92,13 +93,41 @@ wants_prefix() { # the example, the folder to be in, the budget, words
     judge "out.bin of $* --budget $budget" "$same"
 }
 
+# All actors at the top of this are certified.
+wants_certified() { # the top
+    run . certify "$1"
+    judge "the status of certify $1: $status, not 0" "$(same_status 0)"
+}
+
+# `fmt` reads each source of a folder, and it reads the text that it prints as that text again.
+wants_printed() { # the example
+    local source
+    for source in "$here/$1"/*.cal; do
+        source=$1/$(basename -- "$source")
+        run . fmt "$source"
+        judge "the status of fmt $source: $status, not 0" "$(same_status 0)"
+        cp -- "$room/report.txt" "$room/Once.cal"
+        (cd "$room" && exec "$rvc" fmt Once.cal) >"$room/twice.txt" 2>/dev/null </dev/null
+        judge "the text of fmt $source, printed again" "$(same_files "$room/twice.txt" "$room/Once.cal")"
+    done
+}
+
+# Whether a program is here that gives what is kept. If it isn't, that is said.
+has() { # the program, the example
+    command -v -- "$1" >/dev/null && return
+    printf 'passed over: %s is not installed, so what is kept for %s is compared with the actors alone\n' "$1" "$2"
+    return 1
+}
+
 dec=(run dec/Top.xdf In=dec/in.bin Out=dec/out.bin --trace dec/trace.txt)
 block=(run block/Decoder.xdf Pairs=block/in.bin Video=block/out.bin --trace block/trace.txt)
+fir=(run fir/Chain.xdf In=fir/in.bin Out=fir/out.bin --trace fir/trace.txt)
 stall=(run Pair.xdf In=in.bin Out=out.bin --trace trace.txt)
 
 wants inc/expected inc 0 run Inc.cal In=a.bin Out=b.bin --trace t.txt
 wants dec/expected . 0 "${dec[@]}"
 wants block/expected . 0 "${block[@]}"
+wants fir/expected . 0 "${fir[@]}"
 wants stall/expected stall 6 "${stall[@]}"
 wants stall/grown stall 0 "${stall[@]}" --grow 4
 
@@ -108,10 +137,20 @@ for option in '--round turn' '--round seed:7' '--burst 1' '--burst 100'; do
     wants_alike dec . "${dec[@]}" $option
     # shellcheck disable=SC2086
     wants_alike block . "${block[@]}" $option
+    # shellcheck disable=SC2086
+    wants_alike fir . "${fir[@]}" $option
 done
 
 wants_prefix dec . 100 "${dec[@]}"
 wants_prefix block . 2000 "${block[@]}"
+
+wants_certified fir/Chain.xdf
+wants_printed fir
+if has python3 fir; then
+    python3 "$here/fir/make.py" "$room/made"
+    judge 'fir/in.bin by make.py' "$(same_files "$room/made/in.bin" "$here/fir/in.bin")"
+    judge 'fir/expected/out.bin by make.py' "$(same_files "$room/made/expected/out.bin" "$here/fir/expected/out.bin")"
+fi
 
 run fmt fmt AddClip.cal
 judge "the status of fmt AddClip.cal: $status, not 0" "$(same_status 0)"
