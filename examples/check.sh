@@ -99,6 +99,18 @@ wants_certified() { # the top
     judge "the status of certify $1: $status, not 0" "$(same_status 0)"
 }
 
+# The words decode to the bytes that are kept and end quiet, and every actor is certified.
+wants_decoded() { # the example, what is kept, words
+    local example=$1 kept=$2 same=no
+    shift 2
+    run . "$@"
+    judge "the status of $*: $status, not 0" "$(same_status 0)"
+    [[ $(tail -n 1 "$room/report.txt") == quiet &&
+        $(sed -n 's/^instances //p' "$room/report.txt") == "$(sed -n 's/^certified //p' "$room/report.txt")" ]] && same=yes
+    judge "the end of $*, or how many are certified" "$same"
+    judge "out.bin of $*" "$(same_files "$room/examples/$example/out.bin" "$here/$kept")"
+}
+
 # `fmt` reads each source of a folder, and it reads the text that it prints as that text again.
 wants_printed() { # the example
     local source
@@ -117,6 +129,14 @@ has() { # the program, the example
     command -v -- "$1" >/dev/null && return
     printf 'passed over: %s is not installed, so what is kept for %s is compared with the actors alone\n' "$1" "$2"
     return 1
+}
+
+# The program gives what is kept.
+gives() { # what is kept, the program and its words
+    local kept=$1 same=no
+    shift
+    (cd -- "$here" && exec "$@") 2>/dev/null | cmp -s -- - "$here/$kept" && same=yes
+    judge "$kept by $*" "$same"
 }
 
 dec=(run dec/Top.xdf In=dec/in.bin Out=dec/out.bin --trace dec/trace.txt)
@@ -150,6 +170,21 @@ if has python3 fir; then
     python3 "$here/fir/make.py" "$room/made"
     judge 'fir/in.bin by make.py' "$(same_files "$room/made/in.bin" "$here/fir/in.bin")"
     judge 'fir/expected/out.bin by make.py' "$(same_files "$room/made/expected/out.bin" "$here/fir/expected/out.bin")"
+fi
+
+for name in mono stereo damaged; do
+    adpcm=(run adpcm/Decoder.xdf "Wave=adpcm/$name.wav" Samples=adpcm/out.bin --trace adpcm/trace.txt)
+    for option in '--round all' '--round turn' '--burst 1'; do
+        # shellcheck disable=SC2086
+        wants_decoded adpcm "adpcm/expected/$name.raw" "${adpcm[@]}" $option
+    done
+done
+wants_certified adpcm/Decoder.xdf
+wants_printed adpcm
+if has sox adpcm; then
+    for name in mono stereo damaged; do
+        gives "adpcm/expected/$name.raw" sox "adpcm/$name.wav" -t raw -e signed -b 16 -L -
+    done
 fi
 
 run fmt fmt AddClip.cal
