@@ -187,6 +187,24 @@ if has sox adpcm; then
     done
 fi
 
+for name in grey full half wide progressive; do
+    jpeg=(run jpeg/Decoder.xdf "Jpeg=jpeg/$name.jpg" Image=jpeg/out.bin --trace jpeg/trace.txt)
+    wants_decoded jpeg "jpeg/expected/$name.pnm" "${jpeg[@]}"
+    wants_decoded jpeg "jpeg/expected/$name.pnm" "${jpeg[@]}" --round seed:7
+done
+for option in '--round turn' '--burst 1' '--burst 1000' '--workers 4'; do
+    jpeg=(run jpeg/Decoder.xdf Jpeg=jpeg/half.jpg Image=jpeg/out.bin --trace jpeg/trace.txt)
+    # shellcheck disable=SC2086
+    wants_decoded jpeg jpeg/expected/half.pnm "${jpeg[@]}" $option
+done
+wants_certified jpeg/Decoder.xdf
+wants_printed jpeg
+if has djpeg jpeg; then
+    for name in grey full half wide; do
+        gives "jpeg/expected/$name.pnm" djpeg -dct int -nosmooth -pnm "jpeg/$name.jpg"
+    done
+fi
+
 run fmt fmt AddClip.cal
 judge "the status of fmt AddClip.cal: $status, not 0" "$(same_status 0)"
 judge 'the text of fmt AddClip.cal' "$(same_files "$room/report.txt" "$here/fmt/expected")"
