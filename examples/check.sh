@@ -29,16 +29,26 @@ judge() { # what is judged, the answer of the comparison
     fi
 }
 
-# Runs words in a fresh copy of the examples. The report is kept beside the copy, and the status in `status`.
-run() { # the folder to be in, words
-    local folder=$1
-    shift
+# A fresh copy of the examples.
+copy() {
     rm -rf "$room/examples"
     cp -r -- "$here" "$room/examples" || exit 2
     find "$room/examples" -mindepth 2 -maxdepth 2 \( -name out.bin -o -name trace.txt -o -name b.bin -o -name t.txt \) \
         -exec rm -f {} +
+}
+
+# Runs words in the copy. The report is kept beside the copy, and the status in `status`.
+call() { # the folder to be in, words
+    local folder=$1
+    shift
     (cd "$room/examples/$folder" && exec "$rvc" "$@") >"$room/report.txt" 2>"$room/errors" </dev/null
     status=$?
+}
+
+# Runs words in a fresh copy.
+run() { # the folder to be in, words
+    copy
+    call "$@"
 }
 
 same_files() {
@@ -124,6 +134,22 @@ wants_printed() { # the example
     done
 }
 
+# A source of `tiny` with a mistake: the report ends with this line, and the guide shows it.
+wants_mistake() { # the file, the edit that makes it, the words, the line
+    local file=$room/examples/tiny/$1 same=no shown=no changed=no
+    copy
+    sed -i -E "$2" "$file"
+    [[ -z $2 ]] || ! cmp -s -- "$file" "$here/tiny/$1" && changed=yes
+    judge "whether $2 changes tiny/$1" "$changed"
+    # The words are several.
+    # shellcheck disable=SC2086
+    call . $3
+    [[ $(tail -n 1 "$room/report.txt") == "$4" ]] && same=yes
+    judge "the report of $3 after $2 in tiny/$1: $(tail -n 1 "$room/report.txt"), not $4" "$same"
+    grep -qxF -- "    $4" "$here/../docs/GUIDE.md" && shown=yes
+    judge "whether docs/GUIDE.md shows: $4" "$shown"
+}
+
 # Whether a program is here that gives what is kept. If it isn't, that is said.
 has() { # the program, the example
     command -v -- "$1" >/dev/null && return
@@ -141,12 +167,14 @@ gives() { # what is kept, the program and its words
 
 dec=(run dec/Top.xdf In=dec/in.bin Out=dec/out.bin --trace dec/trace.txt)
 block=(run block/Decoder.xdf Pairs=block/in.bin Video=block/out.bin --trace block/trace.txt)
+tiny=(run tiny/Decoder.xdf Bytes=tiny/in.bin Samples=tiny/out.bin --trace tiny/trace.txt)
 fir=(run fir/Chain.xdf In=fir/in.bin Out=fir/out.bin --trace fir/trace.txt)
 stall=(run Pair.xdf In=in.bin Out=out.bin --trace trace.txt)
 
 wants inc/expected inc 0 run Inc.cal In=a.bin Out=b.bin --trace t.txt
 wants dec/expected . 0 "${dec[@]}"
 wants block/expected . 0 "${block[@]}"
+wants tiny/expected . 0 "${tiny[@]}"
 wants fir/expected . 0 "${fir[@]}"
 wants stall/expected stall 6 "${stall[@]}"
 wants stall/grown stall 0 "${stall[@]}" --grow 4
@@ -157,6 +185,8 @@ for option in '--round turn' '--round seed:7' '--burst 1' '--burst 100'; do
     wants_alike dec . "${dec[@]}" $option
     # shellcheck disable=SC2086
     wants_alike block . "${block[@]}" $option
+    # shellcheck disable=SC2086
+    wants_alike tiny . "${tiny[@]}" $option
     # shellcheck disable=SC2086
     wants_alike fir . "${fir[@]}" $option
 done
@@ -204,6 +234,12 @@ if has djpeg jpeg; then
         gives "jpeg/expected/$name.pnm" djpeg -dct int -nosmooth -pnm "jpeg/$name.jpg"
     done
 fi
+
+wants_certified tiny/Decoder.xdf
+wants_printed tiny
+while IFS=@ read -r file edit words line; do
+    wants_mistake "$file" "$edit" "$words" "$line"
+done <"$here/tiny/mistakes"
 
 run fmt fmt AddClip.cal
 judge "the status of fmt AddClip.cal: $status, not 0" "$(same_status 0)"
