@@ -332,7 +332,7 @@ class CalReader:
         if self.takes("true") or self.takes("false"):
             return ("literal", word == "true")
         if word[:1].isdigit():
-            return ("literal", int(self.take(), 0))
+            return ("literal", number_of(self.take()))
         name = self.name()
         if self.takes("("):
             return ("call", name, self.listed(self.expression, ")"))
@@ -372,5 +372,12 @@ class CalReader:
 CLOSED = {"action", "initialize", "function", "procedure", "if", "while", "foreach", "begin", "schedule", "priority"}
 
 
+def number_of(word):
+    return int(word[2:], 16) if word.startswith("0x") else int(word)
+
+
 def read_cal(path, text):
-    return CalReader(path, text).file()
+    try:
+        return CalReader(path, text).file()
+    except RecursionError as error:
+        raise ReadError(f"{path}: expressions nest too deeply") from error

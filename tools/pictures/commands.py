@@ -43,12 +43,17 @@ class Words:
             raise ReadError(f"{self.values['--output']}: {error.strerror}") from error
 
 
+# How deeply what is read may nest, in calls.
+MOST_CALLS = 10000
+
+
 def usage(document):
     sys.exit(document.strip())
 
 
 def read_words(words, document, values, flags, count=(1, 1)):
     """Reads words. Where they ask for nothing the page that says what can be asked is printed, with status 1."""
+    sys.setrecursionlimit(MOST_CALLS)
     found, words = Words(), list(words)
     if words in (["--help"], ["-h"]):
         print(document.strip())

@@ -5,6 +5,21 @@ import operator
 from pictures.cal_text import ReadError
 
 
+# What a value and a list hold at most, and how many turns a comprehension makes at most.
+MOST_BITS, MOST_ITEMS, MOST_TURNS = 127, 16384, 1048576
+
+
+def shifted(left, count):
+    """A number shifted to the left, or to the right if the count is below 0."""
+    return left << count if count >= 0 else left >> -count
+
+
+def counted(count):
+    if not 0 <= count <= 127:
+        raise ReadError("a constant shifts by less than 0 or more than 127")
+    return count
+
+
 def quotient(left, right):
     """The quotient, rounded towards 0."""
     if right == 0:
@@ -15,8 +30,8 @@ def quotient(left, right):
 
 BINARY = {
     "|": operator.or_, "^": operator.xor, "&": operator.and_, "=": operator.eq, "!=": operator.ne, "<": operator.lt,
-    "<=": operator.le, ">": operator.gt, ">=": operator.ge, "<<": lambda left, right: left << min(right, 128),
-    ">>": lambda left, right: left >> min(right, 128), "+": operator.add, "-": operator.sub, "*": operator.mul,
+    "<=": operator.le, ">": operator.gt, ">=": operator.ge, "<<": lambda left, right: shifted(left, counted(right)),
+    ">>": lambda left, right: shifted(left, -counted(right)), "+": operator.add, "-": operator.sub, "*": operator.mul,
     "/": quotient, "div": quotient, "mod": lambda left, right: left - right * quotient(left, right),
 }
 
@@ -63,13 +78,30 @@ class Scope:
 
 def kind_of(kind, scope):
     """A type's name and its size in bits."""
-    size = 32 if kind.size is None else evaluate(kind.size, scope)
+    size = 32 if kind.size is None else constant(kind.size, scope)
+    if kind.name in ("int", "uint") and not (isinstance(size, int) and 1 <= size <= 64):
+        raise ReadError(f"a type `{kind.name}` has a size that isn't from 1 to 64")
     return kind.name, size
+
+
+def constant(expression, scope):
+    """The value of a constant expression. What has none is an error that is told."""
+    try:
+        return evaluate(expression, scope)
+    except (TypeError, ValueError, AttributeError) as error:
+        raise ReadError("a constant has no value: its kinds don't match") from error
+    except RecursionError as error:
+        raise ReadError("a constant nests too deeply") from error
 
 
 def evaluate(expression, scope):
     what = expression[0]
-    return EVALUATORS[what](scope, *expression[1:])
+    value = EVALUATORS[what](scope, *expression[1:])
+    if isinstance(value, int) and not -(1 << MOST_BITS) <= value < 1 << MOST_BITS:
+        raise ReadError("a constant needs more than 128 bits")
+    if isinstance(value, list) and len(value) > MOST_ITEMS:
+        raise ReadError("a constant list is too long")
+    return value
 
 
 def evaluate_binary(scope, word, left, right):
@@ -104,7 +136,10 @@ def evaluate_comprehension(scope, item, generators):
     if not generators:
         return [evaluate(item, scope)]
     (name, low, high), found = generators[0], []
-    for value in range(evaluate(low, scope), evaluate(high, scope) + 1):
+    values = range(evaluate(low, scope), evaluate(high, scope) + 1)
+    if len(values) > MOST_TURNS:
+        raise ReadError("a constant makes too many turns")
+    for value in values:
         inner = Scope(scope)
         inner.values[name] = value
         found += evaluate_comprehension(inner, item, generators[1:])

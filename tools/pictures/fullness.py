@@ -162,6 +162,8 @@ class Player:
         return TURN, -1
 
     def finish(self):
+        if self.trace.end == "stalled" and int(self.trace.end_parts[2]) >= len(self.links):
+            raise ReadError(f"{self.trace.path}: link {self.trace.end_parts[2]} is short, which isn't there")
         for link in self.links:
             if link.is_known and link.waiting < 0:
                 raise ReadError(f"{self.trace.path}: this is no trace over these inputs")

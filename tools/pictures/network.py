@@ -5,7 +5,7 @@ import os
 from dataclasses import dataclass, field
 
 from pictures.cal_text import ReadError, read_cal
-from pictures.constants import Scope, evaluate, kind_of, stored
+from pictures.constants import Scope, constant, kind_of, stored
 from pictures.xdf_text import read_xdf
 
 DEFAULT_CAPACITY = 512
@@ -135,7 +135,10 @@ class Library:
             path = of_class.replace(".", "/") + ".cal"
             if not os.path.isfile(path):
                 raise ReadError(f"an import asks for `{of_class}`, which has no file `{path}` below this folder")
+            self.scopes[of_class] = None
             self.scopes[of_class] = self.scope_of(self.actor(path))
+        if self.scopes[of_class] is None:
+            raise ReadError(f"imports lead in a circle through `{of_class}`")
         return self.scopes[of_class]
 
     def scope_of(self, file, given=None, place=""):
@@ -173,7 +176,7 @@ def read_bytes(path):
 
 
 def value_of(variable, scope):
-    return as_declared(variable, evaluate(variable.value, scope), scope)
+    return as_declared(variable, constant(variable.value, scope), scope)
 
 
 def as_declared(variable, value, scope):
@@ -225,7 +228,7 @@ class Builder:
         box = NetworkBox(name, place, of_class, ports_of(text.inputs, scope), ports_of(text.outputs, scope),
                            list(given.items()))
         for instance in text.instances:
-            values = {key: evaluate(value, scope) for key, value in instance.parameters.items()}
+            values = {key: constant(value, scope) for key, value in instance.parameters.items()}
             inner = self.box(self.library.file_of(instance.of_class), instance.name,
                              f"{place}/{instance.name}" if place else instance.name, instance.of_class, values, depth + 1)
             inner.parent = box
@@ -245,13 +248,13 @@ def counts(patterns, ports, scope):
     found = {}
     for place, pattern in enumerate(patterns):
         port = names.index(pattern.port) if pattern.port in names else place
-        repeat = 1 if pattern.repeat is None else evaluate(pattern.repeat, scope)
+        repeat = 1 if pattern.repeat is None else constant(pattern.repeat, scope)
         found[port] = pattern.count * repeat
     return found
 
 
 def connection_of(text, connection, network, parts, scope):
-    size = 0 if connection.size is None else evaluate(connection.size, scope)
+    size = max((constant(each, scope) for each in connection.sizes), default=0)
     return Connection(end_of(text, connection.source, connection.source_port, False, network, parts),
                       end_of(text, connection.target, connection.target_port, True, network, parts), size)
 

@@ -69,25 +69,39 @@ class Trace:
             elif line[:2] == b"g ":
                 growth.append(tuple(self.numbers(line, 3)))
             elif line[:1] in ENDS:
-                self.end, self.end_parts = ENDS[line[:1]], [part.decode("latin-1") for part in line.split()[1:]]
+                self.read_end(line)
             else:
-                raise ReadError(f"{self.path}: `{line[:40].decode('latin-1').strip()}` is no line of a trace")
+                self.refuse(line)
         if number:
             yield self.make_round(number, counts, growth)
+
+    def refuse(self, line):
+        raise ReadError(f"{self.path}: `{line[:40].decode('latin-1').strip()}` is no line of a trace")
+
+    def read_end(self, line):
+        """An end with what it names: of a trap or a stall the instance, the action, and the cause or the link."""
+        letter, *parts = line.split()
+        self.end, self.end_parts = ENDS.get(letter, ""), [part.decode("latin-1") for part in parts]
+        numbers = self.end_parts[:{b"t": 2, b"s": 3}.get(letter, 0)]
+        is_named = all(part.isdigit() for part in numbers) and len(parts) == (3 if numbers else 0)
+        if not self.end or not is_named or letter in b"ts" and not numbers:
+            self.refuse(line)
+        if numbers and int(numbers[0]) >= self.instance_count:
+            self.refuse(line)
 
     def make_round(self, number, counts, growth):
         firings = {}
         for line, count in counts.items():
             instance, action = self.numbers(line, 3)
             if instance >= self.instance_count:
-                raise ReadError(f"{self.path}: `{line.decode('latin-1').strip()}` names no instance of this trace")
-            firings[instance, action] = count
+                self.refuse(line)
+            firings[instance, action] = firings.get((instance, action), 0) + count
         return Round(number, firings, growth)
 
     def numbers(self, line, count):
         parts = line.split()
         if len(parts) != count or not all(part.isdigit() for part in parts[1:]):
-            raise ReadError(f"{self.path}: `{line[:40].decode('latin-1').strip()}` is no line of a trace")
+            self.refuse(line)
         return [int(part) for part in parts[1:]]
 
     def end_text(self):

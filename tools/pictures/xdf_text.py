@@ -1,9 +1,13 @@
 """Reads network files (XDF). What conforms is read; whether a file conforms is said by `rvc check`."""
 
+import re
 from dataclasses import dataclass, field
 from xml.etree import ElementTree
 
 from pictures.cal_text import LEVELS, ReadError, Type, Variable
+
+
+OPERATORS = {word for level in LEVELS for word in level}
 
 
 @dataclass
@@ -15,12 +19,13 @@ class InstanceText:
 
 @dataclass
 class ConnectionText:
-    """A connection: instances and ports of its two ends; an empty instance is the network itself."""
+    """A connection: instances and ports of its two ends, and the sizes that it asks for. An empty instance is the network
+    itself."""
     source: str
     source_port: str
     target: str
     target_port: str
-    size: object
+    sizes: list
 
 
 @dataclass
@@ -44,9 +49,12 @@ def read_xdf(path, content):
     if root.tag != "XDF":
         raise ReadError(f"{path}: the element at the top is no XDF")
     network = NetworkText(path, attribute(path, root, "name"))
-    for element in root:
-        if element.tag in READERS:
-            READERS[element.tag](network, element)
+    try:
+        for element in root:
+            if element.tag in READERS:
+                READERS[element.tag](network, element)
+    except RecursionError as error:
+        raise ReadError(f"{path}: elements nest too deeply") from error
     return network
 
 
@@ -81,7 +89,7 @@ def read_instance(network, element):
 def read_connection(network, element):
     ends = [attribute(network.path, element, name) for name in ("src", "src-port", "dst", "dst-port")]
     sizes = [expression_in(network, given) for given in element.findall("Attribute") if given.get("name") == "bufferSize"]
-    network.connections.append(ConnectionText(*ends, sizes[0] if sizes else None))
+    network.connections.append(ConnectionText(*ends, sizes))
 
 
 READERS = {"Port": read_port, "Decl": read_declaration, "Instance": read_instance, "Connection": read_connection}
@@ -114,17 +122,20 @@ def expression_of(network, element):
     words = [attribute(network.path, part, "name") for part in element.findall("Op")]
     if kind == "Literal":
         value = attribute(network.path, element, "value")
-        is_number = element.get("literal-kind") == "Integer"
-        return ("literal", int(value) if is_number else value == "true")
+        if element.get("literal-kind") == "Boolean":
+            return ("literal", value == "true")
+        if not re.fullmatch(r"-?[0-9]+", value):
+            raise ReadError(f"{network.path}: `{value}` is no number")
+        return ("literal", int(value))
     if kind == "Var":
         return ("name", attribute(network.path, element, "name"))
     if kind == "List":
         return ("list", inner)
-    if kind == "UnaryOp":
+    if kind == "UnaryOp" and len(words) == len(inner) == 1 and words[0] in ("not", "-", "~"):
         return ("prefix", words[0], inner[0])
-    if kind == "BinOpSeq":
+    if kind == "BinOpSeq" and len(words) == len(inner) - 1 and all(word in OPERATORS for word in words):
         return grouped(inner, words)
-    raise ReadError(f"{network.path}: an `Expr` has the unknown kind `{kind}`")
+    raise ReadError(f"{network.path}: an `Expr` of the kind `{kind}` can't be read")
 
 
 def grouped(operands, words):
