@@ -3,7 +3,7 @@
 from dataclasses import dataclass, field
 
 SWEEPS = 8
-ROW_GAP = 26
+ROW_GAP = 21
 LANE = 24
 CURVE = 28
 
