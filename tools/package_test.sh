@@ -118,7 +118,7 @@ manual() {
     if command -v man >/dev/null; then
         judge 'warnings of the manual' "$(LC_ALL=C.UTF-8 man --warnings -E UTF-8 -l -Tutf8 "$page" 2>&1 >/dev/null)" ''
         shown=$(LC_ALL=C.UTF-8 MANWIDTH=200 man -E UTF-8 -l -Tutf8 "$page" | sed 's/.\x08//g')
-        for word in 'NAME' 'rvc - compiles and runs' '--workers N' 'trapped I A C' 'RVC_PROGRESS' 'rvc-draw' 'uint(size=8)'; do
+        for word in 'NAME' 'rvc, rvc-draw, rvc-timeline - compiles and runs' '--workers N' 'trapped I A C' 'RVC_PROGRESS' 'rvc-draw' 'uint(size=8)'; do
             judge_part "the manual has $word" "$shown" "$word"
         done
     fi
