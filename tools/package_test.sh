@@ -32,7 +32,7 @@ judge() { # what is judged, found, wanted
 
 # Counts whether something is part of a text.
 judge_part() { # what is judged, text, part
-    judge "$1" "$([[ $2 == *"$3"* ]] && echo yes || echo "$2")" yes
+    judge "$1" "$([[ $2 == *"$3"* ]] && echo "$3" || echo "${2:0:400}")" "$3"
 }
 
 # Two packages are the same bytes, whoever makes them, where and when.
@@ -117,7 +117,7 @@ manual() {
     local page=$room/installed/usr/share/man/man1/rvc.1.gz shown
     if command -v man >/dev/null; then
         judge 'warnings of the manual' "$(LC_ALL=C.UTF-8 man --warnings -E UTF-8 -l -Tutf8 "$page" 2>&1 >/dev/null)" ''
-        shown=$(LC_ALL=C.UTF-8 MANWIDTH=200 man -E UTF-8 -l -Tutf8 "$page" | sed 's/.\x08//g')
+        shown=$(LC_ALL=C.UTF-8 man -E UTF-8 -l -Tutf8 "$page" | sed 's/.\x08//g' | tr -s '[:space:]' ' ')
         for word in 'NAME' 'rvc, rvc-draw, rvc-timeline - compiles and runs' '--workers N' 'trapped I A C' 'RVC_PROGRESS' 'rvc-draw' 'uint(size=8)'; do
             judge_part "the manual has $word" "$shown" "$word"
         done
