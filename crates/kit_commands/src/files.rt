@@ -34,10 +34,15 @@ const INPUTS: &[(&str, &[u8])] = &[
     ("zero", &[5, 0, 3]),
     ("one", &[7]),
     ("empty", &[]),
+    ("four", &[1, 2, 3, 4]),
+    (
+        "block",
+        &[0, 0, 100, 0, 0, 0, 212, 254, 2, 0, 27, 0, 58, 0, 5, 0],
+    ),
 ];
 
-/// The inputs `in` of the bytes 0, 1 and 255, `zero` of 5, 0 and 3, `one` of 7 and `empty` of none, and the trace under
-/// the name `t`, in which `/` ends each line.
+/// The inputs `in` of the bytes 0, 1 and 255, `zero` of 5, 0 and 3, `one` of 7, `empty` of none, `four` of 1 to 4 and
+/// `block` of four pairs of numbers of two bytes, and the trace under the name `t`, in which `/` ends each line.
 pub fn inputs(alloc: Global, trace: &str) -> Result<Files, AllocError> {
     let mut files = Vec::new(alloc);
     for &(name, bytes) in INPUTS {

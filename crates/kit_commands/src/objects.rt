@@ -51,8 +51,8 @@ pub fn library(alloc: Global, own: &str, others: &str, read: u64) -> Result<MemL
     Ok(MemLibrary::new(files, vec![in alloc; read]?))
 }
 
-/// Closed feeds of inputs: `in` has the bytes 0, 1 and 255, `zero` has 5, 0 and 3, `one` has 7, `empty` has none, and `t`
-/// is a trace, in which `/` ends each line. A call moves at most `step` bytes, and the call of this number fails, counted
+/// Closed feeds of inputs: `in` has the bytes 0, 1 and 255, `zero` has 5, 0 and 3, `one` has 7, `empty` has none, `four`
+/// has 1 to 4, `block` four pairs of numbers of two bytes, and `t` is a trace, in which `/` ends each line. A call moves at most `step` bytes, and the call of this number fails, counted
 /// from 1; 0 for none.
 ///
 /// # Errors

@@ -4,9 +4,12 @@
 //! program, over the call that it makes.
 
 mod commands;
+mod decoder;
+mod faults;
 mod replays;
 mod rules;
 mod running;
 mod runs;
 mod sources;
 mod table;
+mod workers;

@@ -413,3 +413,25 @@ fn a_row_of_256_operands_is_read_and_one_of_257_is_too_high(rt: HostRuntime) {
     let higher = answer(alloc, Asked::Outline, &row).expect(&rt, "an answer");
     assert_eq!(rt; higher.as_str(), "F5 at 68");
 }
+
+/// A network that has itself as an instance.
+const SELF: &[u8] =
+    b"<XDF name=\"Self\"><Instance id=\"a\"><Class name=\"Self\"/></Instance></XDF>";
+
+/// How many prefixes of a text break off where they end, one after another from the empty one.
+fn broken_prefixes(alloc: Global, text: &[u8]) -> Result<usize, Memory> {
+    for size in 0..text.len() {
+        let found = answer(alloc, Asked::Outline, &text[..size])?;
+        let expected = format!(in alloc; "F1 at {size}")?;
+        if found != expected {
+            return Ok(size);
+        }
+    }
+    Ok(text.len())
+}
+
+#[test]
+fn each_prefix_of_a_network_breaks_off_at_its_end(rt: HostRuntime) {
+    let broken = broken_prefixes(rt.alloc(), SELF).expect(&rt, "an answer");
+    assert_eq!(rt; broken, SELF.len());
+}

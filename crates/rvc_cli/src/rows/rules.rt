@@ -1,9 +1,13 @@
 //! The smallest source of each rule, checked: what breaks it, and the place that the report names. docs/RULES.md has
 //! the same sources.
 
+use crate::rows::decoder::text_of;
 use crate::rows::running::hold_left;
 use crate::rows::table::hold;
-use kit_commands::Row;
+use kit_commands::{Row, cut};
+use std::alloc::Global;
+use std::process::Abort;
+use std::thread::Threads;
 
 #[test]
 fn sources_break_each_rule(rt: HostRuntime) {
@@ -162,19 +166,36 @@ rvc check B.cal
 = refused T1 B.cal 51/ |  | [] | 4 Refused
 rvc check B.cal";
 
-/// An actor of 257 actions has one too many.
-#[test]
-fn actions_are_counted(rt: HostRuntime) {
-    let mut file = String::from_str(rt.alloc(), "B.cal actor B() ==> : ").expect(&rt, "a text");
-    for _action in 0..257usize {
-        file.push_str("action ==> end ").expect(&rt, "a text");
+/// Sources at their limits: what the check of each leaves, and the pieces that it is made of (`text_of`). An actor of 257
+/// actions; as many blanks as a file may have, behind the blank that ends its name, and one more; a name of 256 letters.
+const LONG: &str = "
+# refused Z2 X.cal 0/ |  | [] | 4 Refused
+1 X.cal_actor_X()_==>_:
+257 _action_==>_end
+1 _end
+# refused G1 X.cal 1048576/ |  | [] | 4 Refused
+1 X.cal
+1048577 _
+# refused Z1 X.cal 1048576/ |  | [] | 4 Refused
+1 X.cal
+1048578 _
+# refused Z11 X.cal 6/ |  | [] | 4 Refused
+1 X.cal_actor_
+256 a";
+
+/// Stops unless each of these sources is refused as it should.
+fn hold_long<R: Abort + Threads + Sync>(rt: &R, alloc: Global, table: &str) {
+    for row in table.split("\n# ") {
+        let (told, pieces) = cut(row, "\n");
+        let file = text_of(alloc, pieces).expect(rt, "a text");
+        if !file.is_empty() {
+            let row = Row::of_line("rvc check X.cal", file.as_str(), 1000);
+            hold_left(rt, alloc, &row, told);
+        }
     }
-    file.push_str("end").expect(&rt, "a text");
-    let row = Row::of_line("rvc check B.cal", file.as_str(), 1000);
-    hold_left(
-        &rt,
-        rt.alloc(),
-        &row,
-        "refused Z2 B.cal 0/ |  | [] | 4 Refused",
-    );
+}
+
+#[test]
+fn long_sources_are_refused(rt: HostRuntime) {
+    hold_long(&rt, rt.alloc(), LONG);
 }

@@ -1,25 +1,34 @@
 //! The top call over objects in memory.
 
 use kit_commands::{Row, begins, drains, feeds, left, library, words};
-use rvc_io::OpenGate;
-use rvc_top::rvc;
+use rvc_io::{Gate, MemDrains, OpenGate};
+use rvc_top::{Status, rvc};
 use std::alloc::Global;
 use std::process::Abort;
 use std::thread::Threads;
 
-/// Stops unless a row leaves what begins so: `REPORT | TRACE | OUTPUT | STATUS`, what the channels hold (`left`), in which
-/// `/` ends each line, and the exit status with its name.
-pub(crate) fn hold_left<R: Abort + Threads + Sync>(
+/// How many bytes a channel of most rows may hold.
+pub(crate) const ROOM: u32 = 32_768;
+
+/// How a row ended, and the channels with what they hold.
+#[derive(Drop)]
+pub(crate) struct Left {
+    pub status: Status,
+    pub drains: MemDrains,
+}
+
+/// Runs a row past a gate. A channel may hold so many bytes.
+pub(crate) fn run_row<R: Abort + Threads + Sync, G: Gate>(
     rt: &R,
     alloc: Global,
     row: &Row<'_>,
-    told: &str,
-) {
-    let line = row.words;
-    let words = words(alloc, line).expect(rt, "words");
+    room: u32,
+    gate: &G,
+) -> Left {
+    let words = words(alloc, row.words).expect(rt, "words");
     let mut library = library(alloc, row.own, OTHERS, row.read).expect(rt, "a library");
     let mut feeds = feeds(alloc, row.trace, row.feed, row.step).expect(rt, "feeds");
-    let mut drains = drains(alloc, row.channel, row.step, 32_768).expect(rt, "channels");
+    let mut drains = drains(alloc, row.channel, row.step, room).expect(rt, "channels");
     let status = rvc(
         rt,
         alloc,
@@ -27,11 +36,30 @@ pub(crate) fn hold_left<R: Abort + Threads + Sync>(
         &mut library,
         &mut feeds,
         &mut drains,
-        &OpenGate,
+        gate,
     );
-    let mut ended = left(alloc, &drains).expect(rt, "a text");
+    Left { status, drains }
+}
+
+/// Stops unless what a row left begins so: `REPORT | TRACE | OUTPUT | STATUS`, what the channels hold (`left`), in which
+/// `/` ends each line, and the exit status with its name.
+pub(crate) fn hold_told(rt: &impl Abort, alloc: Global, row: &Row<'_>, found: &Left, told: &str) {
+    let mut ended = left(alloc, &found.drains).expect(rt, "a text");
+    let status = found.status;
     write!(ended, " | {} {status:?}", status.code()).expect(rt, "a text");
+    let line = row.words;
     assert!(rt; begins(ended.as_str(), told), "{line}: {ended}");
+}
+
+/// Runs a row past a gate that holds nobody, and stops unless what it left begins so.
+pub(crate) fn hold_left<R: Abort + Threads + Sync>(
+    rt: &R,
+    alloc: Global,
+    row: &Row<'_>,
+    told: &str,
+) {
+    let found = run_row(rt, alloc, row, ROOM, &OpenGate);
+    hold_told(rt, alloc, row, &found, told);
 }
 
 /// Files of every row: an actor that isn't certified, since it adds two tokens where there are two; a network of it behind

@@ -46,14 +46,27 @@ rvc run Both.xdf --trace t In=in Other=out
 rvc run Both.xdf --trace t Out=out In=in --round turn
 # Div.cal actor Div() uint(size=8) In ==> uint(size=8) Out : action In:[a] ==> Out:[100 / a] end end
 = instances 1/links 2/certified 1/firings 1/rounds 1/in In 0 tokens 3 rest 0/out Out tokens 1/trapped 0 0 DivideByZero/ | rvc-trace 1 1 2/i 0 Div Div/r/f 0 0/t 0 0 DivideByZero/ | [20] | 5 Trapped
-rvc run Div.cal In=zero Out=out --trace t";
+rvc run Div.cal In=zero Out=out --trace t
+# Pair.xdf <XDF name='Pair'><Port kind='Input' name='In'><Type name='uint'><Entry kind='Expr' name='size'><Expr kind='Literal' literal-kind='Integer' value='8'/></Entry></Type></Port><Port kind='Output' name='Out'><Type name='uint'><Entry kind='Expr' name='size'><Expr kind='Literal' literal-kind='Integer' value='8'/></Entry></Type></Port><Instance id='c'><Class name='Copy'/></Instance><Instance id='s'><Class name='Sum'/></Instance><Instance id='j'><Class name='Join'/></Instance><Connection src='' src-port='In' dst='c' dst-port='In'/><Connection src='c' src-port='Out' dst='s' dst-port='In'/><Connection src='c' src-port='Out' dst='j' dst-port='B'><Attribute name='bufferSize'><Expr kind='Literal' literal-kind='Integer' value='1'/></Attribute></Connection><Connection src='s' src-port='Out' dst='j' dst-port='A'/><Connection src='j' src-port='Out' dst='' dst-port='Out'/></XDF>
++ Copy.cal actor Copy() uint(size=8) In ==> uint(size=8) Out : action In:[x] ==> Out:[x] end end
++ Sum.cal actor Sum() uint(size=8) In ==> uint(size=8) Out : action In:[x, y] ==> Out:[x + y] end end
++ Join.cal actor Join() uint(size=8) A, uint(size=8) B ==> uint(size=8) Out : action A:[a], B:[b] ==> Out:[a + b] end end
+= instances 3/links 5/certified 3/firings 1/rounds 2/in In 0 tokens 4 rest 0/out Out tokens 0/stalled 0 0 3/ | rvc-trace 1 3 5/i 0 c Copy/i 1 s Sum/i 2 j Join/r/f 0 0/r/s 0 0 3/ | [] | 6 Stalled
+rvc run Pair.xdf In=four Out=out --trace t
+= instances 3/links 5/certified 3/firings 1/rounds 2/in In 0 tokens 4 rest 0/out Out tokens 0/stalled 0 0 3/ | rvc-trace 2 3 5 1/i 0 c Copy/i 1 s Sum/i 2 j Join/r/f 0 0/r/s 0 0 3/ | [] | 6 Stalled
+rvc run Pair.xdf In=four Out=out --trace t --grow 1
+= instances 3/links 5/certified 3/firings 5/rounds 7/in In 0 tokens 4 rest 0/out Out tokens 1/stalled 0 0 3/ | rvc-trace 2 3 5 2/i 0 c Copy/i 1 s Sum/i 2 j Join/r/f 0 0/r/g 3 2/r/f 0 0/r/f 1 0/r/f 2 0/r/f 0 0/r/ of 108 | [4] | 6 Stalled
+rvc run Pair.xdf In=four Out=out --trace t --grow 2
+= instances 3/links 5/certified 3/firings 8/rounds 11/in In 0 tokens 4 rest 0/out Out tokens 2/quiet/ | rvc-trace 2 3 5 4/i 0 c Copy/i 1 s Sum/i 2 j Join/r/f 0 0/r/g 3 2/r/f 0 0/r/f 1 0/r/f 2 0/r/f 0 0/r/ of 134 | [4, 9] | 0 Quiet
+rvc run Pair.xdf In=four Out=out --trace t --grow 4";
 
 #[test]
 fn a_failed_call_is_a_fault(rt: HostRuntime) {
     hold(&rt, rt.alloc(), FAULTS, &[1]);
 }
 
-/// No feed is opened if no word names the input. Each line says how many bytes a call moves.
+/// No feed is opened if no word names the input. No channel is opened if a feed isn't: the first call to the channels is
+/// the put of the report, which fails, too. Each line says how many bytes a call moves.
 const FAULTS: &str = "
 # Inc.cal actor Inc() uint(size=8) In ==> uint(size=8) Out : action In:[a] ==> Out:[a + 1] end end
 = read fault in/ | rvc-trace 1 1 2/i 0 Inc Inc/ | [] | 2 ReadFault(Feed(1))
@@ -73,6 +86,11 @@ const FAULTS: &str = "
 = read fault in/ |  | [] | 2 ReadFault(Feed(1))
 3 0 1 0: rvc run Inc.cal In=in Out=out --trace t
 9 0 1 0: rvc run One.xdf --trace t In=in Out=out
+=  |  | [] | 3 WriteFault { channel: 0 }
+3 0 1 1: rvc run Inc.cal In=in Out=out --trace t
+9 0 1 1: rvc run One.xdf --trace t In=in Out=out
+= r |  | [] | 3 WriteFault { channel: 0 }
+1 0 1 2: rvc run Inc.cal In=in Out=out --trace t
 = write fault 1/ |  | [] | 3 WriteFault { channel: 1 }
 3 0 0 1: rvc run Inc.cal In=in Out=out --trace t
 9 0 0 1: rvc run One.xdf --trace t In=in Out=out
