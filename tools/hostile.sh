@@ -37,8 +37,8 @@ byte="<Type name='uint'><Entry kind='Expr' name='size'><Expr kind='Literal' lite
 
 # --- What a case is made of ---
 
-# Whether a case is asked for. If it is, begins it in a fresh folder, with an actor, an input of three bytes and one of a
-# million.
+# Whether a case is asked for. If it is, begins it in a fresh folder, with an actor, an input of three bytes and one of
+# 200,000, whose trace has 1,200,000.
 begin() { # the case
     case=$1
     local word found=no
@@ -50,7 +50,7 @@ begin() { # the case
     cd "$room" && rm -rf work && mkdir work && cd work || exit 2
     printf '%s' "$inc" >Inc.cal
     printf '\0\1\377' >in
-    head -c 1000000 /dev/zero >long
+    head -c 200000 /dev/zero >long
     status= last=
 }
 
@@ -122,15 +122,15 @@ connection() { # from, its port, to, its port
     printf "<Connection src='%s' src-port='%s' dst='%s' dst-port='%s'/>" "$1" "$2" "$3" "$4"
 }
 
-# A network whose input leads to so many actors, each with an output of its own, O0, O1 ..
-fork() { # how many
+# A network whose input leads to so many actors, of which the first have outputs of their own, O0, O1 ..
+fork() { # how many actors, how many outputs
     local k
     printf "<XDF name='Fork'>"
     port Input In
-    for ((k = 0; k < $1; k++)); do port Output "O$k"; done
+    for ((k = 0; k < $2; k++)); do port Output "O$k"; done
     for ((k = 0; k < $1; k++)); do instance "a$k" Inc; done
     for ((k = 0; k < $1; k++)); do connection '' In "a$k" In; done
-    for ((k = 0; k < $1; k++)); do connection "a$k" Out '' "O$k"; done
+    for ((k = 0; k < $2; k++)); do connection "a$k" Out '' "O$k"; done
     printf '</XDF>'
 }
 
@@ -138,6 +138,7 @@ fork() { # how many
 whole() { # words, with Out=whole.out --trace whole.trace
     run "$@" Out=whole.out --trace whole.trace
     cp report whole.report
+    [[ $status -eq 0 ]] || echo "an undisturbed run ended with $(seen)" >&2
 }
 
 # --- Disks ---
@@ -145,7 +146,7 @@ whole() { # words, with Out=whole.out --trace whole.trace
 if begin 'full disk, the output'; then
     whole run Inc.cal In=long
     mkdir disk
-    if mount -t tmpfs -o size=200k none disk 2>/dev/null; then
+    if mount -t tmpfs -o size=100k none disk 2>/dev/null; then
         disk=$PWD/disk
         run run Inc.cal In=long Out=disk/out --trace trace
         due 3 'write fault 2' 'prefix disk/out whole.out' 'prefix trace whole.trace' '[[ $(bytes disk/out) -gt 0 ]]'
@@ -157,7 +158,7 @@ fi
 if begin 'full disk, the trace'; then
     whole run Inc.cal In=long
     mkdir disk
-    if mount -t tmpfs -o size=200k none disk 2>/dev/null; then
+    if mount -t tmpfs -o size=100k none disk 2>/dev/null; then
         disk=$PWD/disk
         run run Inc.cal In=long Out=out --trace disk/trace
         due 3 'write fault 1' 'prefix disk/trace whole.trace' 'prefix out whole.out' '[[ $(bytes disk/trace) -gt 0 ]]'
@@ -186,7 +187,7 @@ if begin 'full device, the text of fmt'; then
 fi
 if begin 'a limit on the size of files'; then
     whole run Inc.cal In=long
-    (ulimit -f 100 && exec timeout -s KILL "$patience" "$program" run Inc.cal In=long Out=out --trace trace) >report 2>errors
+    { (ulimit -f 100 && exec timeout -s KILL "$patience" "$program" run Inc.cal In=long Out=out --trace trace) >report 2>errors; } 2>/dev/null
     status=$? last=$(tail -n 1 report)
     # The system ends the program by a signal, unless it was started with that signal ignored.
     [[ $status -eq 153 ]] && status='153 (signal 25)'
@@ -207,16 +208,10 @@ many() {
     printf 'end'
 }
 
-# The system ends a program by a signal that writes where nobody reads, unless it was started with that signal ignored.
+# The program isn't ended by the signal that says that nobody reads: it goes on to its report.
 if begin 'a closed pipe, the text of fmt'; then
     many >Many.cal
-    timeout -s KILL "$patience" "$program" fmt Many.cal 2>errors | head -n 1 >report
-    status=${PIPESTATUS[0]} last=$(tail -n 1 report)
-    due 141 'actor Many ( ) ==> :' '[[ ! -s errors ]]'
-fi
-if begin 'a closed pipe, the text of fmt, its signal ignored'; then
-    many >Many.cal
-    (trap '' PIPE && exec timeout -s KILL "$patience" "$program" fmt Many.cal) 2>errors | head -n 1 >report
+    timeout -s KILL "$patience" "$program" fmt Many.cal 2>errors | head -c 20 >report
     status=${PIPESTATUS[0]} last=$(tail -n 1 report)
     due 3 'actor Many ( ) ==> :' '[[ ! -s errors ]]'
 fi
@@ -225,15 +220,6 @@ if begin 'a closed pipe, the trace'; then
     whole run Inc.cal In=long
     (head -c 100 pipe >begun) &
     run run Inc.cal In=long Out=out --trace pipe
-    wait
-    due 141 '' 'prefix begun whole.trace' 'prefix out whole.out'
-fi
-if begin 'a closed pipe, the trace, its signal ignored'; then
-    mkfifo pipe
-    whole run Inc.cal In=long
-    (head -c 100 pipe >begun) &
-    (trap '' PIPE && exec timeout -s KILL "$patience" "$program" run Inc.cal In=long Out=out --trace pipe) >report 2>errors
-    status=$? last=$(tail -n 1 report)
     wait
     due 3 'write fault 1' 'prefix begun whole.trace' 'prefix out whole.out'
 fi
@@ -283,7 +269,7 @@ if begin 'the output is the trace'; then
     due 3 'write fault 2'
 fi
 if begin 'two outputs of one name'; then
-    fork 2 >Fork.xdf
+    fork 2 2 >Fork.xdf
     run run Fork.xdf In=in O0=both O1=both --trace trace
     due 3 'write fault 3'
 fi
@@ -338,7 +324,7 @@ if begin 'nothing goes nowhere'; then
 fi
 if begin 'all goes nowhere'; then
     run run Inc.cal In=long Out=/dev/null --trace /dev/null
-    due 0 'quiet' 'grep -q "out Out tokens 1000000" report'
+    due 0 'quiet' 'grep -q "out Out tokens 200000" report'
 fi
 
 # --- FIFOs, endless files and files that change ---
@@ -384,19 +370,19 @@ if begin 'the trace to replay is endless'; then
     due 9 'not a run 1 Form'
 fi
 if begin 'the input is endless'; then
-    run run Inc.cal In=/dev/zero Out=out --trace trace --budget 1000000
-    due 7 'budget 1000000' '[[ $(bytes out) -eq 1000000 ]]'
+    run run Inc.cal In=/dev/zero Out=out --trace trace --budget 100000
+    due 7 'budget 100000' '[[ $(bytes out) -eq 100000 ]]'
 fi
 if begin 'the input shrinks while it is read'; then
-    head -c 30000000 /dev/zero >input
+    head -c 2000000 /dev/zero >input
     (sleep 0.05; truncate -s 100 input) &
     run run Inc.cal In=input Out=out --trace trace
     wait
     tokens=$(sed -n 's/^in In 0 tokens \([0-9]*\) rest 0$/\1/p' report)
-    due 0 'quiet' '[[ $(bytes out) -eq $tokens ]]' '[[ $(tail -n 1 trace) == q ]]' '[[ $tokens -le 30000000 ]]'
+    due 0 'quiet' '[[ $(bytes out) -eq $tokens ]]' '[[ $(tail -n 1 trace) == q ]]' '[[ $tokens -le 2000000 ]]'
 fi
 if begin 'the trace shrinks while it is replayed'; then
-    head -c 5000000 /dev/zero >input
+    head -c 500000 /dev/zero >input
     run run Inc.cal In=input Out=out --trace trace
     (sleep 0.05; truncate -s 70001 trace) &
     run replay Inc.cal In=input --trace trace
@@ -410,29 +396,29 @@ fi
 # --- Few files, little stack, memory and processors ---
 
 if begin 'few open files, many inputs'; then
-    fork 100 >Fork.xdf
+    fork 100 0 >Fork.xdf
     (ulimit -n 30 && exec "$program" run Fork.xdf In=in --trace trace) >report 2>errors
     status=$? last=$(tail -n 1 report)
     due 2 'read fault in' '[[ ! -e trace ]]'
 fi
 if begin 'few open files, many outputs'; then
-    fork 100 >Fork.xdf
+    fork 32 32 >Fork.xdf
     words=()
-    for ((k = 0; k < 100; k++)); do words+=("O$k=o$k"); done
-    (ulimit -n 30 && exec "$program" run Fork.xdf "${words[@]}" --trace trace) >report 2>errors
+    for ((k = 0; k < 32; k++)); do words+=("O$k=o$k"); done
+    (ulimit -n 20 && exec "$program" run Fork.xdf "${words[@]}" --trace trace) >report 2>errors
     status=$? last=$(tail -n 1 report | sed 's/[0-9]*$/N/')
     due 3 'write fault N' '[[ $(bytes trace) -eq 0 ]]'
 fi
 if begin 'many open files'; then
-    fork 400 >Fork.xdf
+    fork 1000 32 >Fork.xdf
     words=()
-    for ((k = 0; k < 400; k++)); do words+=("O$k=o$k"); done
-    if (ulimit -n 1000) 2>/dev/null; then
-        (ulimit -n 1000 && exec timeout -s KILL "$patience" "$program" run Fork.xdf In=in "${words[@]}" --trace trace) >report 2>errors
+    for ((k = 0; k < 32; k++)); do words+=("O$k=o$k"); done
+    if (ulimit -n 1100) 2>/dev/null; then
+        (ulimit -n 1100 && exec timeout -s KILL "$patience" "$program" run Fork.xdf In=in "${words[@]}" --trace trace) >report 2>errors
         status=$? last=$(tail -n 1 report)
-        due 0 'quiet' '[[ $(bytes o399) -eq 3 ]]'
+        due 0 'quiet' '[[ $(bytes o31) -eq 3 ]]' '[[ $(grep -c "^in In [0-9]* tokens 3 rest 0" report) -eq 1000 ]]'
     else
-        skip 'no leave for 1,000 open files'
+        skip 'no leave for 1,100 open files'
     fi
 fi
 if begin 'few threads'; then
@@ -466,7 +452,7 @@ done
 answers() { # stack in KB, words ..
     local stack=$1
     shift
-    (ulimit -s "$stack" && exec timeout -s KILL "$patience" "$program" "$@") >report 2>errors </dev/null
+    { (ulimit -s "$stack" && exec timeout -s KILL "$patience" "$program" "$@") >report 2>errors </dev/null; } 2>/dev/null
     status=$? last=$(tail -n 1 report | cut -c 1-80)
     if [[ $status -eq 0 || $status -eq 4 || $status -eq 7 ]]; then
         ok
@@ -604,7 +590,7 @@ done
 
 # Ends a run by a signal after a moment. What it had written is the beginning of what it would have.
 interrupted() { # signal, its number
-    head -c 20000000 /dev/zero >input
+    head -c 3000000 /dev/zero >input
     timeout -s KILL "$patience" "$program" run Inc.cal In=input Out=whole.out --trace whole.trace >whole.report 2>errors
     "$program" run Inc.cal In=input Out=out --trace trace >report 2>errors &
     local pid=$! k
@@ -622,7 +608,7 @@ interrupted() { # signal, its number
 # doesn't.
 if begin 'an interrupt (SIGINT)'; then
     if command -v python3 >/dev/null; then
-        head -c 20000000 /dev/zero >input
+        head -c 3000000 /dev/zero >input
         timeout -s KILL "$patience" "$program" run Inc.cal In=input Out=whole.out --trace whole.trace >whole.report 2>errors
         python3 - "$program" <<'PYTHON'
 import os, signal, subprocess, sys, time
