@@ -57,6 +57,7 @@ class Workload:
 
 def made(room, name, top, files, data, words=None):
     folder = os.path.join(room, name.replace(' ', '_').replace(',', ''))
+    os.makedirs(folder, exist_ok=True)
     for path, text in files.items():
         write(folder, path, text)
     return Workload(name, folder, words or ['run', top, 'In=in'], data)

@@ -42,7 +42,7 @@ def spent(words, folder):
     if done.returncode not in (0, 7):
         sys.exit('%s: status %d' % (' '.join(words), done.returncode))
     seconds = after.ru_utime + after.ru_stime - before.ru_utime - before.ru_stime
-    return seconds, int(re.search(rb'^firings (\d+)$', done.stdout, re.M).group(1))
+    return seconds, firings_in(done.stdout)
 
 
 def left(folder):
@@ -56,12 +56,16 @@ def left(folder):
     return found
 
 
+def firings_in(report):
+    return int(re.search(rb'^firings (\d+)$', report, re.M).group(1))
+
+
 def instructions(words, folder):
-    """The x86 instructions of a command, as valgrind counts them, or none."""
+    """The x86 instructions of a command, as valgrind counts them, and its firings; or none."""
     done = subprocess.run(['valgrind', '--tool=cachegrind', '--cache-sim=no', '--cachegrind-out-file=/dev/null', *words],
-                          cwd=folder, stdout=subprocess.DEVNULL, stderr=subprocess.PIPE)
+                          cwd=folder, stdout=subprocess.PIPE, stderr=subprocess.PIPE)
     found = re.search(rb'I\s+refs:\s+([\d,]+)', done.stderr)
-    return int(found.group(1).replace(b',', b'')) if found else None
+    return (int(found.group(1).replace(b',', b'')), firings_in(done.stdout)) if found else None
 
 
 class Side:
@@ -79,9 +83,11 @@ class Side:
     def each(self):
         return (min(self.long) - min(self.short)) / self.firings
 
-    def counted(self, load, amounts):
-        counts = [instructions([self.program] + load.prepare(amount), load.folder) for amount in amounts]
-        return None if None in counts else (counts[1] - counts[0]) / self.firings
+    def counted(self, load, short):
+        """Instructions a firing. They are the same each time, and take long to count: so between half a short run and one."""
+        half, whole = (instructions([self.program] + load.prepare(amount), load.folder)
+                       for amount in (max(1, short // 2), max(2, short)))
+        return (whole[0] - half[0]) / (whole[1] - half[1]) if half and whole else None
 
 
 def compare(load, amounts, programs, rounds, counts):
@@ -97,7 +103,7 @@ def compare(load, amounts, programs, rounds, counts):
     old, new = (side.each() for side in sides)
     text = '%-26s %9.1f %9.1f ns a firing, %5.2f times as fast' % (load.name, old * 1e9, new * 1e9, old / new)
     if counts:
-        old_count, new_count = (side.counted(load, amounts) for side in sides)
+        old_count, new_count = (side.counted(load, amounts[0]) for side in sides)
         if old_count and new_count:
             text += '; %8.0f %8.0f instructions, %5.2f times as few' % (old_count, new_count, old_count / new_count)
     if found[0] != found[1]:

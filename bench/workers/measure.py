@@ -16,13 +16,13 @@ WORKERS = (1, 2, 4, 64)
 def loads(room):
     rows, rings = workloads.rows(room, (1000,)), workloads.rings(room, (1000,))
     return [
-        (rows[1000], 3000),
-        (workloads.sides(room, '16 light actors', ['Inc'] * 16), 200000),
-        (workloads.sides(room, '16 heavy actors', ['Heavy'] * 16), 1000),
-        (workloads.sides(room, '1 heavy beside 15 light', ['Heavy'] + ['Inc'] * 15), 10000),
+        (rows[1000], 1500),
+        (workloads.sides(room, '16 light actors', ['Inc'] * 16), 60000),
+        (workloads.sides(room, '16 heavy actors', ['Heavy'] * 16), 500),
+        (workloads.sides(room, '1 heavy beside 15 light', ['Heavy'] + ['Inc'] * 15), 5000),
         (rings[1000], 6),
-        (workloads.sides(room, '1 of three times the work', ['Heavier'] + ['Heavy'] * 15), 1000),
-        (workloads.block(room), 100),
+        (workloads.sides(room, '1 of three times the work', ['Heavier'] + ['Heavy'] * 15), 500),
+        (workloads.block(room), 50),
     ]
 
 
