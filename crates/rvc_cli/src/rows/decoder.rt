@@ -31,7 +31,8 @@ end";
 pub(crate) const WORDS: &str = "rvc run dec/Top.xdf In=block Out=out --trace t";
 
 /// What that run reports.
-pub(crate) const REPORT: &[u8] = b"instances 3\nlinks 4\ncertified 3\nfirings 133\nrounds 5\nin In 0 tokens 8 rest 0\nout Out tokens 64\nquiet\n";
+pub(crate) const REPORT: &[u8] =
+    b"instances 3\nlinks 4\ncertified 3\nfirings 133\nrounds 5\nin In 0 tokens 8 rest 0\nout Out tokens 64\nquiet\n";
 
 /// How many bytes of its trace stand before the first delivery.
 pub(crate) const HEAD: usize = 70;

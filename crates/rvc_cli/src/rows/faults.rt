@@ -203,17 +203,18 @@ fn hold_puts<R: Abort + Threads + Sync>(
         let holds = is_unwritten(alloc, &left, whole, step, call).expect(rt, "a text");
         assert!(rt; holds, "channels {step} {call}");
     }
-    let left = run_cut(rt, alloc, whole, step, Fails::Channel(most.saturating_add(1)));
+    let left = run_cut(
+        rt,
+        alloc,
+        whole,
+        step,
+        Fails::Channel(most.saturating_add(1)),
+    );
     assert!(rt; is_whole(&left, whole), "channels {step} {most}");
 }
 
 /// The same for lines of such numbers: the most bytes of a call, and the least and the most calls.
-fn hold_channels<R: Abort + Threads + Sync>(
-    rt: &R,
-    alloc: Global,
-    whole: Whole<'_>,
-    counts: &str,
-) {
+fn hold_channels<R: Abort + Threads + Sync>(rt: &R, alloc: Global, whole: Whole<'_>, counts: &str) {
     for line in counts.lines() {
         let (step, rest) = cut(line, " ");
         let (least, most) = cut(rest, " ");

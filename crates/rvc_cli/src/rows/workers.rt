@@ -50,7 +50,8 @@ rvc gen 2 Out=out --trace t --workers 3
 rvc gen 2 Out=out --trace t --workers 64";
 
 /// What each of these rows leaves.
-const PAIR_LEFT: &str = "instances 2/links 3/certified 2/firings 2048/rounds 18/in In 0 tokens 1024 rest 0/out Out tokens 1024/quiet/ | rvc-trace 1 2 3/i 0 a0 gen.Add/i 1 a1 gen.Flip/r/";
+const PAIR_LEFT: &str =
+    "instances 2/links 3/certified 2/firings 2048/rounds 18/in In 0 tokens 1024 rest 0/out Out tokens 1024/quiet/ | rvc-trace 1 2 3/i 0 a0 gen.Add/i 1 a1 gen.Flip/r/";
 
 /// Stops unless worker 0 meets worker 1 at the gate, and the row leaves what it should.
 fn hold_meeting<R: Abort + Threads + Sync>(rt: &R, alloc: Global, line: &str) {
@@ -86,7 +87,9 @@ fn run_decoder<R: Abort + Threads + Sync>(
     policy: &str,
     workers: u32,
 ) -> Left {
-    let line = format!(in alloc; "rvc run dec/Top.xdf In=block Out=out --trace t {policy} --workers {workers}");
+    let line = format!(in alloc;
+        "rvc run dec/Top.xdf In=block Out=out --trace t {policy} --workers {workers}"
+    );
     let line = line.expect(rt, "a text");
     let row = Row::of_line(line.as_str(), FILES, 4096);
     run_row(rt, alloc, &row, ROOM, &OpenGate)
