@@ -1,4 +1,4 @@
-//! The order in which leaves of fixed rates fire in one period, and the most tokens that wait on each link.
+//! The order in which leaves of fixed rates fire in one period, and the most tokens on each link.
 //!
 //! Links lie between leaves and are given by their rates, and nothing lies on a link at first. A leaf may take its
 //! turn if it finds on each link to it as many tokens as it needs, and what it gives lies on its links from then on
