@@ -7,9 +7,12 @@ use Rattle.cal_ast.specs.declared.expr.BinOp.TheVariants.{Sub}
 use Rattle.cal_ast.specs.Places.{begins}
 use Rattle.cal_ast.specs.Tree as tree
 use Rattle.cal_ast.specs.Tree.{Tree}
+use Rattle.cal_model.specs.Value.{Shape}
+use Rattle.cal_model.specs.Actor.{Local}
 use Rattle.cal_model.specs.Kinding.{Judged, Fine, Broken, Names, constant_number, counter, kind, with_counters, with_known}
 use Rattle.cal_model.specs.Sound.{Each, EachCall, StartCalls}
-use Rattle.cal_check.specs.Routines.{local_of, locals_of, start_of}
+use Rattle.cal_check.specs.Routines.{first_met, is_awaited, local_if, local_of, locals_before, locals_of, met_if, start_of, type_in, type_met}
+use Rattle.cal_check.specs.Statements.{type_of_var}
 use Rattle.cal_check.specs.Written.{behind_vars, by_number, constant_written, gens_written, number_tree, statement_written, var_written, vars_written, with_inner, written}
 
 module _ (P Q : List ℕ → Type 0) where
@@ -88,3 +91,30 @@ module _ (P Q : List ℕ → Type 0) where
   pub locals-call : (vars : Tree) (names : Names) → EachCall P Q vars → Each (StartCalls P Q) (locals_of vars names)
   locals-call (tree.cons v vs) names h = (local-calls v names h.0, locals-call vs (with_inner v names) h.1)
   locals-call other names h = tt
+
+  -- ---- those before one whose type breaks a rule, and what stands for it
+
+  local-if-calls : (j : Judged Shape) (x : Local) (xs : List Local) → StartCalls P Q x → Each (StartCalls P Q) xs → Each (StartCalls P Q) (local_if j x xs)
+  local-if-calls (Fine t) x xs h rest = (h, rest)
+  local-if-calls (Broken rule at) x xs h rest = tt
+
+  pub before-call : (vars : Tree) (names : Names) → EachCall P Q vars → Each (StartCalls P Q) (locals_before vars names)
+  before-call (tree.cons v vs) names h =
+      local-if-calls (type_of_var v names) (local_of v names) (locals_before vs (with_inner v names)) (local-calls v names h.0) (before-call vs (with_inner v names) h.1)
+  before-call other names h = tt
+
+  type-calls : (v : Tree) → EachCall P Q v → EachCall P Q (type_in v)
+  type-calls (tree.var shape name start changes at) h = h.0
+  type-calls other h = tt
+
+  type-met-calls : (b : Bool) (shape : Tree) → EachCall P Q shape → EachCall P Q (type_met b shape)
+  type-met-calls true shape h = ((tt, ((h, tt, tt), tt)), tt)
+  type-met-calls false shape h = tt
+
+  met-calls : (j : Judged Shape) (v others : Tree) → EachCall P Q v → EachCall P Q others → EachCall P Q (met_if j v others)
+  met-calls (Fine t) v others h rest = rest
+  met-calls (Broken rule at) v others h rest = type-met-calls (is_awaited (Broken rule at)) (type_in v) (type-calls v h)
+
+  pub met-call : (vars : Tree) (names : Names) → EachCall P Q vars → EachCall P Q (first_met vars names)
+  met-call (tree.cons v vs) names h = met-calls (type_of_var v names) v (first_met vs (with_inner v names)) h.0 (met-call vs (with_inner v names) h.1)
+  met-call other names h = tt

@@ -17,7 +17,8 @@ use Rattle.cal_model.specs.Sound.{Each, IsFormal, with_locals}
 use Rattle.cal_model.proofs.KindLaws.{judged-type}
 use Rattle.cal_model.proofs.KindValues.{fine-is, not-fine, split}
 use Rattle.cal_check.specs.Laws.{AreBare, ConstantsFit}
-use Rattle.cal_check.specs.Routines.{FunDecl, Head, fun_if, fun_judged, funs_after, funs_over, head_judged, local_of, locals_of, shape_of, with_fun}
+use Rattle.cal_check.specs.Routines.{FunDecl, Head, fun_if, fun_judged, funs_after, funs_over, head_judged, local_if, local_of, locals_before, locals_of, shape_of, with_fun}
+use Rattle.cal_check.specs.Statements.{type_of_var}
 use Rattle.cal_check.specs.Statements.{names_behind}
 use Rattle.cal_check.specs.Written.{with_inner}
 use Rattle.cal_check.proofs.FittingValues.{FunFits, GivesSuch, Fits, IfSome, IsSized, VarsFit, calls-fit, eval-fits, is-sized}
@@ -82,6 +83,15 @@ locals-sized : (vars : Tree) (names : Names) → Each (λ x. IsSized x.shape) (l
 locals-sized (tree.cons v vs) names = (local-sized v names, locals-sized vs (with_inner v names))
 locals-sized other names = tt
 
+local-if-sized : (j : Judged Shape) (x : Local) (xs : List Local) → IsSized x.shape → Each (λ x. IsSized x.shape) xs → Each (λ x. IsSized x.shape) (local_if j x xs)
+local-if-sized (Fine t) x xs h rest = (h, rest)
+local-if-sized (Broken rule at) x xs h rest = tt
+
+before-sized : (vars : Tree) (names : Names) → Each (λ x. IsSized x.shape) (locals_before vars names)
+before-sized (tree.cons v vs) names =
+    local-if-sized (type_of_var v names) (local_of v names) (locals_before vs (with_inner v names)) (local-sized v names) (before-sized vs (with_inner v names))
+before-sized other names = tt
+
 formal-sized : (x : Local) → IsFormal x → IsSized x.shape
 formal-sized x f = subst (λ t. IsSized t) (sym f.single) f.size
 
@@ -93,7 +103,7 @@ head-fits (Fine inner) full head vars body names formals size = record {
 }
 head-fits (Broken rule at) full head vars body names formals size = record {
   formals = each-map IsFormal (λ x. IsSized x.shape) head.formals formal-sized formals;
-  locals = tt;
+  locals = before-sized vars (with_locals head.formals names);
   result = size;
 }
 

@@ -387,6 +387,52 @@ conforms_in_time : breaks (with_ports [] (constant 10 ∷ var (codes "a") (tree.
 unfolding turns.max_turns
 conforms_in_time = refl
 
+-- whatever becomes of what the function gives: an item that isn't chosen
+abbrev passes_over : List ℕ → List Tree → Tree
+passes_over f args = tree.index (tree.list (listed (tree.call f (listed args) 30 ∷ tree.number 8 34 ∷ [])) 30) (tree.number 1 36) 30
+
+passed_over : breaks (with_ports [] (var (codes "a") (passes_over (codes "f") []) 20 ∷ constant 40 ∷ sized_later ∷ [])) ≡ found 409 30 ∷ []
+unfolding turns.max_turns
+passed_over = refl
+
+-- .. an argument that isn't used
+abbrev eight : Tree
+eight = tree.function (name (codes "g") 160) (listed (formal (number 165) 165 ∷ [])) (number 175) tree.nil (tree.number 8 185) 150
+
+unused : breaks (with_ports [] (var (codes "a") (tree.call (codes "g") (listed (tree.call (codes "f") tree.nil 32 ∷ [])) 30) 20 ∷ constant 40 ∷ sized_later ∷ eight ∷ []))
+    ≡ found 409 30 ∷ []
+unfolding turns.max_turns
+unused = refl
+
+-- .. and if the size is what is declared there
+sized_by_itself : breaks (with_ports [] (tree.var (number 20) (name (codes "k") 24) (tree.present (passes_over (codes "f") [])) false 20 ∷ sized_later ∷ [])) ≡ found 409 30 ∷ []
+unfolding turns.max_turns
+sized_by_itself = refl
+
+-- what the type of the local breaks is named instead: that there are too many bits, that the size is a formal, or that
+-- a function in it adds a truth value
+abbrev sized : Tree → List Tree → Tree
+sized size formals = tree.function (name (codes "f") 60) (listed formals) (number 65)
+    (listed (tree.var (tree.type_of (name (codes "int") 70) (listed (tree.value_arg (name (codes "size") 74) size ∷ [])) 70)
+    (name (codes "x") 82) (tree.present (tree.number 1 86)) true 70 ∷ []))
+    (tree.number 1 90) 50
+
+sized_wrongly : breaks (with_ports [] (var (codes "a") (passes_over (codes "f") []) 20 ∷ sized (tree.number 65 79) [] ∷ [])) ≡ found 402 70 ∷ []
+unfolding turns.max_turns
+sized_wrongly = refl
+
+sized_by_a_formal : breaks (with_ports [] (var (codes "a") (passes_over (codes "f") (tree.number 8 31 ∷ [])) 20 ∷ sized (tree.variable (codes "v") 79) (formal (number 62) 62 ∷ []) ∷ []))
+    ≡ found 409 79 ∷ []
+unfolding turns.max_turns
+sized_by_a_formal = refl
+
+abbrev adds_truth : Tree
+adds_truth = tree.function (name (codes "h") 160) tree.nil (number 165) tree.nil (tree.binary op.Add (tree.truth true 175) (tree.number 1 182) 175) 150
+
+sized_by_a_body : breaks (with_ports [] (var (codes "a") (passes_over (codes "f") []) 20 ∷ sized (tree.call (codes "h") tree.nil 79) [] ∷ adds_truth ∷ [])) ≡ found 401 175 ∷ []
+unfolding turns.max_turns
+sized_by_a_body = refl
+
 -- ---- a whole source
 
 -- a state variable, a function, a procedure that calls it and assigns the variable, and an action that calls the

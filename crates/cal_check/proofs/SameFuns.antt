@@ -4,6 +4,7 @@ use Rattle.std.specs.Prelude.{if◌then◌else◌}
 use Rattle.rvc_base.specs.Turns.{max_turns}
 use Rattle.rvc_base.specs.Rules.{unknown_name, wrong_number_of_arguments}
 use Rattle.cal_ast.specs.Places.{begins}
+use Rattle.cal_ast.specs.declared.expr.PrefixOp.TheVariants.{Not}
 use Rattle.cal_ast.specs.Tree as tree
 use Rattle.cal_ast.specs.Tree.{Tree}
 use Rattle.cal_model.specs.Value.{Kind, NumKind, BoolKind, ListKind, Shape, kind_of_scalar, kind_of_type}
@@ -14,7 +15,7 @@ use Rattle.cal_model.specs.Call.{calls_of, fun_named}
 use Rattle.cal_model.specs.Kinding.{Judged, Fine, Broken, Known, Names, OfShape, OfSize, and_so, arguments_fit, binary_kind, branch_kind, constant, constant_calls, constant_number, constants, counter, counts, elements_in, is_word, item_kind, kind, kinds, list_kind, list_of_kind, number_given, one_kind, prefix_kind, type_arguments, type_judged, type_with, with_counters, with_known}
 use Rattle.cal_model.specs.Sound.{EachCall, kind_of_judged, known_local, with_locals}
 use Rattle.cal_check.specs.Formed.{AreDeclared, FormalCalls, FormalsCall}
-use Rattle.cal_check.specs.Routines.{Head, formal_judged, formal_of, formals_judged, fun_if, fun_judged, fun_of, head_judged, locals_of, result_judged, shape_of, single, single_type, start_of}
+use Rattle.cal_check.specs.Routines.{Head, formal_judged, formal_of, formals_judged, first_met, fun_if, fun_judged, fun_of, head_judged, local_if, locals_before, locals_of, met_if, result_judged, shape_of, single, single_type, start_of, useless_fun}
 use Rattle.cal_check.specs.Statements.{behind, names_behind}
 use Rattle.cal_check.specs.Written.{behind_vars, by_number, constant_written, gens_written, with_inner, written}
 use Rattle.cal_check.proofs.SameCalls.{CallsSame, eval-same}
@@ -193,6 +194,8 @@ module _ (P Q : List ℕ → Type 0) (a b : List Fun) (f : FunsSame P a b) where
     behind_a : behind_vars vars (on a n) ≡ on a inner
     behind_b : behind_vars vars (on b n) ≡ on b inner
     locals : locals_of vars (on a n) ≡ locals_of vars (on b n)
+    before : locals_before vars (on a n) ≡ locals_before vars (on b n)
+    met : first_met vars (on a n) ≡ first_met vars (on b n)
     fine : is_fine (names_behind vars (on a n)) ≡ is_fine (names_behind vars (on b n))
 
   start-same : (start : Tree) (n : Names) → EachCall P Q start → start_of start (on a n) ≡ start_of start (on b n)
@@ -203,7 +206,7 @@ module _ (P Q : List ℕ → Type 0) (a b : List Fun) (f : FunsSame P a b) where
   known_by name changes j = record { name = name; kind = kind_of_judged j; value = None; changes = changes }
 
   vars-same : (vars : Tree) (n : Names) → AreDeclared vars → EachCall P Q vars → VarsSame vars n
-  vars-same tree.nil n d r = record { inner = n; behind_a = refl; behind_b = refl; locals = refl; fine = refl }
+  vars-same tree.nil n d r = record { inner = n; behind_a = refl; behind_b = refl; locals = refl; before = refl; met = refl; fine = refl }
   vars-same (tree.cons (tree.var shape (tree.ident name place) start changes at) vs) n d r =
       let j : Judged Shape = type_judged shape (on a n) in
       let k : Judged Shape = type_judged shape (on b n) in
@@ -218,6 +221,11 @@ module _ (P Q : List ℕ → Type 0) (a b : List Fun) (f : FunsSame P a b) where
         locals = ap (λ i. record { name = name; shape = shape_of i; start = start_of start (on a n); changes = changes } ∷ locals_of vs (on a next)) e
             ∙ ap (λ o. record { name = name; shape = shape_of k; start = o; changes = changes } ∷ locals_of vs (on a next)) (start-same start n r.0.1)
             ∙ ap (λ ls. record { name = name; shape = shape_of k; start = start_of start (on b n); changes = changes } ∷ ls) (rest.locals ∙ ap (λ m. locals_of vs m) (sym there));
+        before = ap (λ i. local_if i (record { name = name; shape = shape_of i; start = start_of start (on a n); changes = changes }) (locals_before vs (on a next))) e
+            ∙ ap (λ o. local_if k (record { name = name; shape = shape_of k; start = o; changes = changes }) (locals_before vs (on a next))) (start-same start n r.0.1)
+            ∙ ap (λ ls. local_if k (record { name = name; shape = shape_of k; start = start_of start (on b n); changes = changes }) ls) (rest.before ∙ ap (λ m. locals_before vs m) (sym there));
+        met = ap (λ i. met_if i (tree.var shape (tree.ident name place) start changes at) (first_met vs (on a next))) e
+            ∙ ap (λ t. met_if k (tree.var shape (tree.ident name place) start changes at) t) (rest.met ∙ ap (λ m. first_met vs m) (sym there));
         fine = go j k e (rest.fine ∙ ap (λ m. is_fine (names_behind vs m)) (sym there));
       }
     where
@@ -249,9 +257,9 @@ module _ (P Q : List ℕ → Type 0) (a b : List Fun) (f : FunsSame P a b) where
   if-same (Broken rule at) (Broken other p) full head vars body n e = refl
 
   over-same : (j : Judged Names) (full : List ℕ) (head : Head) (vars body : Tree) (n m : Names) → fun_of full head vars body n ≡ fun_of full head vars body m
-      → fun_if j full head vars body n ≡ fun_if j full head vars body m
-  over-same (Fine x) full head vars body n m e = e
-  over-same (Broken rule at) full head vars body n m e = refl
+      → useless_fun full head vars n ≡ useless_fun full head vars m → fun_if j full head vars body n ≡ fun_if j full head vars body m
+  over-same (Fine x) full head vars body n m e u = e
+  over-same (Broken rule at) full head vars body n m e u = u
 
   fun-made : (full : List ℕ) (head : Head) (vars body : Tree) (n : Names) → AreDeclared vars → EachCall P Q vars → EachCall P Q body
       → fun_if (names_behind vars (with_locals head.formals (on a n))) full head vars body (on a n) ≡ fun_if (names_behind vars (with_locals head.formals (on b n))) full head vars body (on b n)
@@ -265,12 +273,18 @@ module _ (P Q : List ℕ → Type 0) (a b : List Fun) (f : FunsSame P a b) where
       let body_same : written body (behind_vars vars (with_locals head.formals (on a n))) ≡ written body (behind_vars vars (with_locals head.formals (on b n))) =
       ap (λ m. written body (behind_vars vars m)) ea ∙ ap (λ m. written body m) s.behind_a ∙ written-same body s.inner rb
       ∙ sym (ap (λ m. written body m) s.behind_b) ∙ sym (ap (λ m. written body (behind_vars vars m)) eb) in
+      let before : locals_before vars (with_locals head.formals (on a n)) ≡ locals_before vars (with_locals head.formals (on b n)) =
+      ap (λ m. locals_before vars m) ea ∙ s.before ∙ sym (ap (λ m. locals_before vars m) eb) in
+      let met : first_met vars (with_locals head.formals (on a n)) ≡ first_met vars (with_locals head.formals (on b n)) =
+      ap (λ m. first_met vars m) ea ∙ s.met ∙ sym (ap (λ m. first_met vars m) eb) in
       let fine : is_fine (names_behind vars (with_locals head.formals (on a n))) ≡ is_fine (names_behind vars (with_locals head.formals (on b n))) =
       ap (λ m. is_fine (names_behind vars m)) ea ∙ s.fine ∙ sym (ap (λ m. is_fine (names_behind vars m)) eb) in
       if-same (names_behind vars (with_locals head.formals (on a n))) (names_behind vars (with_locals head.formals (on b n))) full head vars body (on a n) fine
       ∙ over-same (names_behind vars (with_locals head.formals (on b n))) full head vars body (on a n) (on b n)
       (ap (λ ls. record { name = full; formals = head.formals; locals = ls; result = head.result; body = written body (behind_vars vars (with_locals head.formals (on a n))) }) locals
       ∙ ap (λ t. record { name = full; formals = head.formals; locals = locals_of vars (with_locals head.formals (on b n)); result = head.result; body = t }) body_same)
+      (ap (λ ls. record { name = full; formals = head.formals; locals = ls; result = head.result; body = tree.prefix Not (tree.list (first_met vars (with_locals head.formals (on a n))) 0) 0 }) before
+      ∙ ap (λ t. record { name = full; formals = head.formals; locals = locals_before vars (with_locals head.formals (on b n)); result = head.result; body = tree.prefix Not (tree.list t 0) 0 }) met)
 
   pub fun-same : (full : List ℕ) (name formals result vars body : Tree) (at : ℕ) (n : Names) → AreDeclared vars → FormalsCall P Q formals → EachCall P Q result → EachCall P Q vars → EachCall P Q body
       → fun_judged full (tree.function name formals result vars body at) (on a n) ≡ fun_judged full (tree.function name formals result vars body at) (on b n)

@@ -19,7 +19,7 @@ use Rattle.cal_check.specs.Formed.{DeclCallsBelow, IsFunFormed}
 use Rattle.cal_check.specs.Routines.{FunDecl, Head, fun_if, fun_judged, funs_after, funs_over, head_judged, with_fun}
 use Rattle.cal_check.specs.Statements.{names_behind}
 use Rattle.cal_check.specs.Written.{behind_vars}
-use Rattle.cal_check.proofs.CallsBelow.{locals-call, written-calls}
+use Rattle.cal_check.proofs.CallsBelow.{before-call, locals-call, met-call, written-calls}
 use Rattle.cal_check.proofs.FittingValues.{named-one}
 use Rattle.cal_check.proofs.SameCalls.{answered-same}
 use Rattle.cal_check.proofs.SameFuns.{FunsSame, fun-same, on}
@@ -162,7 +162,10 @@ if-calls rank (Fine inner) full head vars body names name formals result at h = 
   locals = locals-call (λ other. rank other < rank full) (λ other. ⊥) vars (with_locals head.formals names) h.2;
   body = written-calls (λ other. rank other < rank full) (λ other. ⊥) body (behind_vars vars (with_locals head.formals names)) h.3;
 }
-if-calls rank (Broken rule p) full head vars body names name formals result at h = record { locals = tt; body = tt }
+if-calls rank (Broken rule p) full head vars body names name formals result at h = record {
+  locals = before-call (λ other. rank other < rank full) (λ other. ⊥) vars (with_locals head.formals names) h.2;
+  body = met-call (λ other. rank other < rank full) (λ other. ⊥) vars (with_locals head.formals names) h.2;
+}
 
 pub fun-calls : (rank : List ℕ → ℕ) (full : List ℕ) (decl : Tree) (names : Names) (f : Fun) → DeclCallsBelow rank full decl → fun_judged full decl names ≡ Fine f → FunCallsBelow rank f
 fun-calls rank full (tree.function name formals result vars body at) names f h e =

@@ -9,6 +9,7 @@ use Rattle.cal_ast.specs.declared.expr.BinOp.TheVariants.{Sub}
 use Rattle.cal_ast.specs.Places.{begins}
 use Rattle.cal_ast.specs.Tree as tree
 use Rattle.cal_ast.specs.Tree.{Tree}
+use Rattle.cal_model.specs.Value.{Shape}
 use Rattle.cal_model.specs.Actor.{Local, Output, Port}
 use Rattle.cal_model.specs.Rates.{parts}
 use Rattle.cal_model.specs.Selection.{kind_of_port}
@@ -17,7 +18,8 @@ use Rattle.cal_model.specs.Sound.{Each, kind_of_tokens}
 use Rattle.cal_model.proofs.KindValues.{fine-is, not-fine, split}
 use Rattle.cal_check.specs.Actions.{body_of, guards_written, output_judged, outputs_fine, outputs_if, outputs_on, rate_judged, repeat_judged, values_judged}
 use Rattle.cal_check.specs.Ports.{each_asked, ports_asked}
-use Rattle.cal_check.specs.Routines.{local_of, locals_of, start_of}
+use Rattle.cal_check.specs.Routines.{first_met, is_awaited, local_if, local_of, locals_before, locals_of, met_if, start_of, type_in, type_met}
+use Rattle.cal_check.specs.Statements.{type_of_var}
 use Rattle.cal_check.specs.Uses.{OnlyUses}
 use Rattle.cal_check.specs.Violations.{all_fine, and_all, fine}
 use Rattle.cal_check.specs.Written.{behind_vars, by_number, constant_written, gens_written, number_tree, statement_written, var_written, vars_written, with_inner, written}
@@ -163,6 +165,33 @@ module _ (P : List ℕ → Type 0) where
   pub locals-use : (vars : Tree) (names : Names) → OnlyUses P vars → EachStart (OnlyUses P) (locals_of vars names)
   locals-use (tree.cons v vs) names h = (local-uses v names h.0, locals-use vs (with_inner v names) h.1)
   locals-use other names h = tt
+
+  -- those before one whose type breaks a rule, and what stands for it
+
+  local-if-uses : (j : Judged Shape) (x : Local) (xs : List Local) → OfStart (OnlyUses P) x.start → EachStart (OnlyUses P) xs → EachStart (OnlyUses P) (local_if j x xs)
+  local-if-uses (Fine t) x xs h rest = (h, rest)
+  local-if-uses (Broken rule at) x xs h rest = tt
+
+  pub before-use : (vars : Tree) (names : Names) → OnlyUses P vars → EachStart (OnlyUses P) (locals_before vars names)
+  before-use (tree.cons v vs) names h =
+      local-if-uses (type_of_var v names) (local_of v names) (locals_before vs (with_inner v names)) (local-uses v names h.0) (before-use vs (with_inner v names) h.1)
+  before-use other names h = tt
+
+  type-uses : (v : Tree) → OnlyUses P v → OnlyUses P (type_in v)
+  type-uses (tree.var shape name start changes at) h = h.0
+  type-uses other h = tt
+
+  type-met-uses : (b : Bool) (shape : Tree) → OnlyUses P shape → OnlyUses P (type_met b shape)
+  type-met-uses true shape h = ((tt, ((h, tt, tt), tt)), tt)
+  type-met-uses false shape h = tt
+
+  met-uses : (j : Judged Shape) (v others : Tree) → OnlyUses P v → OnlyUses P others → OnlyUses P (met_if j v others)
+  met-uses (Fine t) v others h rest = rest
+  met-uses (Broken rule at) v others h rest = type-met-uses (is_awaited (Broken rule at)) (type_in v) (type-uses v h)
+
+  pub met-use : (vars : Tree) (names : Names) → OnlyUses P vars → OnlyUses P (first_met vars names)
+  met-use (tree.cons v vs) names h = met-uses (type_of_var v names) v (first_met vs (with_inner v names)) h.0 (met-use vs (with_inner v names) h.1)
+  met-use other names h = tt
 
   pub guards-use : (guards : Tree) (names : Names) → OnlyUses P guards → Each (OnlyUses P) (guards_written guards names)
   guards-use (tree.cons g gs) names h = (written-uses g names h.0, guards-use gs names h.1)

@@ -3,10 +3,11 @@
 --
 -- Their heads are judged before anything that calls them: what a head breaks, and else what is inside.
 -- Trusted: part of what a promise means.
-use Rattle.std.specs.Prelude.{ℕ, zero, suc, true, List, [], ◌∷◌, ◌++◌, length, Option, None, Some}
+use Rattle.std.specs.Prelude.{ℕ, zero, suc, Bool, true, false, ◌||◌, ◌==◌, List, [], ◌∷◌, ◌++◌, length, Option, None, Some}
 use Rattle.rvc_base.specs.declared.scalar.Scalar.{Scalar}
 use Rattle.rvc_base.specs.declared.scalar.Scalar.TheVariants as scalar
-use Rattle.rvc_base.specs.Rules.{unknown_name, list_not_allowed}
+use Rattle.rvc_base.specs.Rules.{unknown_name, list_not_allowed, not_constant}
+use Rattle.cal_ast.specs.declared.expr.PrefixOp.TheVariants.{Not}
 use Rattle.cal_ast.specs.Places.{begins}
 use Rattle.cal_ast.specs.Tree as tree
 use Rattle.cal_ast.specs.Tree.{Tree}
@@ -17,7 +18,7 @@ use Rattle.cal_model.specs.Sound.{known_local, with_locals}
 use Rattle.cal_check.specs.Violations.{Violation, broken, if_fine, while_fine}
 use Rattle.cal_check.specs.Constants.{stored_kind}
 use Rattle.cal_check.specs.Written.{with_inner, written, statement_written, behind_vars}
-use Rattle.cal_check.specs.Statements.{names_behind, starts_broken, statement_broken}
+use Rattle.cal_check.specs.Statements.{names_behind, type_of_var, starts_broken, statement_broken}
 
 -- ---- single values
 
@@ -100,20 +101,59 @@ fun_of name head vars body names = record {
   body = written body (behind_vars vars (with_locals head.formals names));
 }
 
--- What a function is where it is called. One with a local whose type breaks a rule gives what is of no use: an empty
--- list.
-abbrev pub useless_fun : List ℕ → Head → Fun
-useless_fun name head = record {
+-- ---- functions with a local whose type breaks a rule
+
+-- a type that says what isn't known yet, or what isn't constant
+abbrev pub is_awaited : Judged Shape → Bool
+is_awaited (Fine t) = false
+is_awaited (Broken rule at) = (rule.0 == unknown_name.0) || (rule.0 == not_constant.0)
+
+-- A list of no elements over a type, so that evaluation meets the type: whatever it needs of it is met. A type that
+-- breaks another rule isn't met.
+abbrev pub type_met : Bool → Tree → Tree
+type_met true shape = tree.cons (tree.comp (tree.number 0 0)
+    (tree.cons (tree.gen shape (tree.ident [] 0) (tree.number 1 0) (tree.number 0 0) 0) tree.nil)
+    0) tree.nil
+type_met false shape = tree.nil
+
+abbrev pub type_in : Tree → Tree
+type_in (tree.var shape name start changes at) = shape
+type_in other = tree.nil
+
+abbrev pub met_if : Judged Shape → Tree → Tree → Tree
+met_if (Fine t) v others = others
+met_if (Broken rule at) v others = type_met (is_awaited (Broken rule at)) (type_in v)
+
+-- the first type of these that breaks a rule
+abbrev pub first_met : Tree → Names → Tree
+first_met (tree.cons v vs) names =
+    met_if (type_of_var v names) v (first_met vs (with_inner v names))
+first_met other names = tree.nil
+
+abbrev pub local_if : Judged Shape → Local → List Local → List Local
+local_if (Fine t) x xs = x ∷ xs
+local_if (Broken rule at) x xs = []
+
+-- the locals before it
+abbrev pub locals_before : Tree → Names → List Local
+locals_before (tree.cons v vs) names =
+    local_if (type_of_var v names) (local_of v names) (locals_before vs (with_inner v names))
+locals_before other names = []
+
+-- What a function with such a local is where it is called: evaluation goes through the locals before it, meets its type,
+-- and comes no further. It lacks a name that has no value yet, or else it clashes, so it never gives a value.
+abbrev pub useless_fun : List ℕ → Head → Tree → Names → Fun
+useless_fun name head vars names = record {
   name = name;
   formals = head.formals;
-  locals = [];
+  locals = locals_before vars (with_locals head.formals names);
   result = head.result;
-  body = tree.list tree.nil 0;
+  body = tree.prefix Not (tree.list (first_met vars (with_locals head.formals names)) 0) 0;
 }
 
 abbrev pub fun_if : Judged Names → List ℕ → Head → Tree → Tree → Names → Fun
 fun_if (Fine inner) name head vars body names = fun_of name head vars body names
-fun_if (Broken rule at) name head vars body names = useless_fun name head
+fun_if (Broken rule at) name head vars body names = useless_fun name head vars names
 
 abbrev pub fun_judged : List ℕ → Tree → Names → Judged Fun
 fun_judged full (tree.function name formals result vars body at) names =

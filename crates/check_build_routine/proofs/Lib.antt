@@ -1,4 +1,5 @@
 pub mod Judged
 mod LocalSteps
+mod UntypedSteps
 mod FormalSteps
 mod Functions

@@ -3,6 +3,7 @@
 use Rattle.std.specs.Prelude.{◌≡◌, ℕ, Bool, true, false, List, [], Option, None, Some}
 use Rattle.rvc_base.specs.Rules.{unknown_name}
 use Rattle.rvc_base.specs.declared.scalar.Scalar.TheVariants as scalar
+use Rattle.cal_ast.specs.declared.expr.PrefixOp.TheVariants.{Not}
 use Rattle.cal_ast.specs.Tree as tree
 use Rattle.cal_ast.specs.Tree.{Tree}
 use Rattle.cal_model.specs.Actor.{Fun, Local, Proc}
@@ -11,7 +12,7 @@ use Rattle.cal_model.specs.Sound.{with_locals}
 use Rattle.cal_model.specs.Value.{Kind, NumKind, Shape, Single, kind_of_type}
 use Rattle.cal_model.specs.View.{local_view}
 use Rattle.const_env.specs.Counting.{known_variable, variable_view}
-use Rattle.cal_check.specs.Routines.{fun_if, local_of, locals_of, proc_of, result_judged}
+use Rattle.cal_check.specs.Routines.{first_met, fun_if, local_of, locals_before, locals_of, proc_of, result_judged}
 use Rattle.cal_check.specs.Statements.{names_behind, type_of_var}
 use Rattle.cal_check.specs.Written.{behind_vars, with_inner, written}
 use Rattle.check_build_routine.specs.declared.local.DeclaredLocal.{DeclaredLocal}
@@ -35,14 +36,15 @@ pub record IsLocal (found : DeclaredLocal) (v : Tree) (names : Names) : Type 0 w
   pub variable : with_known (known_variable (variable_view found.variable)) names ≡ with_inner v names
   pub typed : found.typed ≡ is_fine (type_of_var v names)
 
--- what stands inside a function: its locals and its body, or what is of no use if the type of a local breaks a rule
+-- what stands inside a function: its locals and its body, or what stands for them if the type of a local breaks a rule
 abbrev pub inside_locals : Judged Names → Tree → Names → List Local
 inside_locals (Fine inner) vars names = locals_of vars names
-inside_locals (Broken rule at) vars names = []
+inside_locals (Broken rule at) vars names = locals_before vars names
 
 abbrev pub inside_body : Judged Names → Tree → Tree → Names → Tree
 inside_body (Fine inner) vars body names = written body (behind_vars vars names)
-inside_body (Broken rule at) vars body names = tree.list tree.nil 0
+inside_body (Broken rule at) vars body names =
+    tree.prefix Not (tree.list (first_met vars names) 0) 0
 
 -- a function or a procedure whose formals these are
 abbrev pub fun_behind : List ℕ → Tree → List Local → Names → Judged Fun

@@ -7,6 +7,7 @@
 mod formal;
 mod local;
 mod routines;
+mod untyped;
 
 pub use formal::{DeclaredFormals, formals, single_type};
 pub use local::{DeclaredLocals, locals};

@@ -80,7 +80,11 @@ fn both(a: bool, b: bool) -> bool
 }
 
 /// A local that stands behind others.
-fn local_behind(names: &Names, before: &Variables, v: &VarDecl) -> Result<DeclaredLocal, Memory>
+pub(crate) fn local_behind(
+    names: &Names,
+    before: &Variables,
+    v: &VarDecl,
+) -> Result<DeclaredLocal, Memory>
     ensures { IfOk result (λ found. IsLocal found (var_tree v.now) (seen_behind before.now names.now)) }
 {
     let inside = Inside {

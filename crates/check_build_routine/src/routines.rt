@@ -1,11 +1,12 @@
 //! Functions and procedures.
 #![tactic(auto, using(crate::proofs::Judged::breaks_on))]
 
-ghost use Rattle.std.specs.Prelude.{◌≡◌, IfOk, [], map};
+ghost use Rattle.std.specs.Prelude.{◌≡◌, IfOk, map};
+ghost use Rattle.cal_ast.specs.declared.expr.PrefixOp.TheVariants.{Not};
 ghost use Rattle.cal_ast.specs.Tree as tree;
 ghost use Rattle.cal_ast.specs.Tree.{listed};
 ghost use Rattle.cal_ast.specs.View.{expr_tree, function_tree, procedure_tree, stmt_tree, var_tree};
-ghost use Rattle.cal_check.specs.Routines.{fun_judged, proc_judged};
+ghost use Rattle.cal_check.specs.Routines.{first_met, fun_judged, locals_before, proc_judged};
 ghost use Rattle.cal_check.specs.Statements.{names_behind};
 ghost use Rattle.cal_model.specs.Sound.{with_locals};
 ghost use Rattle.cal_model.specs.View.{fun_view, local_view, proc_view};
@@ -17,7 +18,8 @@ ghost use Rattle.check_build_routine.specs.Declaring.{fun_behind, inside_body, i
 
 use crate::formal::{DeclaredFormals, formals, single_type};
 use crate::local::locals;
-use cal_ast::{Expr, ExprForm, Function, Procedure, Stmt};
+use crate::untyped::up_to_untyped;
+use cal_ast::{Expr, ExprForm, Function, PrefixOp, Procedure, Stmt, VarDecl};
 use cal_model::{BoundFun, BoundLocal, BoundProc};
 use check_fold::{expr, stmts};
 use const_eval::{Inside, KindFault, Names, Variables};
@@ -32,7 +34,7 @@ struct InsideFun {
 }
 
 /// A function by the text that stands for it where it is used. If the type of one of its locals breaks a rule, it gives
-/// what is of no use: an empty list.
+/// nothing: evaluation meets that type, and comes no further.
 ///
 /// # Errors
 ///
@@ -86,7 +88,7 @@ fn inside_fun(names: &Names, decl: &Function) -> Result<InsideFun, Memory>
 {
     let found = locals(names, &decl.vars)?;
     if !found.typed {
-        return Ok(useless(names.alloc));
+        return useless(names, &decl.vars);
     }
     let body = expr_behind(names, &found.behind, &decl.body)?;
     Ok(InsideFun {
@@ -95,16 +97,35 @@ fn inside_fun(names: &Names, decl: &Function) -> Result<InsideFun, Memory>
     })
 }
 
-/// What is of no use: no locals, and an empty list.
-fn useless(alloc: Global) -> InsideFun
-    ensures locals { result.locals.items ≡ [] }
-    ensures body { expr_tree result.body ≡ tree.list tree.nil 0 }
+/// What stands for a function with a local whose type breaks a rule: the locals before it, and that type.
+fn useless(names: &Names, vars: &[VarDecl]) -> Result<InsideFun, Memory>
+    ensures locals { IfOk result (λ found. map local_view found.locals.items
+        ≡ locals_before (listed (map var_tree vars.now)) (names_view names.now)) }
+    ensures body { IfOk result (λ found. expr_tree found.body ≡ tree.prefix Not
+        (tree.list (first_met (listed (map var_tree vars.now)) (names_view names.now)) 0) 0) }
 {
-    let form = ExprForm::List(Vec::new(alloc));
-    InsideFun {
-        locals: Vec::new(alloc),
-        body: Expr { form, at: 0 },
-    }
+    let found = up_to_untyped(names, vars)?;
+    let body = clash(names.alloc, found.types)?;
+    Ok(InsideFun {
+        locals: found.locals,
+        body,
+    })
+}
+
+/// An expression that evaluates these, and then clashes.
+fn clash(alloc: Global, items: Vec<Expr>) -> Result<Expr, Memory>
+    ensures { IfOk result (λ e. expr_tree e
+        ≡ tree.prefix Not (tree.list (listed (map expr_tree items.items)) 0) 0) }
+{
+    let list = Expr {
+        form: ExprForm::List(items),
+        at: 0,
+    };
+    let form = ExprForm::Prefix {
+        op: PrefixOp::Not,
+        of: Box::new(alloc, list)?,
+    };
+    Ok(Expr { form, at: 0 })
 }
 
 /// An expression that stands behind variables.

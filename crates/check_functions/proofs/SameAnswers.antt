@@ -18,7 +18,7 @@ use Rattle.cal_check.specs.Routines.{Head, fun_if, fun_judged, head_judged}
 use Rattle.cal_check.specs.Statements.{names_behind}
 use Rattle.cal_check.specs.Uses.{OnlyUses}
 use Rattle.cal_check.specs.Written.{behind_vars}
-use Rattle.cal_check.proofs.WrittenUses.{EachStart, OfStart, locals-use, written-uses}
+use Rattle.cal_check.proofs.WrittenUses.{EachStart, OfStart, before-use, locals-use, met-use, written-uses}
 use Rattle.check_functions.proofs.Bare.{uses_says}
 use Rattle.check_functions.proofs.SameValues.{SeeSame, eval-same, more-same}
 
@@ -87,7 +87,8 @@ module _ (P : List ℕ → Type 0) where
   made-uses : (j : Judged Names) (full : List ℕ) (head : Head) (vars body : Tree) (names : Names) → OnlyUses P vars → OnlyUses P body → FunUses (fun_if j full head vars body names)
   made-uses (Fine inner) full head vars body names u w =
       record { locals = locals-use P vars (with_locals head.formals names) u; body = written-uses P body (behind_vars vars (with_locals head.formals names)) w }
-  made-uses (Broken rule at) full head vars body names u w = record { locals = tt; body = tt }
+  made-uses (Broken rule at) full head vars body names u w =
+      record { locals = before-use P vars (with_locals head.formals names) u; body = met-use P vars (with_locals head.formals names) u }
 
   pub fun-uses : (full : List ℕ) (decl : Tree) (names : Names) (g : Fun) → OnlyUses P decl → fun_judged full decl names ≡ Fine g → FunUses g
   fun-uses full (tree.function name formals result vars body at) names g u h =

@@ -2,13 +2,14 @@
 -- if those that were found before are the same and give the same.
 use Rattle.std.proofs.Common.{◌≡◌, ℕ, Bool, true, false, List, [], ◌∷◌, refl, ap, subst, ◌∙◌, None, Some}
 use Rattle.cal_ast.specs.Places.{begins}
+use Rattle.cal_ast.specs.declared.expr.PrefixOp.TheVariants.{Not}
 use Rattle.cal_ast.specs.Tree as tree
 use Rattle.cal_ast.specs.Tree.{Tree}
 use Rattle.cal_model.specs.Actor.{Fun, Local}
 use Rattle.cal_model.specs.Kinding.{Judged, Fine, Broken, Names, and_so, counter, kind, meant_by, type_judged, with_counters, with_known}
 use Rattle.cal_model.specs.Sound.{kind_of_judged, known_local, with_locals}
 use Rattle.cal_model.specs.Value.{Shape}
-use Rattle.cal_check.specs.Routines.{FunDecl, Head, formal_judged, formal_of, formals_judged, fun_if, fun_judged, fun_of, funs_over, head_judged, local_of, locals_of, result_judged, shape_of, single, single_type, start_of, with_fun}
+use Rattle.cal_check.specs.Routines.{FunDecl, Head, formal_judged, formal_of, first_met, formals_judged, fun_if, fun_judged, fun_of, funs_over, head_judged, local_if, local_of, locals_before, locals_of, met_if, result_judged, shape_of, single, single_type, start_of, useless_fun, with_fun}
 use Rattle.cal_check.specs.Statements.{behind, names_behind}
 use Rattle.cal_check.specs.Written.{behind_vars, by_number, constant_written, gens_written, with_inner, written}
 use Rattle.check_functions.proofs.Bare.{AllSay, No, SaysOnly}
@@ -123,6 +124,21 @@ module _ (P : List ℕ → Type 0) (C : List ℕ → Type 0) where
   locals-same (tree.cons v vs) n m s r = ap (λ xs. local_of v n ∷ xs) (locals-same vs n m s r.1)
   locals-same other n m s r = refl
 
+  before-same : (vs : Tree) (n m : Names) → MeanSame P C n m → SaysOnly P C false vs → locals_before vs n ≡ locals_before vs m
+  before-same (tree.cons (tree.var shape name start changes at) vs) n m s r =
+      let v = tree.var shape name start changes at in
+      ap (λ j. local_if j (local_of v n) (locals_before vs (with_inner v n))) (type-same P C shape n m s r.0.0)
+      ∙ ap (λ x. local_if (type_judged shape m) x (locals_before vs (with_inner v n))) (local-same shape name start changes at n m s r.0.0 r.0.1)
+      ∙ ap (λ xs. local_if (type_judged shape m) (local_of v m) xs) (before-same vs (with_inner v n) (with_inner v m) (inner-mean shape name start changes at n m s r.0.0) r.1)
+  before-same other n m s r = refl
+
+  met-same : (vs : Tree) (n m : Names) → MeanSame P C n m → SaysOnly P C false vs → first_met vs n ≡ first_met vs m
+  met-same (tree.cons (tree.var shape name start changes at) vs) n m s r =
+      let v = tree.var shape name start changes at in
+      ap (λ j. met_if j v (first_met vs (with_inner v n))) (type-same P C shape n m s r.0.0)
+      ∙ ap (λ t. met_if (type_judged shape m) v t) (met-same vs (with_inner v n) (with_inner v m) (inner-mean shape name start changes at n m s r.0.0) r.1)
+  met-same other n m s r = refl
+
   behind-mean : (vs : Tree) (n m : Names) → MeanSame P C n m → SaysOnly P C false vs → MeanSame P C (behind_vars vs n) (behind_vars vs m)
   behind-mean (tree.cons (tree.var shape name start changes at) vs) n m s r =
       behind-mean vs (with_inner (tree.var shape name start changes at) n) (with_inner (tree.var shape name start changes at) m) (inner-mean shape name start changes at n m s r.0.0) r.1
@@ -140,12 +156,20 @@ module _ (P : List ℕ → Type 0) (C : List ℕ → Type 0) where
       ap (λ xs. made name head xs (written body (behind_vars vs i))) (locals-same vs i j inside r)
       ∙ ap (made name head (locals_of vs j)) (written-same false body (behind_vars vs i) (behind_vars vs j) (behind-mean vs i j inside r) q)
 
+  useless-same : (name : List ℕ) (head : Head) (vs : Tree) (n m : Names) → MeanSame P C n m → SaysOnly P C false vs → useless_fun name head vs n ≡ useless_fun name head vs m
+  useless-same name head vs n m s r =
+      let i = with_locals head.formals n in
+      let j = with_locals head.formals m in
+      let inside = locals-mean head.formals n m s in
+      ap (λ xs. made name head xs (tree.prefix Not (tree.list (first_met vs i) 0) 0)) (before-same vs i j inside r)
+      ∙ ap (λ t. made name head (locals_before vs j) (tree.prefix Not (tree.list t 0) 0)) (met-same vs i j inside r)
+
   if-same : (i j : Judged Names) (name : List ℕ) (head : Head) (vs body : Tree) (n m : Names) → is_fine i ≡ is_fine j → fun_of name head vs body n ≡ fun_of name head vs body m
-      → fun_if i name head vs body n ≡ fun_if j name head vs body m
-  if-same (Fine x) (Fine y) name head vs body n m e h = h
-  if-same (Broken r p) (Broken q o) name head vs body n m e h = refl
-  if-same (Fine x) (Broken q o) name head vs body n m e h = cc
-  if-same (Broken r p) (Fine y) name head vs body n m e h = cc
+      → useless_fun name head vs n ≡ useless_fun name head vs m → fun_if i name head vs body n ≡ fun_if j name head vs body m
+  if-same (Fine x) (Fine y) name head vs body n m e h u = h
+  if-same (Broken r p) (Broken q o) name head vs body n m e h u = u
+  if-same (Fine x) (Broken q o) name head vs body n m e h u = cc
+  if-same (Broken r p) (Fine y) name head vs body n m e h u = cc
 
   pub judged-same : (full : List ℕ) (decl : Tree) (n m : Names) → MeanSame P C n m → SaysOnly P C false decl → fun_judged full decl n ≡ fun_judged full decl m
   judged-same full (tree.function name formals result vars body at) n m s r =
@@ -154,7 +178,8 @@ module _ (P : List ℕ → Type 0) (C : List ℕ → Type 0) where
       (λ head. ap Fine
       (if-same (names_behind vars (with_locals head.formals n)) (names_behind vars (with_locals head.formals m)) full head vars body n m
       (fine-same vars (with_locals head.formals n) (with_locals head.formals m) (locals-mean head.formals n m s) r.2)
-      (fun-same full head vars body n m s r.2 r.3)))
+      (fun-same full head vars body n m s r.2 r.3)
+      (useless-same full head vars n m s r.2)))
   judged-same full other n m s r = refl
 
   pub over-same : (fs : List FunDecl) (n m : Names) → MeanSame P C n m → AllSay P C fs → funs_over fs n ≡ funs_over fs m

@@ -16,8 +16,8 @@ use Rattle.cal_model.specs.Laws.{JudgedIsType}
 use Rattle.cal_model.specs.Sound.{known_local, with_locals}
 use Rattle.cal_model.proofs.KindValues.{split, fine-is, not-fine}
 use Rattle.const_env.specs.Sizes.{is_size, is_sized, are_sized, is_sized_fun}
-use Rattle.cal_check.specs.Routines.{Head, formal_judged, formal_of, formals_judged, fun_if, fun_judged, head_judged, local_of, locals_of, result_judged, shape_of, single, single_type}
-use Rattle.cal_check.specs.Statements.{names_behind}
+use Rattle.cal_check.specs.Routines.{Head, formal_judged, formal_of, formals_judged, fun_if, fun_judged, head_judged, local_if, local_of, locals_before, locals_of, result_judged, shape_of, single, single_type}
+use Rattle.cal_check.specs.Statements.{names_behind, type_of_var}
 use Rattle.cal_check.specs.Written.{with_inner}
 
 both : (a b : Bool) → a ≡ true → b ≡ true → (a && b) ≡ true
@@ -80,6 +80,15 @@ locals_pass law (tree.cons v vs) names =
     both (is_sized (local_of v names).shape) (are_sized (locals_of vs (with_inner v names))) (local_passes law v names) (locals_pass law vs (with_inner v names))
 locals_pass law other names = refl
 
+local_if_passes : (j : Judged Shape) (x : Local) (xs : List Local) → is_sized x.shape ≡ true → are_sized xs ≡ true → are_sized (local_if j x xs) ≡ true
+local_if_passes (Fine t) x xs h rest = both (is_sized x.shape) (are_sized xs) h rest
+local_if_passes (Broken rule at) x xs h rest = refl
+
+before_passes : JudgedIsType → (vs : Tree) (names : Names) → are_sized (locals_before vs names) ≡ true
+before_passes law (tree.cons v vs) names =
+    local_if_passes (type_of_var v names) (local_of v names) (locals_before vs (with_inner v names)) (local_passes law v names) (before_passes law vs (with_inner v names))
+before_passes law other names = refl
+
 -- ---- functions
 
 -- the parts of a head
@@ -97,7 +106,8 @@ made_passes law (Fine inner) full head vars body names formals result =
     both (are_sized head.formals && are_sized (locals_of vars (with_locals head.formals names))) (is_size head.result)
     (both (are_sized head.formals) (are_sized (locals_of vars (with_locals head.formals names))) formals (locals_pass law vars (with_locals head.formals names))) result
 made_passes law (Broken rule at) full head vars body names formals result =
-    both (are_sized head.formals && true) (is_size head.result) (both (are_sized head.formals) true formals refl) result
+    both (are_sized head.formals && are_sized (locals_before vars (with_locals head.formals names))) (is_size head.result)
+    (both (are_sized head.formals) (are_sized (locals_before vars (with_locals head.formals names))) formals (before_passes law vars (with_locals head.formals names))) result
 
 pub fun_passes : JudgedIsType → (full : List ℕ) (decl : Tree) (names : Names) (g : Fun) → fun_judged full decl names ≡ Fine g → is_sized_fun g ≡ true
 fun_passes law full (tree.function name formals result vars body at) names g h =

@@ -13,7 +13,7 @@ use Rattle.cal_model.proofs.KindValues.{fine-is, not-fine, split}
 use Rattle.rvc_base.specs.Rules.{unknown_name}
 use Rattle.cal_check.specs.Actions.{Around, action_of, or_none, outputs_fine, patterns_of, with_all_patterns}
 use Rattle.cal_check.specs.Actors.{Conforms, IsSource, Source, actions_in, actions_of, actor_given, all_funs, around_of, funs_of, kept_funs, kept_vars, members_of, procs_of}
-use Rattle.cal_check.specs.Routines.{FunDecl, Head, formals_judged, fun_if, fun_judged, head_judged, locals_of, proc_judged, proc_of}
+use Rattle.cal_check.specs.Routines.{FunDecl, Head, formals_judged, fun_if, fun_judged, head_judged, locals_before, locals_of, proc_judged, proc_of}
 use Rattle.cal_check.specs.Statements.{names_behind}
 use Rattle.cal_check.specs.Sources.{IsSourceFormed, SourcesAreSound, procs_of_source}
 use Rattle.cal_check.specs.Variables.{Given, Spot}
@@ -21,7 +21,7 @@ use Rattle.cal_check.specs.Violations.{all_fine, fine}
 use Rattle.cal_check.specs.Written.{behind_vars}
 use Rattle.cal_check.proofs.SettledFuns.{fun-name}
 use Rattle.cal_check.proofs.SoundSource.{actions-use, funs-use, members-use, procs-use}
-use Rattle.cal_check.proofs.WrittenUses.{EachStart, OfStart, body-uses, fine-some, guards-use, locals-use, outputs-use, some-parts, statement-uses, written-uses}
+use Rattle.cal_check.proofs.WrittenUses.{EachStart, OfStart, before-use, body-uses, fine-some, guards-use, locals-use, met-use, outputs-use, some-parts, statement-uses, written-uses}
 use Rattle.law_unused.specs.Behaving.{IsStateOf, ShowsTheSame}
 use Rattle.law_unused.specs.Closed.{ActionWithin, FunWithin, FunsWithin, IsClosed, ProcWithin, StartWithin, Within}
 use Rattle.law_unused.specs.Keeping.{IsKept, Keep, narrowed_actor, only_funs, only_held}
@@ -48,7 +48,10 @@ fun-if-within keep (Fine inner) full head vars body names u w = record {
   locals = starts-within keep (locals_of vars (with_locals head.formals names)) (locals-use (IsKept keep) vars (with_locals head.formals names) u);
   body = written-uses (IsKept keep) body (behind_vars vars (with_locals head.formals names)) w;
 }
-fun-if-within keep (Broken rule at) full head vars body names u w = record { locals = tt; body = tt }
+fun-if-within keep (Broken rule at) full head vars body names u w = record {
+  locals = starts-within keep (locals_before vars (with_locals head.formals names)) (before-use (IsKept keep) vars (with_locals head.formals names) u);
+  body = met-use (IsKept keep) vars (with_locals head.formals names) u;
+}
 
 fun-within : (keep : Keep) (full : List ℕ) (decl : Tree) (names : Names) (g : Fun) → Within keep decl → fun_judged full decl names ≡ Fine g → FunWithin keep g
 fun-within keep full (tree.function name formals result vars body at) names g u e =

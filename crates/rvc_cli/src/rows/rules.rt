@@ -164,6 +164,21 @@ rvc check B.cal
 rvc check B.cal
 # B.cal actor B() int In ==> : function f(int a) --> int : true end int x := f(1); action In:[y] repeat x ==> end end
 = refused T1 B.cal 51/ |  | [] | 4 Refused
+rvc check B.cal
+# B.cal actor B() ==> : function f() --> int var int(size=n) t : 1 end int n = [f(), 8][1]; end
+= refused T9 B.cal 71/ |  | [] | 4 Refused
+rvc check B.cal
+# B.cal actor B() ==> : function f() --> int var int(size=n) t : 1 end function g(int x) --> int : 8 end int n = g(f()); end
+= refused T9 B.cal 105/ |  | [] | 4 Refused
+rvc check B.cal
+# B.cal actor B() ==> : function f() --> int var int(size=65) t : 1 end int n = [f(), 8][1]; end
+= refused T2 B.cal 41/ |  | [] | 4 Refused
+rvc check B.cal
+# B.cal actor B() ==> : function f(int x) --> int var int(size=x) t : 1 end int n = [f(8), 8][1]; end
+= refused T9 B.cal 55/ |  | [] | 4 Refused
+rvc check B.cal
+# B.cal actor B() ==> : function g() --> int : 1 + true end function f() --> int var int(size=g()) t : 1 end int n = [f(), 8][1]; end
+= refused T1 B.cal 39/ |  | [] | 4 Refused
 rvc check B.cal";
 
 /// Sources at their limits: what the check of each leaves, and the pieces that it is made of (`text_of`). An actor of 257
