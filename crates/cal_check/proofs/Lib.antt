@@ -45,3 +45,4 @@ mod FunctionsKept
 mod ProceduresKept
 pub mod ActionsKept
 mod SourceFunctions
+mod UntypedFuns

@@ -10,6 +10,7 @@ pub mod Schedules
 pub mod Actors
 pub mod Laws
 pub mod Formed
+pub mod Untyped
 pub mod Uses
 pub mod Sources
 pub mod Meaning

@@ -5,6 +5,7 @@
 ghost use Rattle.cal_check.specs.AsWritten.{ActionsDoTheSame, FunctionsGiveTheSame, ProceduresDoTheSame};
 ghost use Rattle.cal_check.specs.Meaning.{StatementsKeepConstants, WrittenStatementsDoTheSame};
 ghost use Rattle.cal_check.specs.Sources.{SourcesAreSound};
+ghost use Rattle.cal_check.specs.Untyped.{UntypedGiveNothing};
 ghost use Rattle.cal_check.specs.Laws.{ActionsAreSound, FunctionsAreSound, GuardsAreSound, HeadersAreSound, InitializesAreSound, LimitsAreSound, LocalsAreSound, PrioritiesAreSound, ProceduresAreSound, RatesAreSound, SchedulesAreSound, StatementsAreSound, WrittenKeepsKinds, WrittenKeepsValues};
 
 /// Writing out sizes and bounds keeps the kinds of expressions and types, if constants are numbers of the language.
@@ -30,6 +31,11 @@ pub fn written_routines_do_the_same()
     ensures functions { FunctionsGiveTheSame }
     ensures procedures { ProceduresDoTheSame }
     ensures actions { ActionsDoTheSame }
+{}
+
+/// A function with a local whose type breaks a rule gives nothing where it is called, so no evaluation passes over it.
+pub fn functions_without_types_give_nothing()
+    ensures { UntypedGiveNothing }
 {}
 
 /// The ports of a header, and guards, locals, statements, actions, functions and procedures that break no rule are sound

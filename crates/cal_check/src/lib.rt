@@ -8,6 +8,7 @@
 mod laws;
 
 pub use laws::{
-    sources_without_violations_are_sound, what_breaks_no_rule_is_sound, written_keeps_kinds,
-    written_keeps_values, written_routines_do_the_same, written_statements_do_the_same,
+    functions_without_types_give_nothing, sources_without_violations_are_sound,
+    what_breaks_no_rule_is_sound, written_keeps_kinds, written_keeps_values,
+    written_routines_do_the_same, written_statements_do_the_same,
 };
