@@ -80,11 +80,3 @@ before_stop rest others all found v x here outer is untyped one inv =
       ∙ sym (ap (λ vs. first_met (listed (map var_tree vs)) here) is)
       ∙ inv.types,
     )
-
--- nothing is left
-pub before_done : (found : List BoundLocal) (rest all : List VarDecl) (here outer : Names) → rest ≡ [] → AreBeforeUpTo found rest here all outer
-    → (map local_view found ≡ locals_before (listed (map var_tree all)) outer) × (first_met (listed (map var_tree [])) here ≡ first_met (listed (map var_tree all)) outer)
-before_done found rest all here outer is inv = (
-  sym (append-nil (map local_view found)) ∙ sym (ap (λ vs. map local_view found ++ locals_before (listed (map var_tree vs)) here) is) ∙ inv.locals,
-  sym (ap (λ vs. first_met (listed (map var_tree vs)) here) is) ∙ inv.types,
-)
