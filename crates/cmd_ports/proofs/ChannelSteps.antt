@@ -21,7 +21,7 @@ one_in x = (0, omega arith, refl)
 
 -- ---- the first
 
-pub one_opened : (number : ℕ) (file : List ℕ) (old new : Channels) → OpensAt number old new → ChangesOnlyAt number old new → ChannelsAreOpened (record { number = number; file = file } ∷ []) old new
+pub one_opened : (number : ℕ) (file : List ℕ) (old new : Channels) → OpensAt number old new → ChangesOnlyAt number old new → ChannelsAreOpened (record { number = number; name = file } ∷ []) old new
 one_opened number file old new at only = record {
   opened = λ o h. subst (λ x. new.is_open x.number ≡ true) (in_one _ o h) at.opened;
   empty = λ tells o h. subst (λ x. new.held x.number ≡ []) (in_one _ o h) (at.empty tells);
@@ -42,10 +42,10 @@ none_opened old = record {
 }
 
 -- the trace's channel was opened
-pub begins : (trace : List ℕ) (rest : List Opening) (old now : Channels) → ChannelsAreOpened (record { number = 1; file = trace } ∷ []) old now
-    → ChannelsSoFar (record { number = 1; file = trace } ∷ rest) rest 2 old now
+pub begins : (trace : List ℕ) (rest : List Opening) (old now : Channels) → ChannelsAreOpened (record { number = 1; name = trace } ∷ []) old now
+    → ChannelsSoFar (record { number = 1; name = trace } ∷ rest) rest 2 old now
 begins trace rest old now opened = record {
-  made = record { number = 1; file = trace } ∷ [];
+  made = record { number = 1; name = trace } ∷ [];
   in_order = refl;
   below = λ o h. subst (λ x. x.number < 2) (in_one _ o h) (omega arith);
   are_opened = opened;
@@ -104,13 +104,13 @@ steps all rest number None old mid new so this = record {
   are_opened = no_more so.made old mid new so.are_opened this;
 }
 steps all rest number (Some file) old mid new so this = record {
-  made = so.made ++ record { number = number; file = file } ∷ [];
-  in_order = so.in_order ∙ sym (append_assoc so.made (record { number = number; file = file } ∷ []) rest);
-  below = λ o h. elim (Contains-append_cases so.made (record { number = number; file = file } ∷ []) o h) [
+  made = so.made ++ record { number = number; name = file } ∷ [];
+  in_order = so.in_order ∙ sym (append_assoc so.made (record { number = number; name = file } ∷ []) rest);
+  below = λ o h. elim (Contains-append_cases so.made (record { number = number; name = file } ∷ []) o h) [
     | inl earlier ↦ (let b = so.below o earlier in omega arith)
     | inr last ↦ subst (λ x. x.number < number + 1) (in_one _ o last) (omega arith)
   ];
-  are_opened = more_opened so.made (record { number = number; file = file }) number old mid new refl so.below so.are_opened this;
+  are_opened = more_opened so.made (record { number = number; name = file }) number old mid new refl so.below so.are_opened this;
 }
 
 -- one that couldn't be opened
@@ -122,7 +122,7 @@ fails all rest number None old mid new so this = absurd (none_some this.name thi
     none_some name e = cc
 fails all rest number (Some file) old mid new so this = record {
   before = so.made;
-  failed = record { number = number; file = file };
+  failed = record { number = number; name = file };
   after = rest;
   in_order = so.in_order;
   number_is = refl;
@@ -135,10 +135,10 @@ fails all rest number (Some file) old mid new so this = record {
     later a b c stay (inr last) = inr last
 
 -- the trace's couldn't be opened
-pub fails_first : (trace : List ℕ) (rest : List Opening) (old new : Channels) → IsUnopenedChannel 1 (Some trace) old new → ChannelFails (record { number = 1; file = trace } ∷ rest) 1 old new
+pub fails_first : (trace : List ℕ) (rest : List Opening) (old new : Channels) → IsUnopenedChannel 1 (Some trace) old new → ChannelFails (record { number = 1; name = trace } ∷ rest) 1 old new
 fails_first trace rest old new this = record {
   before = [];
-  failed = record { number = 1; file = trace };
+  failed = record { number = 1; name = trace };
   after = rest;
   in_order = refl;
   number_is = refl;

@@ -49,10 +49,10 @@ closed_still all rest number n old now so above closed =
 
 -- ---- one
 
-pub one_opened : (number : ℕ) (file : List ℕ) (old new : Inputs) → OpensOn number file old new → OpensOnlyAt number old new → FeedsAreOpened (record { number = number; file = file } ∷ []) old new
+pub one_opened : (number : ℕ) (file : List ℕ) (old new : Inputs) → OpensOn number file old new → OpensOnlyAt number old new → FeedsAreOpened (record { number = number; name = file } ∷ []) old new
 one_opened number file old new on only = record {
   opened = λ o h. subst (λ x. new.is_open x.number ≡ true) (in_one _ o h) on.opened;
-  whole = λ o h. subst (λ x. new.left x.number ≡ old.under x.file) (in_one _ o h) on.whole;
+  whole = λ o h. subst (λ x. new.left x.number ≡ old.under x.name) (in_one _ o h) on.whole;
   same_open = λ n a. only.same_open n (λ e. a _ (one_in _) e);
   same_left = λ n a. only.same_left n (λ e. a _ (one_in _) e);
   same_names = only.same_names;
@@ -60,10 +60,10 @@ one_opened number file old new on only = record {
 }
 
 -- the feed of a trace was opened, and those of inputs come behind it
-pub begins_behind : (trace : List ℕ) (rest : List Opening) (old now : Inputs) → FeedsAreOpened (record { number = 0; file = trace } ∷ []) old now
-    → FeedsSoFar (record { number = 0; file = trace } ∷ rest) rest 1 old now
+pub begins_behind : (trace : List ℕ) (rest : List Opening) (old now : Inputs) → FeedsAreOpened (record { number = 0; name = trace } ∷ []) old now
+    → FeedsSoFar (record { number = 0; name = trace } ∷ rest) rest 1 old now
 begins_behind trace rest old now opened = record {
-  made = record { number = 0; file = trace } ∷ [];
+  made = record { number = 0; name = trace } ∷ [];
   in_order = refl;
   below = λ o h. subst (λ x. x.number < 1) (in_one _ o h) (omega arith);
   are_opened = opened;
@@ -79,7 +79,7 @@ more_opened made x number old mid new is below before this = record {
   ];
   whole = λ o h. elim (Contains-append_cases made (x ∷ []) o h) [
     | inl earlier ↦ this.same_left o.number (apart o earlier) ∙ before.whole o earlier
-    | inr last ↦ this.whole o last ∙ before.same_names o.file
+    | inr last ↦ this.whole o last ∙ before.same_names o.name
   ];
   same_open = λ n a. this.same_open n (λ o h. a o (Contains-append_right made (x ∷ []) o h)) ∙ before.same_open n (λ o h. a o (Contains-append_left made (x ∷ []) o h));
   same_left = λ n a. this.same_left n (λ o h. a o (Contains-append_right made (x ∷ []) o h)) ∙ before.same_left n (λ o h. a o (Contains-append_left made (x ∷ []) o h));
@@ -114,13 +114,13 @@ steps all rest number None old mid new so this = record {
   are_opened = no_more so.made old mid new so.are_opened this;
 }
 steps all rest number (Some file) old mid new so this = record {
-  made = so.made ++ record { number = number; file = file } ∷ [];
-  in_order = so.in_order ∙ sym (append_assoc so.made (record { number = number; file = file } ∷ []) rest);
-  below = λ o h. elim (Contains-append_cases so.made (record { number = number; file = file } ∷ []) o h) [
+  made = so.made ++ record { number = number; name = file } ∷ [];
+  in_order = so.in_order ∙ sym (append_assoc so.made (record { number = number; name = file } ∷ []) rest);
+  below = λ o h. elim (Contains-append_cases so.made (record { number = number; name = file } ∷ []) o h) [
     | inl earlier ↦ (let b = so.below o earlier in omega arith)
     | inr last ↦ subst (λ x. x.number < number + 1) (in_one _ o last) (omega arith)
   ];
-  are_opened = more_opened so.made (record { number = number; file = file }) number old mid new refl so.below so.are_opened this;
+  are_opened = more_opened so.made (record { number = number; name = file }) number old mid new refl so.below so.are_opened this;
 }
 
 -- one that couldn't be opened
@@ -132,7 +132,7 @@ fails all rest number None old mid new so this = absurd (none_some this.name thi
     none_some name e = cc
 fails all rest number (Some file) old mid new so this = record {
   before = so.made;
-  failed = record { number = number; file = file };
+  failed = record { number = number; name = file };
   after = rest;
   in_order = so.in_order;
   number_is = refl;
@@ -145,10 +145,10 @@ fails all rest number (Some file) old mid new so this = record {
     later a b c stay (inr last) = inr last
 
 -- the feed of a trace couldn't be opened
-pub fails_first : (trace : List ℕ) (rest : List Opening) (old new : Inputs) → IsUnopenedFeed 0 (Some trace) old new → FeedFails (record { number = 0; file = trace } ∷ rest) 0 old new
+pub fails_first : (trace : List ℕ) (rest : List Opening) (old new : Inputs) → IsUnopenedFeed 0 (Some trace) old new → FeedFails (record { number = 0; name = trace } ∷ rest) 0 old new
 fails_first trace rest old new this = record {
   before = [];
-  failed = record { number = 0; file = trace };
+  failed = record { number = 0; name = trace };
   after = rest;
   in_order = refl;
   number_is = refl;

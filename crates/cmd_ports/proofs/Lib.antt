@@ -1,3 +1,4 @@
 pub mod Fitting
 pub mod FeedSteps
 pub mod ChannelSteps
+pub mod NotedSteps

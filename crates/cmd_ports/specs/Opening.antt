@@ -4,6 +4,7 @@ use Rattle.std.specs.Prelude.{◌≡◌, ◌≤◌, ◌+◌, ℕ, Bool, true, Li
 use Rattle.rvc_io.specs.Channels.{Channels}
 use Rattle.rvc_io.specs.Count.{HasRisen}
 use Rattle.rvc_io.specs.Feeds.{Inputs}
+use Rattle.rvc_io.specs.Past.{Done, Naming, opened}
 use Rattle.rvc_words.specs.Words.{PortText}
 use Rattle.net_model.specs.Network.{is_input}
 use Rattle.net_model.specs.declared.wiring.End.{End}
@@ -11,14 +12,13 @@ use Rattle.net_model.specs.declared.wiring.End.TheVariants.{Leaf as AtLeaf, Net 
 use Rattle.net_model.specs.declared.wiring.Link.{Link}
 use Rattle.cmd_ports.specs.Matching.{file_of}
 
--- a feed or a channel that is opened, and the file whose bytes it has
-pub record Opening : Type 0 where
-  pub number : ℕ
-  pub file : List ℕ
+-- a feed or a channel that is opened, and the name of its file
+abbrev pub Opening : Type 0
+Opening = Naming
 
 abbrev pub opening_if : ℕ → Option (List ℕ) → List Opening
 opening_if number None = []
-opening_if number (Some file) = record { number = number; file = file } ∷ []
+opening_if number (Some file) = record { number = number; name = file } ∷ []
 
 -- ---- which
 
@@ -49,7 +49,7 @@ feeds_of links ins words = feeds_from 1 links ins words
 abbrev pub replay_feeds : (trace : List ℕ) → List Link → (ins : List (List ℕ)) → List PortText
     → List Opening
 replay_feeds trace links ins words =
-    record { number = 0; file = trace } ∷ feeds_of links ins words
+    record { number = 0; name = trace } ∷ feeds_of links ins words
 
 -- the channels of outputs, the first of which has this number: those that have a file
 abbrev pub outputs_from : (number : ℕ) → (outs : List (List ℕ)) → List PortText → List Opening
@@ -59,7 +59,7 @@ outputs_from number (name ∷ outs) words =
 
 -- channel 1 is the trace's, and those of outputs are numbered from 2
 abbrev pub channels_of : (trace : List ℕ) → (outs : List (List ℕ)) → List PortText → List Opening
-channels_of trace outs words = record { number = 1; file = trace } ∷ outputs_from 2 outs words
+channels_of trace outs words = record { number = 1; name = trace } ∷ outputs_from 2 outs words
 
 -- which ports have a file
 abbrev pub has_files : (names : List (List ℕ)) → List PortText → List Bool
@@ -74,7 +74,7 @@ IsApart number openings = (o : Opening) → Contains openings o → number ≡ o
 -- these feeds were opened, each with all the bytes of its file, and no other was opened or pulled
 pub record FeedsAreOpened (openings : List Opening) (old new : Inputs) : Type 0 where
   pub opened : (o : Opening) → Contains openings o → new.is_open o.number ≡ true
-  pub whole : (o : Opening) → Contains openings o → new.left o.number ≡ old.under o.file
+  pub whole : (o : Opening) → Contains openings o → new.left o.number ≡ old.under o.name
   pub same_open : (n : ℕ) → IsApart n openings → new.is_open n ≡ old.is_open n
   pub same_left : (n : ℕ) → IsApart n openings → new.left n ≡ old.left n
   pub same_names : (name : List ℕ) → new.under name ≡ old.under name
@@ -107,3 +107,18 @@ pub record ChannelFails (openings : List Opening) (number : ℕ) (old new : Chan
   pub number_is : failed.number ≡ number
   pub are_opened : ChannelsAreOpened before old new
   pub counted : HasRisen old.faults new.faults
+
+-- ---- under which names
+
+-- these were opened behind those that had been, the first of them first, each under the name of its file, and no other
+abbrev pub AreNoted : List Opening → (past past_new : List Done) → Type 0
+AreNoted openings past past_new = opened past_new ≡ opened past ++ openings
+
+-- this holds of those that come before the one of this number
+pub record HoldsBefore (openings : List Opening) (number : ℕ) (P : List Opening → Type 0) : Type 0 where
+  pub before : List Opening
+  pub failed : Opening
+  pub after : List Opening
+  pub in_order : openings ≡ before ++ failed ∷ after
+  pub number_is : failed.number ≡ number
+  pub holds : P before

@@ -2,10 +2,11 @@
 
 ghost use Rattle.std.specs.Prelude.{◌≡◌, ◌≢◌, ◌≤◌, ◌<◌, ◌+◌, ℕ, false, List, ◌∷◌, IfErr, OnErr, OnOk, length, map, option_map, string_bytes};
 ghost use Rattle.rvc_io.specs.Channels.{Channels};
+ghost use Rattle.rvc_io.specs.Past.{Done};
 ghost use Rattle.rvc_words.specs.Words.{port_text};
 ghost use Rattle.cmd_ports.specs.Matching.{names_of};
-ghost use Rattle.cmd_ports.specs.Opening.{ChannelFails, ChannelsAreOpened, Opening, channels_of, opening_if, outputs_from};
-ghost use Rattle.cmd_ports.specs.Steps.{ChannelsSoFar, IsUnopenedChannel};
+ghost use Rattle.cmd_ports.specs.Opening.{AreNoted, ChannelFails, ChannelsAreOpened, HoldsBefore, Opening, channels_of, opening_if, outputs_from};
+ghost use Rattle.cmd_ports.specs.Steps.{ChannelsSoFar, IsNoted, IsUnopenedChannel, NotedSoFar};
 
 use crate::naming::file_of;
 use net_model::Port;
@@ -19,11 +20,13 @@ pub const TRACE_CHANNEL: u32 = 1;
 const FIRST_OUTPUT_CHANNEL: u32 = 2;
 
 /// Opens the channel of the trace, and then one for each of the outputs that has a file, in their order. Those of outputs
-/// are numbered from 2, and those of outputs without a file are left out.
+/// are numbered from 2, and those of outputs without a file are left out. Each is opened under the name of its file
+/// (`noted`).
 ///
 /// # Errors
 ///
-/// The number of the first channel that couldn't be opened. The failure is counted, those before it are open, and no other.
+/// The number of the first channel that couldn't be opened. The failure is counted, those before it are open, and no other
+/// (`noted_before`).
 pub fn open_channels<D: Drains>(
     trace: &str,
     words: &[PortWord],
@@ -38,6 +41,14 @@ pub fn open_channels<D: Drains>(
     ensures failed { IfErr result (λ channel. ChannelFails
         (channels_of trace.now (names_of outs.now) (map port_text words.now)) channel
         (D.channels drains.old) (D.channels drains.new)) }
+
+    // Under which names.
+    ensures noted { OnOk result (AreNoted
+        (channels_of trace.now (names_of outs.now) (map port_text words.now))
+        (D.past drains.old) (D.past drains.new)) }
+    ensures noted_before { IfErr result (λ channel. HoldsBefore
+        (channels_of trace.now (names_of outs.now) (map port_text words.now)) channel
+        (λ made. AreNoted made (D.past drains.old) (D.past drains.new))) }
 {
     match open_named(TRACE_CHANNEL, Some(trace), drains) {
         Ok(()) => open_outputs(words, outs, drains),
@@ -57,6 +68,14 @@ fn open_outputs<D: Drains>(words: &[PortWord], outs: &[Port], drains: &mut D) ->
         → ChannelsSoFar all (outputs_from 2 (names_of outs.now) (map port_text words.now)) 2 start
         (D.channels drains.old)
         → ChannelFails all channel start (D.channels drains.new)) }
+    ensures noted { OnOk result ((all : List Opening) (past : List Done)
+        → NotedSoFar all (outputs_from 2 (names_of outs.now) (map port_text words.now)) past
+        (D.past drains.old)
+        → AreNoted all past (D.past drains.new)) }
+    ensures noted_before { IfErr result (λ channel. (all : List Opening) (past : List Done)
+        → NotedSoFar all (outputs_from 2 (names_of outs.now) (map port_text words.now)) past
+        (D.past drains.old)
+        → HoldsBefore all channel (λ made. AreNoted made past (D.past drains.new))) }
 {
     let mut number = FIRST_OUTPUT_CHANNEL;
     let mut rest = outs;
@@ -89,6 +108,17 @@ fn open_output<D: Drains>(
         (outputs_from number (string_bytes port.now.name ∷ names) (map port_text words.now)) number
         start (D.channels drains.old)
         → ChannelFails all channel start (D.channels drains.new)) }
+    ensures noted { OnOk result ((all : List Opening) (names : List (List ℕ)) (past : List Done)
+        → NotedSoFar all
+        (outputs_from number (string_bytes port.now.name ∷ names) (map port_text words.now)) past
+        (D.past drains.old)
+        → NotedSoFar all (outputs_from (number + 1) names (map port_text words.now)) past
+        (D.past drains.new)) }
+    ensures noted_before { IfErr result (λ channel. (all : List Opening) (names : List (List ℕ))
+        (past : List Done) → NotedSoFar all
+        (outputs_from number (string_bytes port.now.name ∷ names) (map port_text words.now)) past
+        (D.past drains.old)
+        → HoldsBefore all channel (λ made. AreNoted made past (D.past drains.new))) }
     ensures later { (n : ℕ) → number < n
         → (D.channels drains.new).is_open n ≡ (D.channels drains.old).is_open n }
 {
@@ -106,6 +136,9 @@ fn open_named<D: Drains>(number: u32, file: Option<&str>, drains: &mut D) -> Res
         (D.channels drains.new)) }
     ensures failed { OnErr result (IsUnopenedChannel number (option_map (λ f. f.now) file.entry)
         (D.channels drains.old) (D.channels drains.new)) }
+    ensures noted { OnOk result (IsNoted number (option_map (λ f. f.now) file.entry)
+        (D.past drains.old) (D.past drains.new)) }
+    ensures unnoted { OnErr result (D.past drains.new ≡ D.past drains.old) }
     ensures later { (n : ℕ) → number < n
         → (D.channels drains.new).is_open n ≡ (D.channels drains.old).is_open n }
 {

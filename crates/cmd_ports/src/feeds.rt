@@ -2,11 +2,12 @@
 
 ghost use Rattle.std.specs.Prelude.{◌≡◌, ◌≤◌, ◌<◌, ◌+◌, ℕ, false, List, ◌∷◌, IfErr, IfOk, OnErr, OnOk, length, map, option_map, slice_get};
 ghost use Rattle.rvc_io.specs.Feeds.{Inputs};
+ghost use Rattle.rvc_io.specs.Past.{Done};
 ghost use Rattle.rvc_words.specs.Words.{port_text};
 ghost use Rattle.net_model.specs.declared.wiring.Link.{Link as LinkOf};
 ghost use Rattle.cmd_ports.specs.Matching.{names_of};
-ghost use Rattle.cmd_ports.specs.Opening.{FeedFails, FeedsAreOpened, Opening, feeds_from, feeds_of, file_at, opening_if, replay_feeds};
-ghost use Rattle.cmd_ports.specs.Steps.{FeedsSoFar, IsUnopenedFeed};
+ghost use Rattle.cmd_ports.specs.Opening.{AreNoted, FeedFails, FeedsAreOpened, HoldsBefore, Opening, feeds_from, feeds_of, file_at, opening_if, replay_feeds};
+ghost use Rattle.cmd_ports.specs.Steps.{FeedsSoFar, IsNoted, IsUnopenedFeed, NotedSoFar};
 
 use crate::naming::file_of;
 use net_model::{End, Link, Port};
@@ -20,11 +21,13 @@ const TRACE_FEED: u32 = 0;
 pub const FIRST_INPUT_FEED: u32 = 1;
 
 /// Opens a feed for each of these links that begins at an input of the network which has a file, in the order of the
-/// links. They are numbered from 1, and those of inputs without a file are left out.
+/// links. They are numbered from 1, and those of inputs without a file are left out. Each is opened under the name of its
+/// file (`noted`).
 ///
 /// # Errors
 ///
-/// The number of the first feed that couldn't be opened. The failure is counted, those before it are open, and no other.
+/// The number of the first feed that couldn't be opened. The failure is counted, those before it are open, and no other
+/// (`noted_before`).
 pub fn open_feeds<F: Feeds>(
     words: &[PortWord],
     links: &[Link],
@@ -40,6 +43,14 @@ pub fn open_feeds<F: Feeds>(
     ensures failed { IfErr result (λ feed. FeedFails
         (feeds_of links.now (names_of ins.now) (map port_text words.now)) feed (F.feeds feeds.old)
         (F.feeds feeds.new)) }
+
+    // Under which names.
+    ensures noted { OnOk result (AreNoted
+        (feeds_of links.now (names_of ins.now) (map port_text words.now)) (F.past feeds.old)
+        (F.past feeds.new)) }
+    ensures noted_before { IfErr result (λ feed. HoldsBefore
+        (feeds_of links.now (names_of ins.now) (map port_text words.now)) feed
+        (λ made. AreNoted made (F.past feeds.old) (F.past feeds.new))) }
 {
     open_inputs(words, links, ins, feeds)
 }
@@ -49,7 +60,8 @@ pub fn open_feeds<F: Feeds>(
 ///
 /// # Errors
 ///
-/// The number of the first feed that couldn't be opened. The failure is counted, those before it are open, and no other.
+/// The number of the first feed that couldn't be opened. The failure is counted, those before it are open, and no other
+/// (`noted_before`).
 pub fn open_replay_feeds<F: Feeds>(
     trace: &str,
     words: &[PortWord],
@@ -65,6 +77,14 @@ pub fn open_replay_feeds<F: Feeds>(
     ensures failed { IfErr result (λ feed. FeedFails
         (replay_feeds trace.now links.now (names_of ins.now) (map port_text words.now)) feed
         (F.feeds feeds.old) (F.feeds feeds.new)) }
+
+    // Under which names.
+    ensures noted { OnOk result (AreNoted
+        (replay_feeds trace.now links.now (names_of ins.now) (map port_text words.now))
+        (F.past feeds.old) (F.past feeds.new)) }
+    ensures noted_before { IfErr result (λ feed. HoldsBefore
+        (replay_feeds trace.now links.now (names_of ins.now) (map port_text words.now)) feed
+        (λ made. AreNoted made (F.past feeds.old) (F.past feeds.new))) }
 {
     match open_named(TRACE_FEED, Some(trace), feeds) {
         Ok(()) => open_inputs(words, links, ins, feeds),
@@ -90,6 +110,14 @@ fn open_inputs<F: Feeds>(
         → FeedsSoFar all (feeds_of links.now (names_of ins.now) (map port_text words.now)) 1 start
         (F.feeds feeds.old)
         → FeedFails all feed start (F.feeds feeds.new)) }
+    ensures noted { OnOk result ((all : List Opening) (past : List Done)
+        → NotedSoFar all (feeds_of links.now (names_of ins.now) (map port_text words.now)) past
+        (F.past feeds.old)
+        → AreNoted all past (F.past feeds.new)) }
+    ensures noted_before { IfErr result (λ feed. (all : List Opening) (past : List Done)
+        → NotedSoFar all (feeds_of links.now (names_of ins.now) (map port_text words.now)) past
+        (F.past feeds.old)
+        → HoldsBefore all feed (λ made. AreNoted made past (F.past feeds.new))) }
 {
     let mut number = FIRST_INPUT_FEED;
     let mut rest = links;
@@ -126,6 +154,17 @@ fn open_from<F: Feeds>(
         (feeds_from number (link.now ∷ links) (names_of ins.now) (map port_text words.now)) number
         start (F.feeds feeds.old)
         → FeedFails all feed start (F.feeds feeds.new)) }
+    ensures noted { IfOk result (λ next. (all : List Opening) (links : List LinkOf)
+        (past : List Done) → NotedSoFar all
+        (feeds_from number (link.now ∷ links) (names_of ins.now) (map port_text words.now)) past
+        (F.past feeds.old)
+        → NotedSoFar all (feeds_from next links (names_of ins.now) (map port_text words.now)) past
+        (F.past feeds.new)) }
+    ensures noted_before { IfErr result (λ feed. (all : List Opening) (links : List LinkOf)
+        (past : List Done) → NotedSoFar all
+        (feeds_from number (link.now ∷ links) (names_of ins.now) (map port_text words.now)) past
+        (F.past feeds.old)
+        → HoldsBefore all feed (λ made. AreNoted made past (F.past feeds.new))) }
     ensures later { IfOk result (λ next. (n : ℕ) → next ≤ n
         → (F.feeds feeds.new).is_open n ≡ (F.feeds feeds.old).is_open n) }
 {
@@ -159,6 +198,9 @@ fn open_named<F: Feeds>(number: u32, file: Option<&str>, feeds: &mut F) -> Resul
         (F.feeds feeds.new)) }
     ensures failed { OnErr result (IsUnopenedFeed number (option_map (λ f. f.now) file.entry)
         (F.feeds feeds.old) (F.feeds feeds.new)) }
+    ensures noted { OnOk result (IsNoted number (option_map (λ f. f.now) file.entry)
+        (F.past feeds.old) (F.past feeds.new)) }
+    ensures unnoted { OnErr result (F.past feeds.new ≡ F.past feeds.old) }
     ensures later { (n : ℕ) → number < n
         → (F.feeds feeds.new).is_open n ≡ (F.feeds feeds.old).is_open n }
 {

@@ -39,7 +39,7 @@ file_name a file = if file == 0 then codes "words" else slice_index_or a.files (
 abbrev pub file_opened : ℕ → List Opening → List ℕ
 file_opened number [] = []
 file_opened number (o ∷ openings) =
-    if o.number == number then o.file else file_opened number openings
+    if o.number == number then o.name else file_opened number openings
 
 -- The file of a feed. Feed 0 is the trace; the others are opened for input links, and have the files of their ports.
 abbrev pub feed_name : About → ℕ → List ℕ

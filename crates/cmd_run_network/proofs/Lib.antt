@@ -8,3 +8,4 @@ pub mod Left
 pub mod Spent
 pub mod Told
 pub mod Finished
+pub mod Opened

@@ -22,18 +22,18 @@ in_none x h = let e : h.0 < 0 = h.1 in absurd (omega (arith, e))
 -- ---- one
 
 abbrev pub opening : ℕ → List ℕ → Opening
-opening number file = record { number = number; file = file }
+opening number file = record { number = number; name = file }
 
-one_in : (number n : ℕ) (found : Option (List ℕ)) (file : List ℕ) → n ≡ number → found ≡ Some file → Contains (opening_if number found) (record { number = n; file = file })
+one_in : (number n : ℕ) (found : Option (List ℕ)) (file : List ℕ) → n ≡ number → found ≡ Some file → Contains (opening_if number found) (record { number = n; name = file })
 one_in number n None file is has = cc
 one_in number n (Some other) file is has = (0, omega arith, by)
   where
-    by : ◌≡◌ {A = Opening} (record { number = number; file = other }) (record { number = n; file = file })
+    by : ◌≡◌ {A = Opening} (record { number = number; name = other }) (record { number = n; name = file })
     by = ap (λ (k : ℕ). opening k other) (sym is) ∙ ap (λ (f : List ℕ). opening n f) (some_is other file has)
 
-in_one : (number : ℕ) (found : Option (List ℕ)) (o : Opening) → Contains (opening_if number found) o → (found ≡ Some o.file) × (o.number ≡ number)
+in_one : (number : ℕ) (found : Option (List ℕ)) (o : Opening) → Contains (opening_if number found) o → (found ≡ Some o.name) × (o.number ≡ number)
 in_one number None o h = absurd (in_none o h)
-in_one number (Some file) o (zero, h, e) = (ap (λ (x : Opening). Some x.file) e, ap (λ (x : Opening). x.number) (sym e))
+in_one number (Some file) o (zero, h, e) = (ap (λ (x : Opening). Some x.name) e, ap (λ (x : Opening). x.number) (sym e))
 in_one number (Some file) o (suc k, h, e) = absurd (omega arith)
 
 -- ---- feeds
@@ -42,7 +42,7 @@ abbrev from_there : End → ℕ → List (List ℕ) → List PortText → List O
 from_there from number ins words later same = if is_outside from then opening_if number (file_from from ins words) ++ later else same
 
 first_in : (from : End) (number n : ℕ) (ins : List (List ℕ)) (words : List PortText) (file : List ℕ) (later same : List Opening) → n ≡ number → file_from from ins words ≡ Some file
-    → Contains (from_there from number ins words later same) (record { number = n; file = file })
+    → Contains (from_there from number ins words later same) (record { number = n; name = file })
 first_in (AtLeaf inst port) number n ins words file later same is has = cc
 first_in (AtNet port) number n ins words file later same is has = Contains-append_left (opening_if number (file_at (slice_get ins port) words)) later _ (one_in number n (file_at (slice_get ins port) words) file is has)
 
@@ -52,8 +52,8 @@ behind (AtLeaf inst port) number = number
 behind (AtNet port) number = number + 1
 
 later_in : (from : End) (number n : ℕ) (ins : List (List ℕ)) (words : List PortText) (file : List ℕ) (later same : List Opening)
-    → (is_outside from ≡ true → Contains later (record { number = n; file = file })) → (is_outside from ≡ false → Contains same (record { number = n; file = file }))
-    → Contains (from_there from number ins words later same) (record { number = n; file = file })
+    → (is_outside from ≡ true → Contains later (record { number = n; name = file })) → (is_outside from ≡ false → Contains same (record { number = n; name = file }))
+    → Contains (from_there from number ins words later same) (record { number = n; name = file })
 later_in (AtLeaf inst port) number n ins words file later same outer inner = inner refl
 later_in (AtNet port) number n ins words file later same outer inner = Contains-append_right (opening_if number (file_at (slice_get ins port) words)) later _ (outer refl)
 
@@ -62,7 +62,7 @@ counted true number n count is = ((λ e. omega (arith, is)), (λ e. cc))
 counted false number n count is = ((λ e. cc), (λ e. is))
 
 pub feed_in : (links : List Link) (number n l : ℕ) (link : Link) (ins : List (List ℕ)) (words : List PortText) (file : List ℕ) → slice_get links l ≡ Some link
-    → file_from link.from ins words ≡ Some file → n ≡ number + count_inputs (take l links) → Contains (feeds_from number links ins words) (record { number = n; file = file })
+    → file_from link.from ins words ≡ Some file → n ≡ number + count_inputs (take l links) → Contains (feeds_from number links ins words) (record { number = n; name = file })
 feed_in [] number n l link ins words file at has is = cc
 feed_in (first ∷ links) number n zero link ins words file at has is =
     first_in first.from number n ins words file (feeds_from (number + 1) links ins words) (feeds_from number links ins words) (omega (arith, is))
@@ -75,10 +75,10 @@ feed_in (first ∷ links) number n (suc l) link ins words file at has is =
 
 -- an opening is that of one of these links
 abbrev OpensLink : ℕ → List Link → List (List ℕ) → List PortText → Opening → Type 0
-OpensLink number links ins words o = (l : ℕ) × (link : Link) × (slice_get links l ≡ Some link) × (file_from link.from ins words ≡ Some o.file) × (o.number ≡ number + count_inputs (take l links))
+OpensLink number links ins words o = (l : ℕ) × (link : Link) × (slice_get links l ≡ Some link) × (file_from link.from ins words ≡ Some o.name) × (o.number ≡ number + count_inputs (take l links))
 
 in_there : (from : End) (number : ℕ) (ins : List (List ℕ)) (words : List PortText) (later same : List Opening) (o : Opening) → Contains (from_there from number ins words later same) o
-    → ((is_outside from ≡ true) × (file_from from ins words ≡ Some o.file) × (o.number ≡ number)) ⊎ (((is_outside from ≡ true) × Contains later o) ⊎ ((is_outside from ≡ false) × Contains same o))
+    → ((is_outside from ≡ true) × (file_from from ins words ≡ Some o.name) × (o.number ≡ number)) ⊎ (((is_outside from ≡ true) × Contains later o) ⊎ ((is_outside from ≡ false) × Contains same o))
 in_there (AtLeaf inst port) number ins words later same o h = inr (inr (refl, h))
 in_there (AtNet port) number ins words later same o h = elim (Contains-append_cases (opening_if number (file_at (slice_get ins port) words)) later o h) [
   | inl this ↦ (let one = in_one number (file_at (slice_get ins port) words) o this in inl (refl, one.0, one.1))
@@ -104,34 +104,34 @@ of_feeds (first ∷ links) number ins words o h = elim (in_there first.from numb
 pub is_feed : (links : List Link) (ins : List (List ℕ)) (words : List PortText) (o : Opening) → Contains (feeds_of links ins words) o → IsFeedOf links ins words o.number
 is_feed links ins words o h =
     let found = of_feeds links 1 ins words o h in
-    record { l = found.0; link = found.1; is_there = found.2; file = o.file; has_file = found.3; feed_is = (let n = found.4 in omega (arith, n)) }
+    record { l = found.0; link = found.1; is_there = found.2; file = o.name; has_file = found.3; feed_is = (let n = found.4 in omega (arith, n)) }
 
 -- ---- channels
 
-pub output_in : (outs : List (List ℕ)) (number n p : ℕ) (words : List PortText) (file : List ℕ) → output_file outs words p ≡ Some file → n ≡ number + p → Contains (outputs_from number outs words) (record { number = n; file = file })
+pub output_in : (outs : List (List ℕ)) (number n p : ℕ) (words : List PortText) (file : List ℕ) → output_file outs words p ≡ Some file → n ≡ number + p → Contains (outputs_from number outs words) (record { number = n; name = file })
 output_in [] number n p words file has is = cc
 output_in (name ∷ outs) number n zero words file has is =
     Contains-append_left (opening_if number (file_of name words)) (outputs_from (number + 1) outs words) _ (one_in number n (file_of name words) file (omega (arith, is)) has)
 output_in (name ∷ outs) number n (suc p) words file has is =
     Contains-append_right (opening_if number (file_of name words)) (outputs_from (number + 1) outs words) _ (output_in outs (number + 1) n p words file has (omega (arith, is)))
 
-of_outputs : (outs : List (List ℕ)) (number : ℕ) (words : List PortText) (o : Opening) → Contains (outputs_from number outs words) o → (p : ℕ) × (output_file outs words p ≡ Some o.file) × (o.number ≡ number + p)
+of_outputs : (outs : List (List ℕ)) (number : ℕ) (words : List PortText) (o : Opening) → Contains (outputs_from number outs words) o → (p : ℕ) × (output_file outs words p ≡ Some o.name) × (o.number ≡ number + p)
 of_outputs [] number words o h = absurd (in_none o h)
 of_outputs (name ∷ outs) number words o h = elim (Contains-append_cases (opening_if number (file_of name words)) (outputs_from (number + 1) outs words) o h) [
   | inl this ↦ (let one = in_one number (file_of name words) o this in let n = one.1 in (0, one.0, omega (arith, n)))
   | inr rest ↦ (let found = of_outputs outs (number + 1) words o rest in let n = found.2 in (suc found.0, found.1, omega (arith, n)))
 ]
 
-pub trace_in : (trace : List ℕ) (outs : List (List ℕ)) (words : List PortText) → Contains (channels_of trace outs words) (record { number = 1; file = trace })
+pub trace_in : (trace : List ℕ) (outs : List (List ℕ)) (words : List PortText) → Contains (channels_of trace outs words) (record { number = 1; name = trace })
 trace_in trace outs words = (0, omega arith, refl)
 
-pub channel_in : (trace : List ℕ) (outs : List (List ℕ)) (words : List PortText) (p : ℕ) (file : List ℕ) → output_file outs words p ≡ Some file → Contains (channels_of trace outs words) (record { number = 2 + p; file = file })
-channel_in trace outs words p file has = Contains-append_right (record { number = 1; file = trace } ∷ []) (outputs_from 2 outs words) _ (output_in outs 2 (2 + p) p words file has refl)
+pub channel_in : (trace : List ℕ) (outs : List (List ℕ)) (words : List PortText) (p : ℕ) (file : List ℕ) → output_file outs words p ≡ Some file → Contains (channels_of trace outs words) (record { number = 2 + p; name = file })
+channel_in trace outs words p file has = Contains-append_right (record { number = 1; name = trace } ∷ []) (outputs_from 2 outs words) _ (output_in outs 2 (2 + p) p words file has refl)
 
 pub is_channel : (trace : List ℕ) (outs : List (List ℕ)) (words : List PortText) (o : Opening) → Contains (channels_of trace outs words) o → IsChannelOf outs words o.number
-is_channel trace outs words o h = elim (Contains-append_cases (record { number = 1; file = trace } ∷ []) (outputs_from 2 outs words) o h) [
+is_channel trace outs words o h = elim (Contains-append_cases (record { number = 1; name = trace } ∷ []) (outputs_from 2 outs words) o h) [
   | inl this ↦ inl (in_one 1 (Some trace) o this).1
-  | inr rest ↦ (let found = of_outputs outs 2 words o rest in inr (record { p = found.0; file = o.file; has_file = found.1; channel_is = found.2 }))
+  | inr rest ↦ (let found = of_outputs outs 2 words o rest in inr (record { p = found.0; file = o.name; has_file = found.1; channel_is = found.2 }))
 ]
 
 -- ---- marks

@@ -5,3 +5,4 @@ pub mod Answering
 pub mod Preparing
 pub mod Arriving
 pub mod Growth
+pub mod Names

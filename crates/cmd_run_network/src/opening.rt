@@ -1,7 +1,8 @@
 //! The feeds and channels of a job are opened, and what stands before the first event of the trace is written.
 
 ghost use Rattle.std.specs.Prelude.{◌≡◌, ◌≢◌, ◌<◌, ◌≤◌, ℕ, false, length, string_bytes};
-ghost use Rattle.cmd_run_network.specs.Network.{words_of};
+ghost use Rattle.cmd_run_network.specs.Names.{ChannelsOpened, FeedsOpened, OpensByName};
+ghost use Rattle.cmd_run_network.specs.Network.{in_names, out_names, words_of};
 ghost use Rattle.cmd_run_network.specs.Preparing.{Opens, Starts};
 
 use crate::outcome::JobFault;
@@ -24,8 +25,12 @@ fn open_all<F: Feeds, D: Drains>(
     requires channels_closed { (n : ℕ) → n ≢ 0 → (D.channels drains.old).is_open n ≡ false }
     requires few_links { length flat.now.links.items < 4294967295 }
     requires few_outs { length flat.now.outs.items < 4294967294 }
-    ensures { Opens F.feeds D.channels flat.now (words_of job.now)
+    ensures opens { Opens F.feeds D.channels flat.now (words_of job.now)
         (string_bytes job.now.trace) feeds.old feeds.new drains.old drains.new result }
+    ensures by_name { OpensByName flat.now.links.items (in_names flat.now) (out_names flat.now)
+        (words_of job.now) (string_bytes job.now.trace)
+        (FeedsOpened F.feeds F.past feeds.old feeds.new)
+        (ChannelsOpened D.channels D.past drains.old drains.new) result }
 {
     let words = job.ports.as_slice();
     if let Err(feed) = open_feeds(words, flat.links.as_slice(), flat.ins.as_slice(), feeds) {
@@ -50,8 +55,12 @@ pub(crate) fn start<F: Feeds, D: Drains>(
     requires channels_closed { (n : ℕ) → n ≢ 0 → (D.channels drains.old).is_open n ≡ false }
     requires few_links { length flat.now.links.items < 4294967295 }
     requires few_outs { length flat.now.outs.items < 4294967294 }
-    ensures { Starts F.feeds D.channels flat.now (words_of job.now)
+    ensures starts { Starts F.feeds D.channels flat.now (words_of job.now)
         (string_bytes job.now.trace) feeds.old feeds.new drains.old drains.new head.now result }
+    ensures by_name { OpensByName flat.now.links.items (in_names flat.now) (out_names flat.now)
+        (words_of job.now) (string_bytes job.now.trace)
+        (FeedsOpened F.feeds F.past feeds.old feeds.new)
+        (ChannelsOpened D.channels D.past drains.old drains.new) result }
 {
     if let Err(fault) = open_all(flat, job, feeds, drains) {
         return Err(fault);

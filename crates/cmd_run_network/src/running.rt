@@ -7,6 +7,7 @@ ghost use Rattle.cmd_run_network.specs.Answering.{AreAllOpen, EndIsCaused, IfSta
 ghost use Rattle.cmd_run_network.specs.Arriving.{ArriveInEach};
 ghost use Rattle.cmd_run_network.specs.Files.{AreInputs, Keeps, OpensOnly, WritesOnly};
 ghost use Rattle.cmd_run_network.specs.Leaving.{setting_of};
+ghost use Rattle.cmd_run_network.specs.Names.{ChannelsOpened, FeedsOpened, OpensByName};
 ghost use Rattle.cmd_run_network.specs.Network.{CanRunAll, IsNetworkOf, head_of, in_names, out_names, plan_of, words_of};
 
 use crate::numbers::take_over;
@@ -73,6 +74,12 @@ fn run_by<R: Threads + Sync, A: Firing + Send, P: Policy, F: Feeds, D: Drains, G
         (out_names flat.now) (words_of job.now) (F.feeds feeds.old) (F.feeds feeds.new)
         (D.channels drains.old) (D.channels drains.new) outcome.end) }
 
+    // What was opened, in which order, and under which names.
+    ensures by_name { OpensByName flat.now.links.items (in_names flat.now) (out_names flat.now)
+        (words_of job.now) (string_bytes job.now.trace)
+        (FeedsOpened F.feeds F.past feeds.old feeds.new)
+        (ChannelsOpened D.channels D.past drains.old drains.new) result }
+
     // What stays.
     ensures other_feeds { OpensOnly flat.now.links.items (in_names flat.now) (words_of job.now)
         (F.feeds feeds.old) (F.feeds feeds.new) }
@@ -116,6 +123,9 @@ fn run_by<R: Threads + Sync, A: Firing + Send, P: Policy, F: Feeds, D: Drains, G
 /// - `arrive`: in each round that was made, each worker that worked has arrived at the gate.
 /// - `opened`: after a run all feeds of inputs that have a file are open, and so are the trace's channel and those of outputs
 ///   that have one.
+/// - `by_name`: each of these was opened under the name of its file, and no other was opened, neither of feeds nor of channels;
+///   the feeds in the order of links, and the channels with the trace's first. If one of them couldn't be opened, those before
+///   it were.
 /// - `faults`: a run ends by a feed or a channel only if that was counted, and only by one that was opened.
 /// - `other_feeds`, `other_channels` and `report`: no other feed was opened, and no other channel was opened or written; so
 ///   channel 0 is as it was.
@@ -176,6 +186,12 @@ pub fn run_network<R: Threads + Sync, A: Firing + Send, F: Feeds, D: Drains, G: 
     ensures faults { IfOk result (λ outcome. EndIsCaused flat.now.links.items (in_names flat.now)
         (out_names flat.now) (words_of job.now) (F.feeds feeds.old) (F.feeds feeds.new)
         (D.channels drains.old) (D.channels drains.new) outcome.end) }
+
+    // What was opened, in which order, and under which names.
+    ensures by_name { OpensByName flat.now.links.items (in_names flat.now) (out_names flat.now)
+        (words_of job.now) (string_bytes job.now.trace)
+        (FeedsOpened F.feeds F.past feeds.old feeds.new)
+        (ChannelsOpened D.channels D.past drains.old drains.new) result }
 
     // What stays.
     ensures other_feeds { OpensOnly flat.now.links.items (in_names flat.now) (words_of job.now)

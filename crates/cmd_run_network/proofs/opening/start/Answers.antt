@@ -7,4 +7,4 @@ use Rattle.cmd_run_network.proofs.opening.start.Goals as goal
 pub put_all-requires : goal.put_all-requires
 put_all-requires g c =
     trace_open (string_bytes c.args.job.now.trace) (names_of c.args.flat.now.outs.items) (map port_text c.args.job.now.ports.items)
-    (g.D.Drains.channels c.args.drains.now) (g.D.Drains.channels c.open_all.new.drains) c.in_default.ensures.1
+    (g.D.Drains.channels c.args.drains.now) (g.D.Drains.channels c.open_all.new.drains) c.in_default.ensures.opens.1
