@@ -1,4 +1,5 @@
 pub mod Jobs
 pub mod Ends
+pub mod Asked
 pub mod Making
 pub mod Steps

@@ -2,6 +2,7 @@
 
 ghost use Rattle.std.specs.Prelude.{◌≡◌, ◌≢◌, ◌≤◌, ℕ, false, length, map, true};
 ghost use Rattle.rvc_words.specs.Words.{IsWithin, job_text, port_text};
+ghost use Rattle.cmd_run_network.specs.Names.{ChannelsOpened};
 ghost use Rattle.cmd_run_network.specs.Network.{out_names};
 ghost use Rattle.cmd_ports.specs.Matching.{AreMatched};
 ghost use Rattle.cmd_run.specs.Steps.{IsSourceImage};
@@ -41,7 +42,8 @@ pub(crate) fn run_built<R: Threads + Sync, D: Drains, G: Gate>(
     requires channels_closed { (n : ℕ) → n ≢ 0 → (D.channels drains.old).is_open n ≡ false }
     requires report_open { (D.channels drains.old).is_open 0 ≡ true }
     ensures { CameOf image.now names.now (map port_text words.now) job.now instances
-        (D.channels drains.old) (D.channels drains.new) result }
+        (D.channels drains.old) (D.channels drains.new)
+        (ChannelsOpened D.channels D.past drains.old drains.new) (G.arrived gate.now) result }
 {
     if image.flat.outs.len() > MAX_LENGTH || image.flat.links.len() > MAX_LENGTH {
         return report_unbuilt(Status::OutOfMemory, names, job, drains);
@@ -71,7 +73,8 @@ fn run_over_input<R: Threads + Sync, D: Drains, G: Gate>(
     requires channels_closed { (n : ℕ) → n ≢ 0 → (D.channels drains.old).is_open n ≡ false }
     requires report_open { (D.channels drains.old).is_open 0 ≡ true }
     ensures { CameOf image.now names.now (map port_text words.now) job.now instances
-        (D.channels drains.old) (D.channels drains.new) result }
+        (D.channels drains.old) (D.channels drains.new)
+        (ChannelsOpened D.channels D.past drains.old drains.new) (G.arrived gate.now) result }
 {
     let count = image.flat.links.len() as u32 + 1;
     match generated_feeds(alloc, instances, count) {

@@ -7,6 +7,8 @@ ghost use Rattle.cal_files.specs.Loading.{Counts, Library};
 ghost use Rattle.cal_model.specs.Selection.{State};
 ghost use Rattle.net_model.specs.Network.{Network};
 ghost use Rattle.cmd_network.specs.Answers.{IsAnswered};
+ghost use Rattle.cmd_run_network.specs.Names.{ChannelsOpened};
+ghost use Rattle.cmd_gen.specs.Asked.{ComesAsAsked};
 ghost use Rattle.cmd_gen.specs.Ends.{Comes, ComesFor};
 ghost use Rattle.cmd_gen.specs.Jobs.{GeneratedConform, instances_of};
 ghost use Rattle.cmd_gen.specs.Making.{IsMadeFor};
@@ -39,6 +41,8 @@ use std::thread::Threads;
 /// - `answered`: what the status says, whatever library and feeds there are. If it is `Quiet`, `Trapped`, `Stalled` or
 ///   `Budget`, a run of the network was made over the generated input, and it left what `run` leaves of the generated files
 ///   and feeds (`Runs`).
+/// - `as_asked`: besides, the channels that were opened are the trace's and those of outputs that have a file, each under the
+///   name that its word gives it, and the workers that the job asks for have arrived in each round (`ComesAsAsked`).
 /// - `complete`: if the generated files conform to a network together with the port words, then it is this network that is
 ///   run: the job isn't refused, but for links that may grow too far.
 ///
@@ -63,6 +67,10 @@ pub fn gen_job<R: Threads + Sync, D: Drains, G: Gate>(
     requires report_open { (D.channels drains.old).is_open 0 ≡ true }
     ensures answered { (library : Library) (misses faults : Counts) (feeds : Inputs)
         → IsAnswered Comes (command_over job.now library misses faults feeds feeds
+        (D.channels drains.old) (D.channels drains.new)) result }
+    ensures as_asked { (library : Library) (misses faults : Counts) (feeds : Inputs)
+        → IsAnswered (ComesAsAsked (ChannelsOpened D.channels D.past drains.old drains.new)
+        (G.arrived gate.now)) (command_over job.now library misses faults feeds feeds
         (D.channels drains.old) (D.channels drains.new)) result }
     ensures complete { (library : Library) (misses faults : Counts) (feeds : Inputs) (instances : ℕ)
         (net : Network State) → instances_of (string_bytes job.now.top) ≡ Some instances
@@ -89,7 +97,8 @@ fn run_for<R: Threads + Sync, D: Drains, G: Gate>(
     requires channels_closed { (n : ℕ) → n ≢ 0 → (D.channels drains.old).is_open n ≡ false }
     requires report_open { (D.channels drains.old).is_open 0 ≡ true }
     ensures { (library : Library) (misses faults : Counts) (feeds : Inputs)
-        → IsAnswered Comes (command_over job.now library misses faults feeds feeds
+        → IsAnswered (ComesAsAsked (ChannelsOpened D.channels D.past drains.old drains.new)
+        (G.arrived gate.now)) (command_over job.now library misses faults feeds feeds
         (D.channels drains.old) (D.channels drains.new)) result }
 {
     match generate(alloc, job) {
@@ -112,7 +121,8 @@ fn run_made<R: Threads + Sync, D: Drains, G: Gate>(
     requires channels_closed { (n : ℕ) → n ≢ 0 → (D.channels drains.old).is_open n ≡ false }
     requires report_open { (D.channels drains.old).is_open 0 ≡ true }
     ensures { (library : Library) (misses faults : Counts) (feeds : Inputs)
-        → IsAnswered Comes (command_over job.now library misses faults feeds feeds
+        → IsAnswered (ComesAsAsked (ChannelsOpened D.channels D.past drains.old drains.new)
+        (G.arrived gate.now)) (command_over job.now library misses faults feeds feeds
         (D.channels drains.old) (D.channels drains.new)) result }
 {
     let Generated {

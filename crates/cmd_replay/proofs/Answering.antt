@@ -1,5 +1,5 @@
 -- To what a command comes, by what the replay over its image comes to.
-use Rattle.std.proofs.Common.{◌≡◌, inl, inr, ⊎_elim, ℕ, List, [], length, refl, sym, ap, subst, ◌∙◌}
+use Rattle.std.proofs.Common.{◌≡◌, ◌⊎◌, inl, inr, ⊎_elim, ℕ, List, [], length, refl, sym, ap, subst, ◌∙◌}
 use Rattle.std.specs.Prelude.{string_bytes}
 use Rattle.std.specs.Arc.{arc_value}
 use Rattle.std.specs.declared.result.Result.{Result}
@@ -17,7 +17,7 @@ use Rattle.cal_files.specs.declared.names.Names.{Names}
 use Rattle.fnl_source.specs.Files.{class_asked, files_of}
 use Rattle.fnl_source.specs.Library.{IsLibraryNetwork, LibraryNetworksAreOne}
 use Rattle.cmd_ports.specs.Matching.{AreMatched, IsWrongWord}
-use Rattle.cmd_ports.specs.Opening.{FeedFails, replay_feeds}
+use Rattle.cmd_ports.specs.Opening.{FeedFails, HoldsBefore, Opening, replay_feeds}
 use Rattle.cmd_network.specs.Conforming.{input_names}
 use Rattle.cmd_run_network.specs.Growth.{GrowTooFar}
 use Rattle.net_cells.specs.SourceRuns.{SourcesAreActorNetworks}
@@ -42,13 +42,18 @@ use Rattle.cmd_network.specs.Commands.{AreCertified, Command, ConformingAreNotRe
 use Rattle.cmd_network.specs.Steps.{IsPut, about_words, status_of_build}
 use Rattle.cmd_network.proofs.Putting.{last_alone, line_answered, put_answered}
 use Rattle.cmd_network.proofs.Words.{none_wrong}
+use Rattle.cmd_replay.specs.Asked.{ComesAsAsked, feeds_asked}
 use Rattle.cmd_replay.specs.Ends.{Comes, IsJudgedOrOutside, IsNoVerdict, IsRefusedFor, by_files, by_growth, by_words}
 use Rattle.cmd_replay.specs.Replays.{ConformsToReplay, IsReplayFeed, IsToReplay, OpensFeeds, OpensForReplay, RefusesReplay, in_growth, in_job}
-use Rattle.cmd_replay.specs.Steps.{ImageJudged, ImageReplayed, IsForbidden, IsPermitted, about_image, lines_of, status_of, status_of_fault}
+use Rattle.cmd_replay.specs.Steps.{ImageJudged, ImageReplayed, IsForbidden, IsPermitted, about_image, lines_of, openings_of, status_of, status_of_fault}
 use Rattle.cmd_replay.specs.declared.outcome.NotReplayed.{NotReplayed}
 use Rattle.cmd_replay.specs.declared.outcome.NotReplayed.TheVariants as stop
 
-module _ (cmd : Command) (image : Image) (names : Names) (law : SourcesAreActorNetworks) (built : IsBuilt cmd.library (top_of cmd) (file_names names) image) where
+module _ (cmd : Command) (FeedsAre : List Opening → Type 0) (image : Image) (names : Names) (law : SourcesAreActorNetworks) (built : IsBuilt cmd.library (top_of cmd) (file_names names) image) where
+  -- to what it comes
+  abbrev Asked : Command → Status → List ℕ → About → Type 0
+  Asked = ComesAsAsked FeedsAre
+
   abbrev net : Network ActorState
   net = built.is_image.net
 
@@ -121,6 +126,11 @@ module _ (cmd : Command) (image : Image) (names : Names) (law : SourcesAreActorN
       subst (λ ls. IsReplayFeed ls (port_names net.ins) (words_of cmd) feed) (sym links_are)
       (subst (λ ps. IsReplayFeed image.flat.links.items ps (words_of cmd) feed) (sym ins_are) is)
 
+  feeds_so : (Q : List Opening → Type 0) → Q (openings_of image.flat cmd.job) → Q (feeds_asked cmd net)
+  feeds_so Q h =
+      subst (λ ls. Q (replay_feeds (string_bytes cmd.job.trace) ls (port_names net.ins) (words_of cmd))) (sym links_are)
+      (subst (λ ps. Q (replay_feeds (string_bytes cmd.job.trace) image.flat.links.items ps (words_of cmd))) (sym ins_are) h)
+
   -- ---- each answer
 
   forbidden : (r : Refusal) → IsForbidden image.flat cmd.job r → IsRefusedFor cmd r (about_image image names cmd.job)
@@ -139,30 +149,30 @@ module _ (cmd : Command) (image : Image) (names : Names) (law : SourcesAreActorN
         too_far = subst (λ ls. GrowTooFar ls cmd.job.grow) (sym links_are) far.2;
       }))
 
-  comes_fault : (fault : ReplayFault) → ImageJudged image cmd.job cmd.feeds cmd.feeds_after (Err (stop.Fault fault)) → WritesOnlyAt 0 cmd.channels cmd.channels_after
-      → Comes cmd (status_of_fault fault) [] (about_image image names cmd.job)
+  comes_fault : (fault : ReplayFault) → ImageJudged image cmd.job cmd.feeds cmd.feeds_after FeedsAre (Err (stop.Fault fault)) → WritesOnlyAt 0 cmd.channels cmd.channels_after
+      → Asked cmd (status_of_fault fault) [] (about_image image names cmd.job)
   unfolding to_replay of_command files
-  comes_fault (judged.NotRun line why) was only = record {
+  comes_fault (judged.NotRun line why) was only = (record {
     net = net;
     is_to_replay = to_replay was.leaves.0;
     refused = λ inputs text given told. was.judges actors net inputs text has is given told;
     feeds = opens was.leaves.1;
     only_report = only;
     about_is = about_is;
-  }
-  comes_fault (judged.ReadFault feed) was only = record {
+  }, feeds_so FeedsAre was.by_name)
+  comes_fault (judged.ReadFault feed) was only = (record {
     net = net;
     is_to_replay = to_replay was.leaves.0;
     how = ⊎_elim (λ fails. inl (unopened feed fails)) (λ broke. inr (record { counted = broke.0; is_feed = read_feed feed broke.1; feeds = opens broke.2 })) was.leaves.1;
     only_report = only;
     about_is = about_is;
-  }
-  comes_fault judged.Memory was only = only
+  }, feeds_so (λ all. HoldsBefore all feed FeedsAre ⊎ FeedsAre all) was.by_name)
+  comes_fault judged.Memory was only = (only, tt)
 
-  comes : (came : Result Replayed NotReplayed) → ImageJudged image cmd.job cmd.feeds cmd.feeds_after came → WritesOnlyAt 0 cmd.channels cmd.channels_after
-      → Comes cmd (status_of came) (lines_of image names cmd.job came) (about_image image names cmd.job)
+  comes : (came : Result Replayed NotReplayed) → ImageJudged image cmd.job cmd.feeds cmd.feeds_after FeedsAre came → WritesOnlyAt 0 cmd.channels cmd.channels_after
+      → Asked cmd (status_of came) (lines_of image names cmd.job came) (about_image image names cmd.job)
   unfolding to_replay of_command files
-  comes (Ok replayed) was only = record {
+  comes (Ok replayed) was only = (record {
     end = replayed.end;
     counts = replayed.counts;
     replayed = record {
@@ -177,17 +187,17 @@ module _ (cmd : Command) (image : Image) (names : Names) (law : SourcesAreActorN
       about_is = about_is;
       lines_are = refl;
     };
-  }
-  comes (Err (stop.Refused r)) was only = (forbidden r was.leaves.0, record { same_feeds = was.leaves.1; only_report = only })
+  }, feeds_so FeedsAre was.by_name)
+  comes (Err (stop.Refused r)) was only = ((forbidden r was.leaves.0, record { same_feeds = was.leaves.1; only_report = only }), tt)
   comes (Err (stop.Fault fault)) was only = comes_fault fault was only
 
-  pub image_answered : (answer : Status) → ImageReplayed image names cmd.job cmd.feeds cmd.feeds_after cmd.channels cmd.channels_after answer → IsAnswered Comes cmd answer
+  pub image_answered : (answer : Status) → ImageReplayed image names cmd.job cmd.feeds cmd.feeds_after cmd.channels cmd.channels_after FeedsAre answer → IsAnswered Asked cmd answer
   image_answered answer ran =
-      put_answered Comes cmd (status_of ran.came) answer (lines_of image names cmd.job ran.came) (about_image image names cmd.job) (λ only. comes ran.came ran.judged only) ran.put
+      put_answered Asked cmd (status_of ran.came) answer (lines_of image names cmd.job ran.came) (about_image image names cmd.job) (λ only. comes ran.came ran.judged only) ran.put
 
   -- ---- completeness
 
-  judged_fault : (fault : ReplayFault) → ImageJudged image cmd.job cmd.feeds cmd.feeds_after (Err (stop.Fault fault)) → IsJudgedOrOutside cmd net (status_of_fault fault)
+  judged_fault : (fault : ReplayFault) → ImageJudged image cmd.job cmd.feeds cmd.feeds_after FeedsAre (Err (stop.Fault fault)) → IsJudgedOrOutside cmd net (status_of_fault fault)
   judged_fault (judged.NotRun line why) was = λ inputs text given told. was.judges actors net inputs text has is given told
   judged_fault (judged.ReadFault feed) was = tt
   judged_fault judged.Memory was = tt
@@ -197,7 +207,7 @@ module _ (cmd : Command) (image : Image) (names : Names) (law : SourcesAreActorN
       none_wrong (input_names net) (words_of cmd) r conforms.conforms.matched (subst (λ ps. IsWrongWord ps (words_of cmd) r) (sym ins_are) wrong)
   not_forbidden r conforms (inr far) = conforms.little (subst (λ ls. GrowTooFar ls cmd.job.grow) (sym links_are) far.2)
 
-  judged_so : (came : Result Replayed NotReplayed) → ImageJudged image cmd.job cmd.feeds cmd.feeds_after came → ConformsToReplay cmd.library (top_of cmd) (words_of cmd) cmd.job.grow net
+  judged_so : (came : Result Replayed NotReplayed) → ImageJudged image cmd.job cmd.feeds cmd.feeds_after FeedsAre came → ConformsToReplay cmd.library (top_of cmd) (words_of cmd) cmd.job.grow net
       → IsJudgedOrOutside cmd net (status_of came)
   judged_so (Ok replayed) was conforms = (replayed.end, replayed.counts, (λ inputs text given told. was.judges actors net inputs text has is given told))
   judged_so (Err (stop.Refused r)) was conforms = absurd (not_forbidden r conforms was.leaves.0)
@@ -207,7 +217,7 @@ module _ (cmd : Command) (image : Image) (names : Names) (law : SourcesAreActorN
   put_so said answer text on put = ⊎_elim (λ put. subst (IsJudgedOrOutside cmd net) (sym put.0) on) (λ put. subst (IsJudgedOrOutside cmd net) (sym put.0) tt) put
 
   pub image_complete : (answer : Status) (other : Network ActorState) → LibraryNetworksAreOne → TellsAll cmd.library → ConformsToReplay cmd.library (top_of cmd) (words_of cmd) cmd.job.grow other
-      → ImageReplayed image names cmd.job cmd.feeds cmd.feeds_after cmd.channels cmd.channels_after answer → IsJudgedOrOutside cmd other answer
+      → ImageReplayed image names cmd.job cmd.feeds cmd.feeds_after cmd.channels cmd.channels_after FeedsAre answer → IsJudgedOrOutside cmd other answer
   image_complete answer other one tells conforms ran =
       let here : IsLibraryNetwork cmd.library (top_of cmd) net = record { reads = built.reads; are_loaded = built.are_read.are_loaded; means = built.is_image.means } in
       let same : other ≡ net = one cmd.library (top_of cmd) other net tells conforms.conforms.means here in
@@ -217,18 +227,18 @@ module _ (cmd : Command) (image : Image) (names : Names) (law : SourcesAreActorN
 
 -- ---- without an image
 
-module _ (cmd : Command) (names : Names) (same : cmd.feeds_after ≡ cmd.feeds) where
+module _ (cmd : Command) (FeedsAre : List Opening → Type 0) (names : Names) (same : cmd.feeds_after ≡ cmd.feeds) where
   comes_unbuilt : (why : BuildFault) → IsFault cmd.library (top_of cmd) cmd.misses cmd.faults (file_names names) why → WritesOnlyAt 0 cmd.channels cmd.channels_after
-      → Comes cmd (status_of_build why) [] (about_words names cmd.job)
-  comes_unbuilt (build.Refused r) no_image only = (by_files (file_names names) (record { why = no_image }), record { same_feeds = same; only_report = only })
+      → ComesAsAsked FeedsAre cmd (status_of_build why) [] (about_words names cmd.job)
+  comes_unbuilt (build.Refused r) no_image only = ((by_files (file_names names) (record { why = no_image }), record { same_feeds = same; only_report = only }), tt)
   comes_unbuilt (build.ReadFault file) no_image only =
-      (record { counted = no_image.0; names = file_names names; told = no_image.1; about_is = refl }, record { same_feeds = same; only_report = only })
-  comes_unbuilt build.Memory no_image only = only
+      ((record { counted = no_image.0; names = file_names names; told = no_image.1; about_is = refl }, record { same_feeds = same; only_report = only }), tt)
+  comes_unbuilt build.Memory no_image only = (only, tt)
 
   pub unbuilt_answered : (why : BuildFault) (answer : Status) → IsFault cmd.library (top_of cmd) cmd.misses cmd.faults (file_names names) why
-      → IsPut (status_of_build why) (last_line (about_words names cmd.job) (status_of_build why)) cmd.channels cmd.channels_after answer → IsAnswered Comes cmd answer
+      → IsPut (status_of_build why) (last_line (about_words names cmd.job) (status_of_build why)) cmd.channels cmd.channels_after answer → IsAnswered (ComesAsAsked FeedsAre) cmd answer
   unbuilt_answered why answer no_image put =
-      line_answered Comes cmd (status_of_build why) answer [] (about_words names cmd.job) (last_alone [] (about_words names cmd.job) why) (λ only. comes_unbuilt why no_image only) put
+      line_answered (ComesAsAsked FeedsAre) cmd (status_of_build why) answer [] (about_words names cmd.job) (last_alone [] (about_words names cmd.job) why) (λ only. comes_unbuilt why no_image only) put
 
   on_unbuilt : (this : Network ActorState) (why : BuildFault) → IsOutside why → IsJudgedOrOutside cmd this (status_of_build why)
   on_unbuilt this (build.Refused r) un = un
@@ -265,3 +275,9 @@ module _ (cmd : Command) (law : ConformingAreNotRefused) (one : LibraryNetworksA
   pub no_verdict : (answer : Status) → IsAnswered Comes cmd answer → RefusesReplay cmd.library (top_of cmd) (words_of cmd) cmd.job.grow misses found r → IsNoVerdict answer
   no_verdict answer (is_reported {said = said} lines about came put) refuses = by_status said lines about refuses came
   no_verdict answer (is_unreported said lines about came put counted) refuses = tt
+
+-- ---- what it comes to alone
+
+pub answered_plainly : (FeedsAre : List Opening → Type 0) (cmd : Command) (answer : Status) → IsAnswered (ComesAsAsked FeedsAre) cmd answer → IsAnswered Comes cmd answer
+answered_plainly FeedsAre cmd answer (is_reported lines about c put) = is_reported lines about c.0 put
+answered_plainly FeedsAre cmd answer (is_unreported said lines about c put counted) = is_unreported said lines about c.0 put counted

@@ -3,3 +3,4 @@ mod Named
 mod Judged
 mod Sourced
 mod Answering
+pub mod ByName

@@ -1,4 +1,5 @@
 pub mod Replays
 pub mod Ends
+pub mod Asked
 pub mod Naming
 pub mod Steps

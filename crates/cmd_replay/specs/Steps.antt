@@ -20,7 +20,7 @@ use Rattle.net_model.specs.State.{start_of}
 use Rattle.cal_files.specs.Views.{file_names}
 use Rattle.cal_files.specs.declared.names.Names.{Names}
 use Rattle.cmd_ports.specs.Matching.{AreMatched, IsWrongWord, names_of}
-use Rattle.cmd_ports.specs.Opening.{FeedFails, replay_feeds}
+use Rattle.cmd_ports.specs.Opening.{FeedFails, HoldsBefore, Opening, replay_feeds}
 use Rattle.cmd_run_network.specs.Growth.{GrowTooFar, IsGrownTooMuch}
 use Rattle.cmd_run_network.specs.Files.{AreInputs}
 use Rattle.cmd_run_network.specs.Network.{IsWiringBy, in_names, words_of}
@@ -112,6 +112,24 @@ module _ (flat : Flat) (job : Job) (old new : Inputs) where
   LeavesFeeds (Err (stop.Fault (judged.NotRun line why))) = IsPermitted flat job × Opens
   LeavesFeeds (Err (stop.Fault (judged.ReadFault feed))) = IsPermitted flat job × IsUnread feed
 
+-- ---- under which names
+
+-- the feeds that a job asks for
+abbrev pub openings_of : Flat → Job → List Opening
+openings_of flat job =
+    replay_feeds (string_bytes job.trace) flat.links.items (in_names flat) (words_of job)
+
+-- by the answer: all were opened; or one couldn't be opened, and those before it were
+abbrev pub OpensByName : Flat → Job → (FeedsAre : List Opening → Type 0)
+    → Result Replayed NotReplayed → Type 0
+OpensByName flat job FeedsAre (Ok replayed) = FeedsAre (openings_of flat job)
+OpensByName flat job FeedsAre (Err (stop.Refused r)) = Unit {0}
+OpensByName flat job FeedsAre (Err (stop.Fault judged.Memory)) = Unit {0}
+OpensByName flat job FeedsAre (Err (stop.Fault (judged.NotRun line why))) =
+    FeedsAre (openings_of flat job)
+OpensByName flat job FeedsAre (Err (stop.Fault (judged.ReadFault feed))) =
+    HoldsBefore (openings_of flat job) feed FeedsAre ⊎ FeedsAre (openings_of flat job)
+
 -- ---- an image
 
 -- an image of sound actors
@@ -123,13 +141,14 @@ pub record IsSourceImage (image : Image) : Type 0 where
 
 -- the trace was judged by the sources of an image
 pub record ImageJudged (image : Image) (job : Job) (old new : Inputs)
-    (came : Result Replayed NotReplayed) : Type 0 where
+    (FeedsAre : List Opening → Type 0) (came : Result Replayed NotReplayed) : Type 0 where
   pub judges : (actors : List Actor) (net : Network ActorState) (inputs : List (List ℕ)) (text : List ℕ)
       → HasImage image actors net → IsActorNetwork actors net
       → AreInputs inputs net.links (port_names net.ins) (words_of job) old
       → old.under (string_bytes job.trace) ≡ Some text
       → Judges (source_trial net inputs job.grow) text inputs came
   pub leaves : LeavesFeeds image.flat job old new came
+  pub by_name : OpensByName image.flat job FeedsAre came
 
 -- ---- the answer
 
@@ -164,8 +183,8 @@ lines_of image names job (Err fault) = []
 
 -- the trace was judged, and then the report was put, or wasn't
 pub record ImageReplayed (image : Image) (names : Names) (job : Job) (feeds feeds_new : Inputs)
-    (old new : Channels) (answer : Status) : Type 0 where
+    (old new : Channels) (FeedsAre : List Opening → Type 0) (answer : Status) : Type 0 where
   pub came : Result Replayed NotReplayed
-  pub judged : ImageJudged image job feeds feeds_new came
+  pub judged : ImageJudged image job feeds feeds_new FeedsAre came
   pub put : IsPut (status_of came)
       (report (lines_of image names job came) (about_image image names job) (status_of came)) old new answer

@@ -2,6 +2,7 @@
 
 ghost use Rattle.std.specs.Prelude.{◌≡◌, ℕ, false, true};
 ghost use Rattle.rvc_words.specs.Words.{IsWithin, job_text};
+ghost use Rattle.cmd_run_network.specs.Names.{FeedsOpened};
 ghost use Rattle.cmd_replay.specs.Steps.{ImageJudged, ImageReplayed, IsSourceImage};
 
 use crate::outcome::NotReplayed;
@@ -28,7 +29,8 @@ fn replay_cells<F: Feeds>(
     requires source { IsSourceImage image.now }
     requires within { IsWithin (job_text job.now) }
     requires feeds_closed { (n : ℕ) → (F.feeds feeds.old).is_open n ≡ false }
-    ensures { ImageJudged image.now job.now (F.feeds feeds.old) (F.feeds feeds.new) result }
+    ensures { ImageJudged image.now job.now (F.feeds feeds.old) (F.feeds feeds.new)
+        (FeedsOpened F.feeds F.past feeds.old feeds.new) result }
 {
     cells_run_as_sources();
     no_trace_is_told_to_be_none::<ActorStates>();
@@ -59,7 +61,8 @@ pub(crate) fn replay_image<F: Feeds, D: Drains>(
     requires feeds_closed { (n : ℕ) → (F.feeds feeds.old).is_open n ≡ false }
     requires report_open { (D.channels drains.old).is_open 0 ≡ true }
     ensures { ImageReplayed image.now names.now job.now (F.feeds feeds.old) (F.feeds feeds.new)
-        (D.channels drains.old) (D.channels drains.new) result }
+        (D.channels drains.old) (D.channels drains.new)
+        (FeedsOpened F.feeds F.past feeds.old feeds.new) result }
 {
     let came = replay_cells(alloc, image, job, feeds);
     report_came(image, names, job, came, drains)

@@ -3,8 +3,9 @@
 ghost use Rattle.std.specs.Prelude.{◌≡◌, ℕ, List, Some, false, map, string_bytes};
 ghost use Rattle.net_model.specs.Network.{Network};
 ghost use Rattle.cmd_run_network.specs.Files.{AreInputs};
+ghost use Rattle.cmd_run_network.specs.Names.{FeedsOpened};
 ghost use Rattle.cmd_run_network.specs.Network.{CanRunAll, IsNetworkOf, in_names, plan_of, words_of};
-ghost use Rattle.cmd_replay.specs.Steps.{Judges, LeavesFeeds, trial_of};
+ghost use Rattle.cmd_replay.specs.Steps.{Judges, LeavesFeeds, OpensByName, trial_of};
 
 use crate::outcome::NotReplayed;
 use crate::preparing::{Prepared, prepare};
@@ -46,6 +47,8 @@ pub(crate) fn replay_network<A: Firing, F: Feeds>(
         → (F.feeds feeds.old).under (string_bytes job.now.trace) ≡ Some text
         → Judges (trial_of net (map A.cell cells.items) inputs job.now.grow) text inputs result }
     ensures leaves { LeavesFeeds flat.now job.now (F.feeds feeds.old) (F.feeds feeds.new) result }
+    ensures by_name { OpensByName flat.now job.now
+        (FeedsOpened F.feeds F.past feeds.old feeds.new) result }
 {
     let Prepared { wiring, names } = match prepare(alloc, flat, job) {
         Ok(prepared) => prepared,

@@ -10,6 +10,8 @@ ghost use Rattle.network_check.specs.Top.{top_asked};
 ghost use Rattle.cmd_network.specs.Answers.{IsAnswered};
 ghost use Rattle.cmd_network.specs.Commands.{command, met_by};
 ghost use Rattle.cmd_run_network.specs.Network.{words_of};
+ghost use Rattle.cmd_run_network.specs.Names.{FeedsOpened};
+ghost use Rattle.cmd_replay.specs.Asked.{ComesAsAsked};
 ghost use Rattle.cmd_replay.specs.Ends.{Comes, IsJudgedOrOutside, IsNoVerdict};
 ghost use Rattle.cmd_replay.specs.Replays.{ConformsToReplay, RefusesReplay};
 
@@ -36,6 +38,8 @@ use std::alloc::Global;
 ///   of lines that play from the network's start, keep the capacities of its links and end in an end line; and the report has
 ///   the numbers of these lines (`WasRun`). If it is `NotRun`, the trace is the text of no such lines: with the line that is
 ///   named, and for the cause that is named, what stands before it is no longer that of a run (`WasNoRun`).
+/// - `as_asked`: besides, feed 0 was opened under the name of the trace, and then a feed for each input link whose input has a
+///   file, under the name that its word gives it, in the order of links; no other feed was opened (`ComesAsAsked`).
 /// - `complete`: if the library tells of each name and conforms with the words, and the links may grow as far as the job
 ///   asks, the answer is one of these two over this network, unless memory runs out, or reading or writing fails.
 /// - `incomplete`: if the library tells of each name, a job that is refused is never answered by one of these two.
@@ -62,6 +66,9 @@ pub fn replay_job<L: Library, F: Feeds, D: Drains>(
     requires feeds_closed { (n : ℕ) → (F.feeds feeds.old).is_open n ≡ false }
     requires report_open { (D.channels drains.old).is_open 0 ≡ true }
     ensures answered { IsAnswered Comes (command (met_by L.file L.misses L.faults F.feeds D.channels
+        library.old library.new feeds.old feeds.new drains.old drains.new) job.now) result }
+    ensures as_asked { IsAnswered (ComesAsAsked (FeedsOpened F.feeds F.past feeds.old feeds.new))
+        (command (met_by L.file L.misses L.faults F.feeds D.channels
         library.old library.new feeds.old feeds.new drains.old drains.new) job.now) result }
     ensures complete { (net : Network State) → TellsAll (L.file library.old)
         → ConformsToReplay (L.file library.old) (top_asked (string_bytes job.now.top))

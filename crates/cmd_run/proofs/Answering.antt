@@ -25,7 +25,7 @@ use Rattle.cal_files.specs.Views.{file_names}
 use Rattle.cal_files.specs.declared.names.Names.{Names}
 use Rattle.fnl_source.specs.Files.{class_asked, files_of}
 use Rattle.cmd_ports.specs.Matching.{AreMatched, IsWrongWord}
-use Rattle.cmd_ports.specs.Opening.{ChannelFails, channels_of}
+use Rattle.cmd_ports.specs.Opening.{ChannelFails, HoldsBefore, Opening, channels_of, feeds_of}
 use Rattle.cmd_network.specs.Conforming.{names_of_ports}
 use Rattle.round_runner.specs.declared.outcome.RunEnd.{RunEnd}
 use Rattle.round_runner.specs.declared.outcome.RunEnd.TheVariants as end
@@ -37,8 +37,10 @@ use Rattle.rvc_engine.specs.declared.image.Image.{Image}
 use Rattle.cmd_run_network.specs.Growth.{GrowTooFar}
 use Rattle.cmd_run_network.specs.Answering.{AreAllOpen, EndIsCaused, HeadFails, IsPermitted, IsUnread, IsUnwritten, LeavesJob}
 use Rattle.cmd_run_network.specs.Answering as answering
+use Rattle.cmd_run_network.specs.Arriving.{ArriveInEach}
 use Rattle.cmd_run_network.specs.Files.{IsChannelOf, IsFeedOf, OpensOnly, WritesOnly}
 use Rattle.cmd_run_network.specs.Leaving.{Came, LeavesRun, ending_of}
+use Rattle.cmd_run_network.specs.Names.{OpensByName}
 use Rattle.cmd_run_network.specs.Network as asks
 use Rattle.cmd_run_network.specs.declared.outcome.JobFault.{JobFault}
 use Rattle.cmd_run_network.specs.declared.outcome.JobFault.TheVariants as fault
@@ -47,8 +49,9 @@ use Rattle.cmd_run_network.proofs.Named.{head_is}
 use Rattle.cmd_run_network.proofs.Numbered.{is_channel}
 use Rattle.cmd_report.specs.About.{About}
 use Rattle.cmd_network.specs.Commands.{AreCertified, AreGiven, Command, HasFiles, IsToRun, OpenedNothing, TouchesOnly, about_net, count_none, port_names, run_over}
+use Rattle.cmd_run.specs.Asked.{ComesAsAsked, RanAsAsked, channels_asked, feeds_asked}
 use Rattle.cmd_run.specs.Ends.{AllAreOpen, ChannelUnopened, Comes, IsRefused, Ran, WouldGrowTooFar, by_growth, by_words}
-use Rattle.cmd_run.specs.Steps.{CellsRan, about_image, lines_at, status_at, status_of}
+use Rattle.cmd_run.specs.Steps.{CellsAsked, CellsRan, about_image, lines_at, status_at, status_of}
 use Rattle.cmd_run.proofs.Cells.{many_leaves}
 use Rattle.cmd_run.proofs.Leaving.{same_names}
 use Rattle.cmd_run.proofs.Reported.{broken, cut, ended, risen_from, risen_to}
@@ -212,46 +215,6 @@ module _ (job : Job) (library : loading.Library) (misses faults : loading.Counts
     lines_are = refl;
   }
 
-  how_ended : (how : RunEnd) (counts : Counts) → IsPermitted image.flat job → counts.firings ≤ job.budget → TouchesOnly cmd net → Opened
-      → EndIsCaused image.flat.links.items (asks.in_names image.flat) (asks.out_names image.flat) (asks.words_of job) feeds feeds_new old between how
-      → ((inputs : List (List ℕ)) → AreGiven cmd net inputs → LeavesRun (run_over cmd net inputs) (ending_of how) counts feeds_new between)
-      → Comes cmd (status_at how counts.firings) (lines_at image names job (Ok (record { end = end.Quiet; counts = counts }))) (about_image image names job)
-  unfolding to_run files
-  how_ended end.Quiet counts permitted within touches are_open caused leaves = (net, record { counts = counts; ran = some_ran _ counts permitted within touches are_open leaves })
-  how_ended (end.Trapped inst action trap) counts permitted within touches are_open caused leaves = (net, record { counts = counts; ran = some_ran _ counts permitted within touches are_open leaves })
-  how_ended (end.Stalled inst action link) counts permitted within touches are_open caused leaves = (net, record { counts = counts; ran = some_ran _ counts permitted within touches are_open leaves })
-  how_ended end.Budget counts permitted within touches are_open caused leaves = (net, record { counts = counts; ran = some_ran BudgetLine counts permitted within touches are_open leaves; firings_are = refl })
-  how_ended (end.ReadFault feed) counts permitted within touches are_open caused leaves = (
-    net,
-    record {
-      is_to_run = to_run permitted.matched;
-      fits = within_growth permitted.fits;
-      how = inr (record {
-        counted = caused.0;
-        is_feed = subst (λ ls. IsFeedOf ls (port_names net.ins) (asks.words_of job) feed) (sym links_are)
-            (subst (λ ps. IsFeedOf image.flat.links.items ps (asks.words_of job) feed) (sym ins_are) caused.1);
-        counts = counts;
-        leaves = λ inputs given. cut (run_over cmd net inputs) between new only counts feed feeds_new (leaves inputs given);
-        within = within;
-        touches = touches;
-        opened = all_open are_open;
-      });
-      about_is = about_is;
-    },
-  )
-  how_ended (end.WriteFault channel) counts permitted within touches are_open caused leaves = (
-    net,
-    record {
-      is_to_run = to_run permitted.matched;
-      fits = within_growth permitted.fits;
-      counted = risen_to old.faults between.faults new.faults caused.0 only.faults_stay;
-      is_channel = subst (λ ps. IsChannelOf ps (asks.words_of job) channel) (sym outs_are) caused.1;
-      how = inr (all_open are_open);
-      leaves = λ inputs given. broken (run_over cmd net inputs) between new only (leaves inputs given);
-      touches = touches;
-    },
-  )
-
   -- nothing was opened
   nothing : (feeds_new ≡ feeds) × (between ≡ old) → OpenedNothing cmd
   nothing same = record { same_feeds = same.0; only_report = subst (λ cs. WritesOnlyAt 0 cs new) same.1 only }
@@ -271,35 +234,98 @@ module _ (job : Job) (library : loading.Library) (misses faults : loading.Counts
     refusal = is;
   }))
 
-  pub comes : (came : Result Outcome JobFault) → CellsRan image job feeds feeds_new old between came → Comes cmd (status_of came) (lines_at image names job came) (about_image image names job)
-  unfolding to_run files
-  comes (Ok outcome) ran = how_ended outcome.end outcome.counts ran.permitted ran.within (touched ran.only_feeds ran.others) ran.opened ran.faults (leaves_of (Ok outcome) ran)
-  comes (Err (fault.Refused r)) ran = (refused r ran.refused, nothing ran.unstarted)
-  comes (Err fault.Memory) ran = nothing ran.unstarted
-  comes (Err (fault.ReadFault feed)) ran = (
-    net,
-    record {
-      is_to_run = to_run ran.permitted.matched;
-      fits = within_growth ran.permitted.fits;
-      how = inl (record {
-        fails = subst (λ ls. IsUnread ls (port_names net.ins) (asks.words_of job) feeds feeds_new feed) (sym links_are)
-            (subst (λ ps. IsUnread image.flat.links.items ps (asks.words_of job) feeds feeds_new feed) (sym ins_are) ran.unread.0);
-        only_report = subst (λ cs. WritesOnlyAt 0 cs new) ran.unread.1 only;
-      });
-      about_is = about_is;
-    },
-  )
-  comes (Err (fault.WriteFault channel)) ran = (
-    net,
-    record {
-      is_to_run = to_run ran.permitted.matched;
-      fits = within_growth ran.permitted.fits;
-      counted = risen_to old.faults between.faults new.faults
-          (is_counted (string_bytes job.trace) (asks.out_names image.flat) (asks.words_of job) head channel old between ran.unwritten.fails) only.faults_stay;
-      is_channel = subst (λ ps. IsChannelOf ps (asks.words_of job) channel) (sym outs_are)
-          (is_one_of (string_bytes job.trace) (asks.out_names image.flat) (asks.words_of job) head channel old between ran.unwritten.fails);
-      how = inl (unopened channel ran.unwritten);
-      leaves = λ inputs given. broken (run_over cmd net inputs) between new only (leaves_of (Err (fault.WriteFault channel)) ran inputs given);
-      touches = touched ran.only_feeds ran.others;
-    },
-  )
+  -- what was opened, and who worked, by what these tell
+  module _ (FeedsAre ChannelsAre : List Opening → Type 0) (Arrived : ℕ → ℕ → Type 0) where
+    feeds_so : (Q : List Opening → Type 0) → Q (feeds_of image.flat.links.items (asks.in_names image.flat) (asks.words_of job)) → Q (feeds_asked cmd net)
+    feeds_so Q h = subst (λ ls. Q (feeds_of ls (port_names net.ins) (asks.words_of job))) (sym links_are)
+        (subst (λ ps. Q (feeds_of image.flat.links.items ps (asks.words_of job))) (sym ins_are) h)
+
+    channels_so : (Q : List Opening → Type 0) → Q (channels_of (string_bytes job.trace) (asks.out_names image.flat) (asks.words_of job)) → Q (channels_asked cmd net)
+    channels_so Q h = subst (λ ps. Q (channels_of (string_bytes job.trace) ps (asks.words_of job))) (sym outs_are) h
+
+    ran_asked : (counts : Counts) → FeedsAre (feeds_of image.flat.links.items (asks.in_names image.flat) (asks.words_of job))
+        → ChannelsAre (channels_of (string_bytes job.trace) (asks.out_names image.flat) (asks.words_of job))
+        → ArriveInEach Arrived job (length image.codes.items) counts → RanAsAsked FeedsAre ChannelsAre Arrived cmd net counts
+    ran_asked counts feeds_are channels_are arrive = record {
+      feeds = feeds_so FeedsAre feeds_are;
+      channels = channels_so ChannelsAre channels_are;
+      workers = subst (λ n. ArriveInEach Arrived job n counts) (sym (length-map image.codes.items arc_value) ∙ many_leaves image actors net has is) arrive;
+    }
+
+    how_ended : (how : RunEnd) (counts : Counts) → IsPermitted image.flat job → counts.firings ≤ job.budget → TouchesOnly cmd net → Opened
+        → EndIsCaused image.flat.links.items (asks.in_names image.flat) (asks.out_names image.flat) (asks.words_of job) feeds feeds_new old between how
+        → ((inputs : List (List ℕ)) → AreGiven cmd net inputs → LeavesRun (run_over cmd net inputs) (ending_of how) counts feeds_new between)
+        → RanAsAsked FeedsAre ChannelsAre Arrived cmd net counts → ComesAsAsked FeedsAre ChannelsAre Arrived cmd (status_at how counts.firings) (lines_at image names job (Ok (record { end = end.Quiet; counts = counts }))) (about_image image names job)
+    unfolding to_run files
+    how_ended end.Quiet counts permitted within touches are_open caused leaves asked = ((net, record { counts = counts; ran = some_ran _ counts permitted within touches are_open leaves }), asked)
+    how_ended (end.Trapped inst action trap) counts permitted within touches are_open caused leaves asked = ((net, record { counts = counts; ran = some_ran _ counts permitted within touches are_open leaves }), asked)
+    how_ended (end.Stalled inst action link) counts permitted within touches are_open caused leaves asked = ((net, record { counts = counts; ran = some_ran _ counts permitted within touches are_open leaves }), asked)
+    how_ended end.Budget counts permitted within touches are_open caused leaves asked = ((net, record { counts = counts; ran = some_ran BudgetLine counts permitted within touches are_open leaves; firings_are = refl }), asked)
+    how_ended (end.ReadFault feed) counts permitted within touches are_open caused leaves asked = (
+      (net,
+      record {
+        is_to_run = to_run permitted.matched;
+        fits = within_growth permitted.fits;
+        how = inr (record {
+          counted = caused.0;
+          is_feed = subst (λ ls. IsFeedOf ls (port_names net.ins) (asks.words_of job) feed) (sym links_are)
+              (subst (λ ps. IsFeedOf image.flat.links.items ps (asks.words_of job) feed) (sym ins_are) caused.1);
+          counts = counts;
+          leaves = λ inputs given. cut (run_over cmd net inputs) between new only counts feed feeds_new (leaves inputs given);
+          within = within;
+          touches = touches;
+          opened = all_open are_open;
+        });
+        about_is = about_is;
+      }),
+      asked,
+    )
+    how_ended (end.WriteFault channel) counts permitted within touches are_open caused leaves asked = (
+      (net,
+      record {
+        is_to_run = to_run permitted.matched;
+        fits = within_growth permitted.fits;
+        counted = risen_to old.faults between.faults new.faults caused.0 only.faults_stay;
+        is_channel = subst (λ ps. IsChannelOf ps (asks.words_of job) channel) (sym outs_are) caused.1;
+        how = inr (all_open are_open);
+        leaves = λ inputs given. broken (run_over cmd net inputs) between new only (leaves inputs given);
+        touches = touches;
+      }),
+      (asked.feeds, asked.channels),
+    )
+
+    pub comes : (came : Result Outcome JobFault) → CellsRan image job feeds feeds_new old between came → CellsAsked image job FeedsAre ChannelsAre Arrived came
+        → ComesAsAsked FeedsAre ChannelsAre Arrived cmd (status_of came) (lines_at image names job came) (about_image image names job)
+    unfolding to_run files
+    comes (Ok outcome) ran asked = how_ended outcome.end outcome.counts ran.permitted ran.within (touched ran.only_feeds ran.others) ran.opened ran.faults (leaves_of (Ok outcome) ran) (ran_asked outcome.counts asked.by_name.0 asked.by_name.1 asked.arrive)
+    comes (Err (fault.Refused r)) ran asked = ((refused r ran.refused, nothing ran.unstarted), tt)
+    comes (Err fault.Memory) ran asked = (nothing ran.unstarted, tt)
+    comes (Err (fault.ReadFault feed)) ran asked = (
+      (net,
+      record {
+        is_to_run = to_run ran.permitted.matched;
+        fits = within_growth ran.permitted.fits;
+        how = inl (record {
+          fails = subst (λ ls. IsUnread ls (port_names net.ins) (asks.words_of job) feeds feeds_new feed) (sym links_are)
+              (subst (λ ps. IsUnread image.flat.links.items ps (asks.words_of job) feeds feeds_new feed) (sym ins_are) ran.unread.0);
+          only_report = subst (λ cs. WritesOnlyAt 0 cs new) ran.unread.1 only;
+        });
+        about_is = about_is;
+      }),
+      feeds_so (λ all. HoldsBefore all feed FeedsAre) asked.by_name,
+    )
+    comes (Err (fault.WriteFault channel)) ran asked = (
+      (net,
+      record {
+        is_to_run = to_run ran.permitted.matched;
+        fits = within_growth ran.permitted.fits;
+        counted = risen_to old.faults between.faults new.faults
+            (is_counted (string_bytes job.trace) (asks.out_names image.flat) (asks.words_of job) head channel old between ran.unwritten.fails) only.faults_stay;
+        is_channel = subst (λ ps. IsChannelOf ps (asks.words_of job) channel) (sym outs_are)
+            (is_one_of (string_bytes job.trace) (asks.out_names image.flat) (asks.words_of job) head channel old between ran.unwritten.fails);
+        how = inl (unopened channel ran.unwritten);
+        leaves = λ inputs given. broken (run_over cmd net inputs) between new only (leaves_of (Err (fault.WriteFault channel)) ran inputs given);
+        touches = touched ran.only_feeds ran.others;
+      }),
+      (feeds_so FeedsAre asked.by_name.0, channels_so (λ all. HoldsBefore all channel ChannelsAre ⊎ ChannelsAre all) asked.by_name.1),
+    )

@@ -2,6 +2,8 @@ pub mod Sourced
 pub mod Cells
 pub mod Leaving
 pub mod Reported
+pub mod Asking
+pub mod Few
 pub mod Answering
 pub mod Answered
 pub mod Deciding

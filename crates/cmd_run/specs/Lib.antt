@@ -1,2 +1,4 @@
 pub mod Ends
+pub mod Asked
+pub mod Rounds
 pub mod Steps

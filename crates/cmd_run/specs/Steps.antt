@@ -16,14 +16,17 @@ use Rattle.cal_files.specs.Views.{file_names}
 use Rattle.cal_files.specs.declared.names.Names.{Names}
 use Rattle.fnl_source.specs.Files.{Asked}
 use Rattle.cmd_ports.specs.Matching.{names_of}
+use Rattle.cmd_ports.specs.Opening.{Opening}
 use Rattle.round_runner.specs.declared.outcome.RunEnd.{RunEnd}
 use Rattle.round_runner.specs.declared.outcome.RunEnd.TheVariants as end
 use Rattle.net_cells.specs.Sources.{IsActorNetwork}
 use Rattle.rvc_engine.specs.Built.{HasImage, IsBuilt}
 use Rattle.rvc_engine.specs.declared.image.Image.{Image}
 use Rattle.cmd_run_network.specs.Answering.{AreAllOpen, EndIsCaused, IfStarted, IfUnstarted, IsPermitted, IsRefused, IsUnread, IsUnwritten, LeavesJob, OnRefused, OnUnread, OnUnwritten}
+use Rattle.cmd_run_network.specs.Arriving.{ArriveInEach}
 use Rattle.cmd_run_network.specs.Files.{AreInputs, Keeps, OpensOnly, WritesOnly}
 use Rattle.cmd_run_network.specs.Leaving.{setting_of}
+use Rattle.cmd_run_network.specs.Names.{OpensByName}
 use Rattle.cmd_run_network.specs.Network as asks
 use Rattle.cmd_run_network.specs.declared.outcome.JobFault.{JobFault}
 use Rattle.cmd_run_network.specs.declared.outcome.JobFault.TheVariants as fault
@@ -119,12 +122,21 @@ pub record CellsRan (image : Image) (job : Job) (feeds feeds_new : Inputs) (old 
   pub only_feeds : OpensOnly image.flat.links.items (asks.in_names image.flat) (asks.words_of job) feeds feeds_new
   pub others : WritesOnly (asks.out_names image.flat) (asks.words_of job) old new
 
+-- .. it opened feeds and channels, and had workers, as its job asks, by what these tell
+pub record CellsAsked (image : Image) (job : Job) (FeedsAre ChannelsAre : List Opening → Type 0)
+    (Arrived : ℕ → ℕ → Type 0) (came : Result Outcome JobFault) : Type 0 where
+  pub by_name : OpensByName image.flat.links.items (asks.in_names image.flat) (asks.out_names image.flat)
+      (asks.words_of job) (string_bytes job.trace) FeedsAre ChannelsAre came
+  pub arrive : IfOk came (λ outcome. ArriveInEach Arrived job (length image.codes.items) outcome.counts)
+
 -- .. and then the report was put, or wasn't
 pub record ImageRan (image : Image) (names : Names) (job : Job) (feeds feeds_new : Inputs)
-    (old new : Channels) (answer : Status) : Type 0 where
+    (old new : Channels) (FeedsAre ChannelsAre : List Opening → Type 0) (Arrived : ℕ → ℕ → Type 0)
+    (answer : Status) : Type 0 where
   pub came : Result Outcome JobFault
   pub between : Channels
   pub ran : CellsRan image job feeds feeds_new old between came
+  pub asked : CellsAsked image job FeedsAre ChannelsAre Arrived came
   pub put : IsPut (status_of came)
       (report (lines_at image names job came) (about_image image names job) (status_of came))
       between new answer

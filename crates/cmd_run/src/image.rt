@@ -7,8 +7,10 @@ ghost use Rattle.cal_files.specs.Views.{file_names};
 ghost use Rattle.rvc_engine.specs.Built.{IsBuilt};
 ghost use Rattle.network_check.specs.Top.{top_asked};
 ghost use Rattle.cmd_network.specs.Answers.{IsAnswered};
+ghost use Rattle.cmd_run_network.specs.Names.{ChannelsOpened, FeedsOpened};
+ghost use Rattle.cmd_run.specs.Asked.{ComesAsAsked};
 ghost use Rattle.cmd_run.specs.Ends.{Comes};
-ghost use Rattle.cmd_run.specs.Steps.{CellsRan, ImageRan, IsSourceImage};
+ghost use Rattle.cmd_run.specs.Steps.{CellsAsked, CellsRan, ImageRan, IsSourceImage};
 
 use crate::reporting::report_came;
 use cal_files::Names;
@@ -37,8 +39,10 @@ fn run_cells<R: Threads + Sync, F: Feeds, D: Drains, G: Gate>(
     requires feeds_closed { (n : ℕ) → 1 ≤ n → n ≤ length image.now.flat.links.items
         → (F.feeds feeds.old).is_open n ≡ false }
     requires channels_closed { (n : ℕ) → n ≢ 0 → (D.channels drains.old).is_open n ≡ false }
-    ensures { CellsRan image.now job.now (F.feeds feeds.old) (F.feeds feeds.new)
+    ensures ran { CellsRan image.now job.now (F.feeds feeds.old) (F.feeds feeds.new)
         (D.channels drains.old) (D.channels drains.new) result }
+    ensures asked { CellsAsked image.now job.now (FeedsOpened F.feeds F.past feeds.old feeds.new)
+        (ChannelsOpened D.channels D.past drains.old drains.new) (G.arrived gate.now) result }
 {
     cells_run_as_sources();
     let cells = match make_cells(
@@ -72,7 +76,9 @@ fn run_and_report<R: Threads + Sync, F: Feeds, D: Drains, G: Gate>(
     requires channels_closed { (n : ℕ) → n ≢ 0 → (D.channels drains.old).is_open n ≡ false }
     requires report_open { (D.channels drains.old).is_open 0 ≡ true }
     ensures { ImageRan image.now names.now job.now (F.feeds feeds.old) (F.feeds feeds.new)
-        (D.channels drains.old) (D.channels drains.new) result }
+        (D.channels drains.old) (D.channels drains.new)
+        (FeedsOpened F.feeds F.past feeds.old feeds.new)
+        (ChannelsOpened D.channels D.past drains.old drains.new) (G.arrived gate.now) result }
 {
     let came = run_cells(rt, alloc, image, job, feeds, drains, gate);
     report_came(image, names, job, came, drains)
@@ -88,6 +94,8 @@ fn run_and_report<R: Threads + Sync, F: Feeds, D: Drains, G: Gate>(
 ///
 /// - `answered`: whatever library the image was built of for the job's top, the answer is that of a command that runs its
 ///   network (`Comes`). Nothing else of the library matters.
+/// - `as_asked`: besides, the feeds and channels that were opened are those of the network's ports that have a file, each under
+///   the name of its file, and the workers that the job asks for have arrived in each round (`ComesAsAsked`).
 ///
 /// # Errors
 ///
@@ -111,6 +119,19 @@ pub fn run_image<R: Threads + Sync, F: Feeds, D: Drains, G: Gate>(
     ensures answered { (library : loading.Library) (misses faults : loading.Counts)
         → IsBuilt library (top_asked (string_bytes job.now.top)) (file_names names.now) image.now
         → IsAnswered Comes (record {
+          job = job.now;
+          library = library;
+          misses = misses;
+          faults = faults;
+          feeds = F.feeds feeds.old;
+          feeds_after = F.feeds feeds.new;
+          channels = D.channels drains.old;
+          channels_after = D.channels drains.new;
+        }) result }
+    ensures as_asked { (library : loading.Library) (misses faults : loading.Counts)
+        → IsBuilt library (top_asked (string_bytes job.now.top)) (file_names names.now) image.now
+        → IsAnswered (ComesAsAsked (FeedsOpened F.feeds F.past feeds.old feeds.new)
+        (ChannelsOpened D.channels D.past drains.old drains.new) (G.arrived gate.now)) (record {
           job = job.now;
           library = library;
           misses = misses;

@@ -14,5 +14,5 @@ mod running;
 mod status;
 
 pub use image::run_image;
-pub use laws::built_images_can_be_run;
+pub use laws::{built_images_can_be_run, runs_make_few_rounds};
 pub use running::run_job;

@@ -12,6 +12,8 @@ ghost use Rattle.network_check.specs.Top.{top_asked};
 ghost use Rattle.cmd_run_network.specs.Network.{words_of};
 ghost use Rattle.cmd_network.specs.Answers.{IsAnswered};
 ghost use Rattle.cmd_network.specs.Commands.{RefusesJob, command, met_by};
+ghost use Rattle.cmd_run_network.specs.Names.{ChannelsOpened, FeedsOpened};
+ghost use Rattle.cmd_run.specs.Asked.{ComesAsAsked};
 ghost use Rattle.cmd_run.specs.Ends.{Comes, ComesFor, IsNoEnd};
 
 use crate::image::run_image;
@@ -41,6 +43,10 @@ use std::thread::Threads;
 ///   the text of lines that are paced by the job's policy, burst, budget and growth from the network's start, the last of
 ///   which is that end; the channel of each output that has a file holds the bytes of what was sent to it, and no other is
 ///   open; the report has the numbers of these lines (`Ran`). That no fault came is no premise.
+/// - `as_asked`: besides, after such a run the feeds of inputs that have a file were opened, in the order of links, and the
+///   channels: the trace's, and then those of outputs that have one; each under the name that the word gives it, and no other
+///   was opened. It is said of any objects, also of real files. In each round of the run its workers have arrived at the gate,
+///   of as many as the job asks for. If a feed or a channel couldn't be opened, those before it were (`ComesAsAsked`).
 /// - `complete`: if the library tells of each name, and files and words conform to a network, then it is this network of
 ///   which the answer speaks: the job isn't refused, but for links that may grow too far.
 /// - `incomplete` and `too_far`: if the library tells of each name, what is refused never comes to an end of a run: neither
@@ -75,6 +81,10 @@ pub fn run_job<R: Threads + Sync, L: Library, F: Feeds, D: Drains, G: Gate>(
     requires report_open { (D.channels drains.old).is_open 0 ≡ true }
 
     ensures answered { IsAnswered Comes (command (met_by L.file L.misses L.faults F.feeds D.channels
+        library.old library.new feeds.old feeds.new drains.old drains.new) job.now) result }
+    ensures as_asked { IsAnswered (ComesAsAsked (FeedsOpened F.feeds F.past feeds.old feeds.new)
+        (ChannelsOpened D.channels D.past drains.old drains.new) (G.arrived gate.now))
+        (command (met_by L.file L.misses L.faults F.feeds D.channels
         library.old library.new feeds.old feeds.new drains.old drains.new) job.now) result }
 
     // What a library that tells of each name decides.
@@ -115,7 +125,9 @@ fn run_files<R: Threads + Sync, L: Library, F: Feeds, D: Drains, G: Gate>(
     requires feeds_closed { (n : ℕ) → (F.feeds feeds.old).is_open n ≡ false }
     requires channels_closed { (n : ℕ) → n ≢ 0 → (D.channels drains.old).is_open n ≡ false }
     requires report_open { (D.channels drains.old).is_open 0 ≡ true }
-    ensures answered { IsAnswered Comes (command (met_by L.file L.misses L.faults F.feeds D.channels
+    ensures as_asked { IsAnswered (ComesAsAsked (FeedsOpened F.feeds F.past feeds.old feeds.new)
+        (ChannelsOpened D.channels D.past drains.old drains.new) (G.arrived gate.now))
+        (command (met_by L.file L.misses L.faults F.feeds D.channels
         library.old library.new feeds.old feeds.new drains.old drains.new) job.now) result }
     ensures same_files { (other : List ℕ) → L.file library.new other ≡ L.file library.old other }
     ensures faults_stay { L.faults library.old ≤ L.faults library.new }

@@ -13,6 +13,7 @@ use Rattle.law_determinate.specs.QuietRuns.{ComesDeterminate, RunsTellQuietRuns}
 use Rattle.cmd_gen.specs.Ends as gen
 use Rattle.cmd_replay.specs.Ends as replay
 use Rattle.cmd_run.specs.Ends as run
+use Rattle.cmd_run.specs.Rounds.{ComesInFewRounds, RunsMakeFewRounds}
 use Rattle.cmd_report.specs.About.{About}
 use Rattle.cmd_report.specs.Report.{report}
 use Rattle.cmd_report.specs.declared.status.ReadAt.TheVariants.{File, Feed}
@@ -84,6 +85,11 @@ module _ (cmd : Command) where
   pub run_tells : RunsTellQuietRuns → (answer : Status) → IsAnswered run.Comes cmd answer → IsAnswered ComesDeterminate cmd answer
   run_tells law _ (is_reported {said = said} lines about comes put) = is_reported lines about (comes, law cmd said lines about) put
   run_tells law _ (is_unreported said lines about comes put risen) = is_unreported said lines about (comes, law cmd said lines about) put risen
+
+  -- .. and of how few rounds it made
+  pub run_rounds : RunsMakeFewRounds → (answer : Status) → IsAnswered run.Comes cmd answer → IsAnswered ComesInFewRounds cmd answer
+  run_rounds law _ (is_reported lines about comes put) = is_reported lines about (comes, law cmd lines about) put
+  run_rounds law _ (is_unreported said lines about comes put risen) = is_unreported said lines about (comes, law cmd lines about) put risen
 
   -- ---- `check`
 

@@ -21,11 +21,16 @@ ghost use Rattle.cmd_check.specs.Ends.{Comes as CheckComes, IsDoneOrOutside};
 ghost use Rattle.law_determinate.specs.QuietRuns.{ComesDeterminate};
 ghost use Rattle.cmd_fmt.specs.Formatting.{HasFile, IsDoneOrMemory, IsPrinting, IsUnprinted, PrintsFile, library_met};
 ghost use Rattle.cmd_fmt.specs.Reports.{IsCutShort, ReportIs, about_file};
-ghost use Rattle.cmd_gen.specs.Ends.{Comes as GenComes, ComesFor as GenComesFor};
+ghost use Rattle.cmd_gen.specs.Asked.{ComesAsAsked as GenAsAsked};
+ghost use Rattle.cmd_gen.specs.Ends.{ComesFor as GenComesFor};
 ghost use Rattle.cmd_gen.specs.Jobs.{GeneratedConform, instances_of};
-ghost use Rattle.cmd_replay.specs.Ends.{Comes as ReplayComes, IsJudgedOrOutside, IsNoVerdict};
+ghost use Rattle.cmd_replay.specs.Asked.{ComesAsAsked as ReplayAsAsked};
+ghost use Rattle.cmd_replay.specs.Ends.{IsJudgedOrOutside, IsNoVerdict};
 ghost use Rattle.cmd_replay.specs.Replays.{ConformsToReplay, RefusesReplay};
-ghost use Rattle.cmd_run.specs.Ends.{Comes as RunComes, ComesFor, IsNoEnd};
+ghost use Rattle.cmd_run_network.specs.Names.{ChannelsOpened, FeedsOpened};
+ghost use Rattle.cmd_run.specs.Asked.{ComesAsAsked};
+ghost use Rattle.cmd_run.specs.Rounds.{ComesInFewRounds};
+ghost use Rattle.cmd_run.specs.Ends.{ComesFor, IsNoEnd};
 ghost use Rattle.rvc_top.specs.Generated.{GenComesDeterminate};
 ghost use Rattle.rvc_top.specs.Jobs.{IsAnsweredAlone, IsDoneBy, IsSettled};
 ghost use Rattle.rvc_top.specs.Status.{IsReportAlone, IsCaused, IsOfJob, PlainReportIs};
@@ -45,13 +50,17 @@ use std::thread::Threads;
 /// **If the answer of `run` is `Quiet`, `Trapped`, `Stalled` or `Budget`, there is a network that the files of the library
 /// mean. The trace is the text of a run of it over the bytes of the feeds, the channels of its outputs have the bytes of
 /// that run, the status names how it ended, and the report counts it** (`run`, which says of the job that the words are to
-/// what [`run_job`](cmd_run::run_job) comes: `Ran` for these four answers, and a case for each other one). **If every actor
+/// what [`run_job`](cmd_run::run_job) comes: `Ran` for these four answers, and a case for each other one). The feeds and the
+/// channels that were opened are those of the network's ports that have a file and that of the trace, each under the name that
+/// its word gives it, and no other; and in each round the workers that the job asks for have arrived at the gate: both is said
+/// of any objects, also of real files (`run`, which says `ComesAsAsked`). **If every actor
 /// is certified, which the report's count shows, the outputs of every quiet run over these inputs are those bytes, or
 /// continue them if this run ended otherwise** (`determinate`: `TellsQuietRuns` of [`law_determinate`]). If the library
 /// tells of each name, and the files and the words conform to a network, that one is run, unless the job lets links grow too
 /// far, memory runs out, or reading or writing fails (`run_complete`); and what is refused never ends a run
 /// (`run_incomplete`, `run_too_far`).
 ///
+/// - `few_rounds`: such a run made at most two rounds for each firing, one for each growth of a link, and two more.
 /// - `check`: the job was checked as [`check_job`](cmd_check::check_job) says: `Done` if the files conform and there is no
 ///   port word. Nothing is opened. What conforms is `Done`, unless memory runs out or reading or writing fails
 ///   (`check_complete`); what is refused never is (`check_incomplete`).
@@ -60,11 +69,11 @@ use std::thread::Threads;
 ///   opened. What conforms is decided so, unless memory runs out or reading or writing fails (`certify_complete`); what is
 ///   refused never is (`certify_incomplete`).
 /// - `replay`: the trace was judged as [`replay_job`](cmd_replay::replay_job) says: `Done` if it is the text of a run of the
-///   network that the files mean, over the bytes of the feeds, and `NotRun` at the first line that isn't. No channel is
-///   opened. What conforms is judged so, unless memory runs out, or reading or writing fails (`replay_complete`); what is
+///   network that the files mean, over the bytes of the feeds, and `NotRun` at the first line that isn't. Feeds are opened under
+///   the names of the trace and of the inputs' words. No channel is opened. What conforms is judged so, unless memory runs out, or reading or writing fails (`replay_complete`); what is
 ///   refused never is (`replay_incomplete`).
 /// - `generated`: `gen` made a network and ran it as [`gen_job`](cmd_gen::gen_job) says, over an input that was generated
-///   too. No file is read and no feed is opened (`gen_reads_no_file`, `gen_opens_no_feed`). If every actor is certified,
+///   too. The channels are opened under the names of their words, and the workers arrive, as of `run`. No file is read and no feed is opened (`gen_reads_no_file`, `gen_opens_no_feed`). If every actor is certified,
 ///   that run tells of every quiet run over the generated input what `determinate` says of `run` (`gen_determinate`). If the
 ///   generated files conform with the port words, their network is run, unless memory runs out, writing fails or the job is
 ///   refused for what `IsStillRefused` of that crate names (`gen_complete`).
@@ -102,10 +111,15 @@ pub fn rvc<R: Threads + Sync, L: Library, F: Feeds, D: Drains, G: Gate>(
 
     // `run`.
     ensures run { (j : JobText) → job (texts words.now) ≡ Ok j → j.verb ≡ verb.Run
-        → IsDoneBy RunComes j (met_by L.file L.misses L.faults F.feeds D.channels
+        → IsDoneBy (ComesAsAsked (FeedsOpened F.feeds F.past feeds.old feeds.new)
+        (ChannelsOpened D.channels D.past drains.old drains.new) (G.arrived gate.now)) j
+        (met_by L.file L.misses L.faults F.feeds D.channels
         library.old library.new feeds.old feeds.new drains.old drains.new) result }
     ensures determinate { (j : JobText) → job (texts words.now) ≡ Ok j → j.verb ≡ verb.Run
         → IsDoneBy ComesDeterminate j (met_by L.file L.misses L.faults F.feeds D.channels
+        library.old library.new feeds.old feeds.new drains.old drains.new) result }
+    ensures few_rounds { (j : JobText) → job (texts words.now) ≡ Ok j → j.verb ≡ verb.Run
+        → IsDoneBy ComesInFewRounds j (met_by L.file L.misses L.faults F.feeds D.channels
         library.old library.new feeds.old feeds.new drains.old drains.new) result }
     ensures run_complete { (j : JobText) (net : Network State) → job (texts words.now) ≡ Ok j
         → j.verb ≡ verb.Run → TellsAll (L.file library.old)
@@ -179,7 +193,8 @@ pub fn rvc<R: Threads + Sync, L: Library, F: Feeds, D: Drains, G: Gate>(
 
     // `replay`.
     ensures replay { (j : JobText) → job (texts words.now) ≡ Ok j → j.verb ≡ verb.Replay
-        → IsDoneBy ReplayComes j (met_by L.file L.misses L.faults F.feeds D.channels
+        → IsDoneBy (ReplayAsAsked (FeedsOpened F.feeds F.past feeds.old feeds.new)) j
+        (met_by L.file L.misses L.faults F.feeds D.channels
         library.old library.new feeds.old feeds.new drains.old drains.new) result }
     ensures replay_complete { (j : JobText) (net : Network State) → job (texts words.now) ≡ Ok j
         → j.verb ≡ verb.Replay → TellsAll (L.file library.old)
@@ -195,7 +210,8 @@ pub fn rvc<R: Threads + Sync, L: Library, F: Feeds, D: Drains, G: Gate>(
 
     // `gen`.
     ensures generated { (j : JobText) → job (texts words.now) ≡ Ok j → j.verb ≡ verb.Gen
-        → IsDoneBy GenComes j (met_by L.file L.misses L.faults F.feeds D.channels
+        → IsDoneBy (GenAsAsked (ChannelsOpened D.channels D.past drains.old drains.new)
+        (G.arrived gate.now)) j (met_by L.file L.misses L.faults F.feeds D.channels
         library.old library.new feeds.old feeds.new drains.old drains.new) result }
     ensures gen_determinate { (j : JobText) → job (texts words.now) ≡ Ok j → j.verb ≡ verb.Gen
         → IsDoneBy GenComesDeterminate j (met_by L.file L.misses L.faults F.feeds D.channels

@@ -19,11 +19,16 @@ ghost use Rattle.cmd_check.specs.Ends.{Comes as CheckComes, IsDoneOrOutside};
 ghost use Rattle.law_determinate.specs.QuietRuns.{ComesDeterminate};
 ghost use Rattle.cmd_fmt.specs.Formatting.{HasFile, IsDoneOrMemory, IsPrinting, IsUnprinted, PrintsFile, library_met};
 ghost use Rattle.cmd_fmt.specs.Reports.{IsCutShort, ReportIs, about_file};
-ghost use Rattle.cmd_gen.specs.Ends.{Comes as GenComes, ComesFor as GenComesFor};
+ghost use Rattle.cmd_gen.specs.Asked.{ComesAsAsked as GenAsAsked};
+ghost use Rattle.cmd_gen.specs.Ends.{ComesFor as GenComesFor};
 ghost use Rattle.cmd_gen.specs.Jobs.{GeneratedConform, instances_of};
-ghost use Rattle.cmd_replay.specs.Ends.{Comes as ReplayComes, IsJudgedOrOutside, IsNoVerdict};
+ghost use Rattle.cmd_replay.specs.Asked.{ComesAsAsked as ReplayAsAsked};
+ghost use Rattle.cmd_replay.specs.Ends.{IsJudgedOrOutside, IsNoVerdict};
 ghost use Rattle.cmd_replay.specs.Replays.{ConformsToReplay, RefusesReplay};
-ghost use Rattle.cmd_run.specs.Ends.{Comes as RunComes, ComesFor, IsNoEnd};
+ghost use Rattle.cmd_run_network.specs.Names.{ChannelsOpened, FeedsOpened};
+ghost use Rattle.cmd_run.specs.Asked.{ComesAsAsked};
+ghost use Rattle.cmd_run.specs.Rounds.{ComesInFewRounds};
+ghost use Rattle.cmd_run.specs.Ends.{ComesFor, IsNoEnd};
 ghost use Rattle.rvc_top.specs.Generated.{GenComesDeterminate};
 ghost use Rattle.rvc_top.specs.Steps.{IsNoUsage, IsSaid};
 
@@ -33,7 +38,7 @@ use cmd_fmt::format_job;
 use cmd_gen::gen_job;
 use cmd_replay::replay_job;
 use cmd_report::Status;
-use cmd_run::run_job;
+use cmd_run::{run_job, runs_make_few_rounds};
 use law_determinate::runs_tell_quiet_runs;
 use rvc_io::{Drains, Feeds, Gate, Library};
 use rvc_words::{Job, Verb};
@@ -56,11 +61,17 @@ pub(crate) fn do_job<R: Threads + Sync, L: Library, F: Feeds, D: Drains, G: Gate
     requires channels_closed { (n : ℕ) → n ≢ 0 → (D.channels drains.old).is_open n ≡ false }
     requires report_open { (D.channels drains.old).is_open 0 ≡ true }
 
-    ensures run { job.now.verb ≡ Verb.Run → IsAnswered RunComes (command
+    ensures run { job.now.verb ≡ Verb.Run
+        → IsAnswered (ComesAsAsked (FeedsOpened F.feeds F.past feeds.old feeds.new)
+        (ChannelsOpened D.channels D.past drains.old drains.new) (G.arrived gate.now)) (command
         (met_by L.file L.misses L.faults F.feeds D.channels library.old library.new
         feeds.old feeds.new drains.old drains.new) job.now)
         result }
     ensures determinate { job.now.verb ≡ Verb.Run → IsAnswered ComesDeterminate (command
+        (met_by L.file L.misses L.faults F.feeds D.channels library.old library.new
+        feeds.old feeds.new drains.old drains.new) job.now)
+        result }
+    ensures few_rounds { job.now.verb ≡ Verb.Run → IsAnswered ComesInFewRounds (command
         (met_by L.file L.misses L.faults F.feeds D.channels library.old library.new
         feeds.old feeds.new drains.old drains.new) job.now)
         result }
@@ -138,7 +149,8 @@ pub(crate) fn do_job<R: Threads + Sync, L: Library, F: Feeds, D: Drains, G: Gate
     ensures format_alone { job.now.verb ≡ Verb.Fmt → WritesOnly D.channels drains.old drains.new 0 }
     ensures format_opens_no_feed { job.now.verb ≡ Verb.Fmt → feeds.new ≡ feeds.old }
 
-    ensures replay { job.now.verb ≡ Verb.Replay → IsAnswered ReplayComes (command
+    ensures replay { job.now.verb ≡ Verb.Replay
+        → IsAnswered (ReplayAsAsked (FeedsOpened F.feeds F.past feeds.old feeds.new)) (command
         (met_by L.file L.misses L.faults F.feeds D.channels library.old library.new
         feeds.old feeds.new drains.old drains.new) job.now)
         result }
@@ -156,7 +168,9 @@ pub(crate) fn do_job<R: Threads + Sync, L: Library, F: Feeds, D: Drains, G: Gate
         (map port_text job.now.ports.items) job.now.grow misses names refusal
         → IsNoVerdict result }
 
-    ensures generated { job.now.verb ≡ Verb.Gen → IsAnswered GenComes (command
+    ensures generated { job.now.verb ≡ Verb.Gen
+        → IsAnswered (GenAsAsked (ChannelsOpened D.channels D.past drains.old drains.new)
+        (G.arrived gate.now)) (command
         (met_by L.file L.misses L.faults F.feeds D.channels library.old library.new
         feeds.old feeds.new drains.old drains.new) job.now)
         result }
@@ -179,6 +193,7 @@ pub(crate) fn do_job<R: Threads + Sync, L: Library, F: Feeds, D: Drains, G: Gate
     ensures no_usage { IsNoUsage result }
 {
     runs_tell_quiet_runs();
+    runs_make_few_rounds();
     match job.verb {
         Verb::Run => run_job(rt, alloc, job, library, feeds, drains, gate),
         Verb::Check => check_job(alloc, job, library, drains),

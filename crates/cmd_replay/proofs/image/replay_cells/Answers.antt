@@ -33,4 +33,5 @@ returns g c =
           source_judges image actors net has is c.cells_run_as_sources.ensures.lawful c.no_trace_is_told_to_be_none.ensures job c.requires.within cells are
           (g.F.Feeds.feeds c.args.feeds.now) c.replay_network.result inputs text c.replay_network.ensures.judges given told;
       leaves = c.replay_network.ensures.leaves;
+      by_name = c.replay_network.ensures.by_name;
     }

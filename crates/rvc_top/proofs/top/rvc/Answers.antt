@@ -23,6 +23,11 @@ returns-in-Ok-clause-determinate g c = λ j is verb.
     let says : job_text c.in-Ok.job ≡ j = same_job (job_text c.in-Ok.job) j (job (texts c.args.words.now)) c.in-Ok.ensures.read is in
     inl (record { read = c.in-Ok.job; says = says; holds = c.do_job.ensures.determinate (ap (λ x. x.verb) says ∙ verb) })
 
+pub returns-in-Ok-clause-few_rounds : goal.returns-in-Ok-clause-few_rounds
+returns-in-Ok-clause-few_rounds g c = λ j is verb.
+    let says : job_text c.in-Ok.job ≡ j = same_job (job_text c.in-Ok.job) j (job (texts c.args.words.now)) c.in-Ok.ensures.read is in
+    inl (record { read = c.in-Ok.job; says = says; holds = c.do_job.ensures.few_rounds (ap (λ x. x.verb) says ∙ verb) })
+
 pub returns-in-Ok-clause-run_complete : goal.returns-in-Ok-clause-run_complete
 returns-in-Ok-clause-run_complete g c = λ j net is verb tells conforms.
     let says : job_text c.in-Ok.job ≡ j = same_job (job_text c.in-Ok.job) j (job (texts c.args.words.now)) c.in-Ok.ensures.read is in

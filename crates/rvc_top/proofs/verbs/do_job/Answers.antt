@@ -1,8 +1,14 @@
-use Rattle.rvc_top.proofs.Said.{certify_no_usage, certify_said, check_no_usage, check_said, gen_no_usage, gen_said, gen_tells, replay_no_usage, replay_said, run_no_usage, run_said, run_tells}
+use Rattle.rvc_top.proofs.Said.{certify_no_usage, certify_said, check_no_usage, check_said, gen_no_usage, gen_said, gen_tells, replay_no_usage, replay_said, run_no_usage, run_rounds, run_said, run_tells}
 use Rattle.rvc_top.proofs.verbs.do_job.Goals as goal
+
+pub returns-in-Run-clause-run : goal.returns-in-Run-clause-run
+returns-in-Run-clause-run g c = λ is. c.run_job.ensures.as_asked
 
 pub returns-in-Run-clause-determinate : goal.returns-in-Run-clause-determinate
 returns-in-Run-clause-determinate g c = λ is. run_tells _ c.runs_tell_quiet_runs.ensures c.run_job.result c.run_job.ensures.answered
+
+pub returns-in-Run-clause-few_rounds : goal.returns-in-Run-clause-few_rounds
+returns-in-Run-clause-few_rounds g c = λ is. run_rounds _ c.runs_make_few_rounds.ensures c.run_job.result c.run_job.ensures.answered
 
 pub returns-in-Run-clause-run_complete : goal.returns-in-Run-clause-run_complete
 returns-in-Run-clause-run_complete g c = λ net is tells conforms. c.run_job.ensures.complete net tells conforms
@@ -50,7 +56,7 @@ pub returns-in-Fmt-clause-format_complete : goal.returns-in-Fmt-clause-format_co
 returns-in-Fmt-clause-format_complete g c = λ tree is has quiet kept. c.format_job.ensures.complete tree has quiet kept
 
 pub returns-in-Replay-clause-replay : goal.returns-in-Replay-clause-replay
-returns-in-Replay-clause-replay g c = λ is. c.replay_job.ensures.answered
+returns-in-Replay-clause-replay g c = λ is. c.replay_job.ensures.as_asked
 
 pub returns-in-Replay-clause-replay_complete : goal.returns-in-Replay-clause-replay_complete
 returns-in-Replay-clause-replay_complete g c = λ net is tells conforms. c.replay_job.ensures.complete net tells conforms
@@ -65,7 +71,7 @@ pub returns-in-Replay-clause-no_usage : goal.returns-in-Replay-clause-no_usage
 returns-in-Replay-clause-no_usage g c = replay_no_usage _ c.replay_job.result c.replay_job.ensures.answered
 
 pub returns-in-Gen-clause-generated : goal.returns-in-Gen-clause-generated
-returns-in-Gen-clause-generated g c = λ is. c.gen_job.ensures.answered
+returns-in-Gen-clause-generated g c = λ is. c.gen_job.ensures.as_asked
     (g.L.Library.file c.args.library.now)
     (record { old = g.L.Library.misses c.args.library.now; new = g.L.Library.misses c.args.library.now })
     (record { old = g.L.Library.faults c.args.library.now; new = g.L.Library.faults c.args.library.now })
