@@ -103,14 +103,17 @@ module _ (job made : Job) (state : LibraryState) (instances : ℕ) (is_made : Is
         line_answered Gives cmd status.OutOfMemory answer [] (about_words names made) refl (λ only. (opened_nothing only, tt)) put
     came_answered answer (of_word r wrong put) =
         line_answered Gives cmd (status.Refused r) answer [] (about_words names made) refl
-        (λ only. ((
-          by_words (gen (unopened instances) (unopened instances)) (file_names names) built.is_image.net here (record {
-            files = record { names = file_names names; reads = built.reads; are_read = built.are_read; means = built.is_image.means };
-            names_are = refl;
-            wrong = subst (λ ports. IsWrongWord ports (map port_text job.ports.items) r) (sym outs_are) wrong;
-          }),
-          opened_nothing only,
-        ), tt)) put
+        (λ only. (
+          (
+            by_words (gen (unopened instances) (unopened instances)) (file_names names) built.is_image.net here (record {
+              files = record { names = file_names names; reads = built.reads; are_read = built.are_read; means = built.is_image.means };
+              names_are = refl;
+              wrong = subst (λ ports. IsWrongWord ports (map port_text job.ports.items) r) (sym outs_are) wrong;
+            }),
+            opened_nothing only,
+          ),
+          tt,
+        )) put
     came_answered answer (of_run matched ran) =
         let is : IsGenerated cmd (gen ran.feeds ran.feeds_after) = generated ran.feeds ran.feeds_after ran.given in
         answered_too cmd (gen ran.feeds ran.feeds_after) is refl refl ran.no_fault (tells_of cmd (gen ran.feeds ran.feeds_after) is) one ChannelsAre Arrived built.is_image.net

@@ -152,42 +152,51 @@ module _ (cmd : Command) (FeedsAre : List Opening → Type 0) (image : Image) (n
   comes_fault : (fault : ReplayFault) → ImageJudged image cmd.job cmd.feeds cmd.feeds_after FeedsAre (Err (stop.Fault fault)) → WritesOnlyAt 0 cmd.channels cmd.channels_after
       → Asked cmd (status_of_fault fault) [] (about_image image names cmd.job)
   unfolding to_replay of_command files
-  comes_fault (judged.NotRun line why) was only = (record {
-    net = net;
-    is_to_replay = to_replay was.leaves.0;
-    refused = λ inputs text given told. was.judges actors net inputs text has is given told;
-    feeds = opens was.leaves.1;
-    only_report = only;
-    about_is = about_is;
-  }, feeds_so FeedsAre was.by_name)
-  comes_fault (judged.ReadFault feed) was only = (record {
-    net = net;
-    is_to_replay = to_replay was.leaves.0;
-    how = ⊎_elim (λ fails. inl (unopened feed fails)) (λ broke. inr (record { counted = broke.0; is_feed = read_feed feed broke.1; feeds = opens broke.2 })) was.leaves.1;
-    only_report = only;
-    about_is = about_is;
-  }, feeds_so (λ all. HoldsBefore all feed FeedsAre ⊎ FeedsAre all) was.by_name)
+  comes_fault (judged.NotRun line why) was only = (
+    record {
+      net = net;
+      is_to_replay = to_replay was.leaves.0;
+      refused = λ inputs text given told. was.judges actors net inputs text has is given told;
+      feeds = opens was.leaves.1;
+      only_report = only;
+      about_is = about_is;
+    },
+    feeds_so FeedsAre was.by_name,
+  )
+  comes_fault (judged.ReadFault feed) was only = (
+    record {
+      net = net;
+      is_to_replay = to_replay was.leaves.0;
+      how = ⊎_elim (λ fails. inl (unopened feed fails)) (λ broke. inr (record { counted = broke.0; is_feed = read_feed feed broke.1; feeds = opens broke.2 })) was.leaves.1;
+      only_report = only;
+      about_is = about_is;
+    },
+    feeds_so (λ all. HoldsBefore all feed FeedsAre ⊎ FeedsAre all) was.by_name,
+  )
   comes_fault judged.Memory was only = (only, tt)
 
   comes : (came : Result Replayed NotReplayed) → ImageJudged image cmd.job cmd.feeds cmd.feeds_after FeedsAre came → WritesOnlyAt 0 cmd.channels cmd.channels_after
       → Asked cmd (status_of came) (lines_of image names cmd.job came) (about_image image names cmd.job)
   unfolding to_replay of_command files
-  comes (Ok replayed) was only = (record {
-    end = replayed.end;
-    counts = replayed.counts;
-    replayed = record {
-      net = net;
-      is_to_replay = to_replay was.leaves.0;
-      replayed = λ inputs text given told. was.judges actors net inputs text has is given told;
-      feeds = opens was.leaves.1;
-      only_report = only;
-      sound = has.sound;
-      certified = count_none image.uncertified.items;
-      are_certified = certified;
-      about_is = about_is;
-      lines_are = refl;
-    };
-  }, feeds_so FeedsAre was.by_name)
+  comes (Ok replayed) was only = (
+    record {
+      end = replayed.end;
+      counts = replayed.counts;
+      replayed = record {
+        net = net;
+        is_to_replay = to_replay was.leaves.0;
+        replayed = λ inputs text given told. was.judges actors net inputs text has is given told;
+        feeds = opens was.leaves.1;
+        only_report = only;
+        sound = has.sound;
+        certified = count_none image.uncertified.items;
+        are_certified = certified;
+        about_is = about_is;
+        lines_are = refl;
+      };
+    },
+    feeds_so FeedsAre was.by_name,
+  )
   comes (Err (stop.Refused r)) was only = ((forbidden r was.leaves.0, record { same_feeds = was.leaves.1; only_report = only }), tt)
   comes (Err (stop.Fault fault)) was only = comes_fault fault was only
 

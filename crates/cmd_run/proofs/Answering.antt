@@ -262,35 +262,39 @@ module _ (job : Job) (library : loading.Library) (misses faults : loading.Counts
     how_ended (end.Stalled inst action link) counts permitted within touches are_open caused leaves asked = ((net, record { counts = counts; ran = some_ran _ counts permitted within touches are_open leaves }), asked)
     how_ended end.Budget counts permitted within touches are_open caused leaves asked = ((net, record { counts = counts; ran = some_ran BudgetLine counts permitted within touches are_open leaves; firings_are = refl }), asked)
     how_ended (end.ReadFault feed) counts permitted within touches are_open caused leaves asked = (
-      (net,
-      record {
-        is_to_run = to_run permitted.matched;
-        fits = within_growth permitted.fits;
-        how = inr (record {
-          counted = caused.0;
-          is_feed = subst (λ ls. IsFeedOf ls (port_names net.ins) (asks.words_of job) feed) (sym links_are)
-              (subst (λ ps. IsFeedOf image.flat.links.items ps (asks.words_of job) feed) (sym ins_are) caused.1);
-          counts = counts;
-          leaves = λ inputs given. cut (run_over cmd net inputs) between new only counts feed feeds_new (leaves inputs given);
-          within = within;
-          touches = touches;
-          opened = all_open are_open;
-        });
-        about_is = about_is;
-      }),
+      (
+        net,
+        record {
+          is_to_run = to_run permitted.matched;
+          fits = within_growth permitted.fits;
+          how = inr (record {
+            counted = caused.0;
+            is_feed = subst (λ ls. IsFeedOf ls (port_names net.ins) (asks.words_of job) feed) (sym links_are)
+                (subst (λ ps. IsFeedOf image.flat.links.items ps (asks.words_of job) feed) (sym ins_are) caused.1);
+            counts = counts;
+            leaves = λ inputs given. cut (run_over cmd net inputs) between new only counts feed feeds_new (leaves inputs given);
+            within = within;
+            touches = touches;
+            opened = all_open are_open;
+          });
+          about_is = about_is;
+        },
+      ),
       asked,
     )
     how_ended (end.WriteFault channel) counts permitted within touches are_open caused leaves asked = (
-      (net,
-      record {
-        is_to_run = to_run permitted.matched;
-        fits = within_growth permitted.fits;
-        counted = risen_to old.faults between.faults new.faults caused.0 only.faults_stay;
-        is_channel = subst (λ ps. IsChannelOf ps (asks.words_of job) channel) (sym outs_are) caused.1;
-        how = inr (all_open are_open);
-        leaves = λ inputs given. broken (run_over cmd net inputs) between new only (leaves inputs given);
-        touches = touches;
-      }),
+      (
+        net,
+        record {
+          is_to_run = to_run permitted.matched;
+          fits = within_growth permitted.fits;
+          counted = risen_to old.faults between.faults new.faults caused.0 only.faults_stay;
+          is_channel = subst (λ ps. IsChannelOf ps (asks.words_of job) channel) (sym outs_are) caused.1;
+          how = inr (all_open are_open);
+          leaves = λ inputs given. broken (run_over cmd net inputs) between new only (leaves inputs given);
+          touches = touches;
+        },
+      ),
       (asked.feeds, asked.channels),
     )
 
@@ -301,31 +305,35 @@ module _ (job : Job) (library : loading.Library) (misses faults : loading.Counts
     comes (Err (fault.Refused r)) ran asked = ((refused r ran.refused, nothing ran.unstarted), tt)
     comes (Err fault.Memory) ran asked = (nothing ran.unstarted, tt)
     comes (Err (fault.ReadFault feed)) ran asked = (
-      (net,
-      record {
-        is_to_run = to_run ran.permitted.matched;
-        fits = within_growth ran.permitted.fits;
-        how = inl (record {
-          fails = subst (λ ls. IsUnread ls (port_names net.ins) (asks.words_of job) feeds feeds_new feed) (sym links_are)
-              (subst (λ ps. IsUnread image.flat.links.items ps (asks.words_of job) feeds feeds_new feed) (sym ins_are) ran.unread.0);
-          only_report = subst (λ cs. WritesOnlyAt 0 cs new) ran.unread.1 only;
-        });
-        about_is = about_is;
-      }),
+      (
+        net,
+        record {
+          is_to_run = to_run ran.permitted.matched;
+          fits = within_growth ran.permitted.fits;
+          how = inl (record {
+            fails = subst (λ ls. IsUnread ls (port_names net.ins) (asks.words_of job) feeds feeds_new feed) (sym links_are)
+                (subst (λ ps. IsUnread image.flat.links.items ps (asks.words_of job) feeds feeds_new feed) (sym ins_are) ran.unread.0);
+            only_report = subst (λ cs. WritesOnlyAt 0 cs new) ran.unread.1 only;
+          });
+          about_is = about_is;
+        },
+      ),
       feeds_so (λ all. HoldsBefore all feed FeedsAre) asked.by_name,
     )
     comes (Err (fault.WriteFault channel)) ran asked = (
-      (net,
-      record {
-        is_to_run = to_run ran.permitted.matched;
-        fits = within_growth ran.permitted.fits;
-        counted = risen_to old.faults between.faults new.faults
-            (is_counted (string_bytes job.trace) (asks.out_names image.flat) (asks.words_of job) head channel old between ran.unwritten.fails) only.faults_stay;
-        is_channel = subst (λ ps. IsChannelOf ps (asks.words_of job) channel) (sym outs_are)
-            (is_one_of (string_bytes job.trace) (asks.out_names image.flat) (asks.words_of job) head channel old between ran.unwritten.fails);
-        how = inl (unopened channel ran.unwritten);
-        leaves = λ inputs given. broken (run_over cmd net inputs) between new only (leaves_of (Err (fault.WriteFault channel)) ran inputs given);
-        touches = touched ran.only_feeds ran.others;
-      }),
+      (
+        net,
+        record {
+          is_to_run = to_run ran.permitted.matched;
+          fits = within_growth ran.permitted.fits;
+          counted = risen_to old.faults between.faults new.faults
+              (is_counted (string_bytes job.trace) (asks.out_names image.flat) (asks.words_of job) head channel old between ran.unwritten.fails) only.faults_stay;
+          is_channel = subst (λ ps. IsChannelOf ps (asks.words_of job) channel) (sym outs_are)
+              (is_one_of (string_bytes job.trace) (asks.out_names image.flat) (asks.words_of job) head channel old between ran.unwritten.fails);
+          how = inl (unopened channel ran.unwritten);
+          leaves = λ inputs given. broken (run_over cmd net inputs) between new only (leaves_of (Err (fault.WriteFault channel)) ran inputs given);
+          touches = touched ran.only_feeds ran.others;
+        },
+      ),
       (feeds_so FeedsAre asked.by_name.0, channels_so (λ all. HoldsBefore all channel ChannelsAre ⊎ ChannelsAre all) asked.by_name.1),
     )

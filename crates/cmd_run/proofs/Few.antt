@@ -12,7 +12,7 @@ pub few_rounds : {X : Type 0} (run : Setting X) → PacedRoundsAreFew X → (end
     → counts.rounds ≤ 2 * counts.firings + growths_in (ended.before ++ end ∷ []) + 2
 few_rounds run law end counts channels ended =
     let bound : deliveries_in (ended.before ++ end ∷ []) ≤ 2 * length (firings_shown (ended.before ++ end ∷ [])) + growths_in (ended.before ++ end ∷ []) + 2
-        = law run.net run.pace run.start (ended.before ++ end ∷ []) ended.last ended.paced in
+    = law run.net run.pace run.start (ended.before ++ end ∷ []) ended.last ended.paced in
     let rounds = ended.counted.rounds in
     let firings = ended.counted.firings in
     omega (arith, bound, rounds, firings)

@@ -63,7 +63,10 @@ named_still links ins outs words trace FeedsAre channels past old mid new (Ok a)
 named_still links ins outs words trace FeedsAre channels past old mid new (Err (Refused refusal)) same h = tt
 named_still links ins outs words trace FeedsAre channels past old mid new (Err Memory) same h = tt
 named_still links ins outs words trace FeedsAre channels past old mid new (Err (ReadFault feed)) same h = h
-named_still links ins outs words trace FeedsAre channels past old mid new (Err (WriteFault channel)) same h = (h.0, ⊎_elim
-    (λ before. inl (holds_so (channels_of trace outs words) channel (ChannelsOpened channels past old mid) (ChannelsOpened channels past old new)
-    (λ made opened. channels_still channels past old mid new made opened same) before))
-    (λ all. inr (channels_still channels past old mid new (channels_of trace outs words) all same)) h.1)
+named_still links ins outs words trace FeedsAre channels past old mid new (Err (WriteFault channel)) same h = (
+  h.0,
+  ⊎_elim
+      (λ before. inl (holds_so (channels_of trace outs words) channel (ChannelsOpened channels past old mid) (ChannelsOpened channels past old new)
+      (λ made opened. channels_still channels past old mid new made opened same) before))
+      (λ all. inr (channels_still channels past old mid new (channels_of trace outs words) all same)) h.1,
+)

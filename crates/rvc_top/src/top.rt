@@ -70,13 +70,14 @@ use std::thread::Threads;
 ///   refused never is (`certify_incomplete`).
 /// - `replay`: the trace was judged as [`replay_job`](cmd_replay::replay_job) says: `Done` if it is the text of a run of the
 ///   network that the files mean, over the bytes of the feeds, and `NotRun` at the first line that isn't. Feeds are opened under
-///   the names of the trace and of the inputs' words. No channel is opened. What conforms is judged so, unless memory runs out, or reading or writing fails (`replay_complete`); what is
-///   refused never is (`replay_incomplete`).
+///   the names of the trace and of the inputs' words. No channel is opened. What conforms is judged so, unless memory runs out,
+///   or reading or writing fails (`replay_complete`); what is refused never is (`replay_incomplete`).
 /// - `generated`: `gen` made a network and ran it as [`gen_job`](cmd_gen::gen_job) says, over an input that was generated
-///   too. The channels are opened under the names of their words, and the workers arrive, as of `run`. No file is read and no feed is opened (`gen_reads_no_file`, `gen_opens_no_feed`). If every actor is certified,
-///   that run tells of every quiet run over the generated input what `determinate` says of `run` (`gen_determinate`). If the
-///   generated files conform with the port words, their network is run, unless memory runs out, writing fails or the job is
-///   refused for what `IsStillRefused` of that crate names (`gen_complete`).
+///   too. The channels are opened under the names of their words, and the workers arrive, as of `run`. No file is read and no
+///   feed is opened (`gen_reads_no_file`, `gen_opens_no_feed`). If every actor is certified, that run tells of every quiet run
+///   over the generated input what `determinate` says of `run` (`gen_determinate`). If the generated files conform with the port
+///   words, their network is run, unless memory runs out, writing fails or the job is refused for what `IsStillRefused` of that
+///   crate names (`gen_complete`).
 /// - `formatted`: `fmt` is `Done` only if the file's text spells a tree and no words name ports, and channel 0 got the
 ///   canonical text of that tree alone. A file that is told to hold such a text is `Done`, unless memory runs out, a read
 ///   failed or the text couldn't be written (`complete`). The other answers of `fmt` are its report, and if a put failed
