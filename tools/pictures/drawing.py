@@ -111,7 +111,7 @@ class Label:
         if self.link:
             parts.append(svg.text(middle, y - 11, self.above, SMALL, svg.INK, "middle"))
             parts.append(svg.text(middle, y + 18.5, self.below, SMALL, svg.INK, "middle"))
-        title = "; ".join(link_text(link, self.run) for link in self.links)
+        title = link_text(self.link, self.run) if self.link else f"links {', '.join(str(each.number) for each in self.links)}"
         left = middle - (sum(self.badge_widths) + 2 * len(self.badges) - 2) / 2
         for badge, width in zip(self.badges, self.badge_widths):
             parts.append(svg.rectangle(left, y - 7.5, width, 15, self.colour(), svg.PAPER, 7.5, title))
@@ -317,7 +317,7 @@ def draw_line(edge, x, y):
 
 def curve(start, high, end, low, is_back):
     """A bend from one level to another. Of a line that leads back both bends turn round."""
-    if high == low and not is_back:
+    if abs(high - low) < 0.05 and not is_back:
         return ""
     if is_back:
         side = 26 if low > high else -26

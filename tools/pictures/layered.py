@@ -3,6 +3,8 @@
 from dataclasses import dataclass, field
 
 SWEEPS = 8
+# Sweeps that make lines level: more of them if there are few nodes.
+LEVEL_SWEEPS, MANY_LEVEL_SWEEPS, FEW_NODES = 16, 120, 300
 ROW_GAP = 21
 LANE = 24
 CURVE = 28
@@ -165,7 +167,7 @@ class Layout:
             for n in nodes:
                 self.nodes[n].y = y
                 y += self.nodes[n].height + ROW_GAP
-        for sweep in range(2 * SWEEPS):
+        for sweep in range(MANY_LEVEL_SWEEPS if len(self.nodes) <= FEW_NODES else LEVEL_SWEEPS):
             layers = self.layers if sweep % 2 == 0 else list(reversed(self.layers))
             for nodes in layers:
                 self.relax(nodes)

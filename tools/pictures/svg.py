@@ -1,5 +1,7 @@
 """Parts of pictures as SVG text."""
 
+import re
+from collections import Counter
 from html import escape
 
 FONT = "Helvetica, Arial, 'Liberation Sans', 'DejaVu Sans', sans-serif"
@@ -59,15 +61,34 @@ def text(x, y, words, size=11, colour=INK, anchor="start", is_bold=False):
 
 
 def rectangle(x, y, width, height, fill, edge="none", radius=0, title=""):
-    extra = {"rx": radius} if radius else {}
-    if edge != "none":
-        extra["stroke"] = edge
+    shape = {"rx": radius} if radius else {}
+    look = {"fill": fill, "stroke": edge} if edge != "none" else {"fill": fill}
     return tag("rect", tag("title", escape(title, quote=False)) if title else "", x=x, y=y, width=width, height=height,
-               fill=fill, **extra)
+               **shape, **look)
+
+
+# Attributes that say how something looks, one behind another.
+LOOK = re.compile(r'(?: (?:fill|stroke|stroke-width|stroke-dasharray|font-size|font-weight|text-anchor)="[^"]*")+')
+
+
+def style_of(look):
+    """Attributes as they stand in a sheet of styles."""
+    pairs = re.findall(r' ([a-z-]+)="([^"]*)"', look)
+    return ";".join(f"{name}:{value}{'px' if name == 'font-size' else ''}" for name, value in pairs)
+
+
+def with_classes(body):
+    """What looks alike several times is named once: the sheet of styles, and the body with classes."""
+    looks = [look for look, count in Counter(LOOK.findall(body)).items() if count > 2]
+    names = {look: f"s{number}" for number, look in enumerate(looks)}
+    body = LOOK.sub(lambda match: f' class="{names[match.group()]}"' if match.group() in names else match.group(), body)
+    sheet = "".join(f".{name}{{{style_of(look)}}}" for look, name in names.items())
+    return tag("style", sheet) if sheet else "", body
 
 
 def document(width, height, parts, title):
     head = (f'<svg xmlns="http://www.w3.org/2000/svg" width="{number_text(width)}" height="{number_text(height)}" '
             f'viewBox="0 0 {number_text(width)} {number_text(height)}" font-family="{FONT}">')
-    return "\n".join([head, tag("title", escape(title, quote=False)), rectangle(0, 0, width, height, PAPER)] + parts
-                     + ["</svg>", ""])
+    sheet, body = with_classes("\n".join(parts))
+    return "\n".join([head, tag("title", escape(title, quote=False)), sheet, rectangle(0, 0, width, height, PAPER), body,
+                      "</svg>", ""])
