@@ -19,6 +19,14 @@ class Words:
     def top(self):
         return self.rest[0]
 
+    def number(self, name, default):
+        """The value of an option that is a number."""
+        if name not in self.values:
+            return default
+        if not self.values[name].isdecimal() or len(self.values[name]) > 9:
+            raise ReadError(f"`{self.values[name]}` is no number for {name}")
+        return int(self.values[name])
+
     def input_tokens(self, network):
         """How many tokens the files of a network's inputs have."""
         known = {port.name: port for port in network.top.inputs}

@@ -4,7 +4,8 @@ from dataclasses import dataclass, field
 
 from pictures import svg
 from pictures.layered import Edge, Layout, Node
-from pictures.network import End
+from pictures.cal_text import ReadError
+from pictures.network import End, leaves_of
 
 NAME_SIZE, SMALL = 12, 10
 HEAD, ROW, PARAMETER, BAR = 42, 18, 13, 30
@@ -14,6 +15,7 @@ PAD = 10
 FRAME_HEAD, FRAME_FOOT = 34, 16
 MAX_PARAMETERS = 4
 MAX_NODE_WIDTH = 220
+MAX_DEPTH = 1000
 
 
 @dataclass
@@ -44,6 +46,33 @@ class Run:
         if state.is_input and not state.is_known:
             return f"{state.capacity}"
         return f"{state.fullest}/{state.capacity}"
+
+
+@dataclass
+class View:
+    """What is drawn: which box of a network, with what a trace says, if there is one. Networks in it are frames down to a
+    depth, and closed boxes below."""
+    network: object
+    run: object
+    shown: object
+    depth: int
+
+    def is_open(self, box):
+        """Whether a network is drawn with its parts: how deep it stands in the one that is shown decides that."""
+        depth = 0
+        while box is not self.shown:
+            depth, box = depth + 1, box.parent
+        return depth <= self.depth
+
+
+def box_at(network, path):
+    """The network at a path."""
+    box = network.top
+    for name in path.split("/") if path else []:
+        box = next((part for part in box.parts if part.name == name and part.is_network()), None)
+        if box is None:
+            raise ReadError(f"there is no network `{path}` in this one")
+    return box
 
 
 # Labels and texts.
@@ -86,9 +115,10 @@ class Label:
     """What stands at the end of a line: the numbers of its links on the line; and at a reading end the type of its tokens
     above it and the capacity below."""
 
-    def __init__(self, connection, network, run):
+    def __init__(self, connection, view):
+        run = view.run
         self.links, self.run = connection.links, run
-        self.link = network.links_into.get(connection.target.key())
+        self.link = view.network.links_into.get(connection.target.key())
         self.badges = [str(each.number) for each in self.links]
         if len(self.badges) > 3:
             self.badges = [f"{len(self.badges)} links"]
@@ -133,19 +163,28 @@ class Label:
 
 # Boxes.
 
-class ActorPicture:
-    """An instance as a box."""
+class BoxPicture:
+    """An instance as a box, or a network that is closed."""
 
-    def __init__(self, box, network, run):
-        self.box, self.network, self.run = box, network, run
+    def __init__(self, box, view):
+        self.box, self.network, self.run = box, view.network, view.run
+        self.leaves = leaves_of(box)
+        self.badge = self.numbers()
         self.parameters = [parameter_text(*each) for each in box.parameters[:MAX_PARAMETERS]]
-        self.badge_width = max(svg.text_width(str(box.number), 10, True) + 9, 17)
+        self.badge_width = max(svg.text_width(self.badge, 10, True) + 9, 17)
         self.ports_at = HEAD + PARAMETER * len(self.parameters)
         rows = max(INPUT_ROW * (len(box.inputs) - 1), ROW * (len(box.outputs) - 1), 0) + ROW
-        self.height = self.ports_at + rows + 6 + (BAR if run else 0)
+        self.height = self.ports_at + rows + 6 + (BAR if self.run else 0)
         self.width = self.find_width()
         self.inputs = [self.ports_at + INPUT_ROW * k + ROW / 2 for k in range(len(box.inputs))]
         self.outputs = [self.ports_at + ROW * k + ROW / 2 for k in range(len(box.outputs))]
+
+    def numbers(self):
+        """The number of the instance, or the first and the last of those in the network."""
+        numbers = [leaf.number for leaf in self.leaves]
+        if not numbers:
+            return "none"
+        return str(numbers[0]) if len(numbers) == 1 else f"{numbers[0]} .. {numbers[-1]}"
 
     def find_width(self):
         names = [svg.text_width(port.name, SMALL) for port in self.box.inputs] or [0]
@@ -157,19 +196,22 @@ class ActorPicture:
             wide.append(min(svg.text_width(self.fired_text(), SMALL), MAX_NODE_WIDTH - 2 * PAD))
         return max(max(wide) + 2 * PAD, 76)
 
+    def fired(self):
+        """How often all instances of the box fired."""
+        return sum(sum(self.run.of(leaf)) for leaf in self.leaves)
+
     def fired_text(self):
-        counts = self.run.of(self.box)
-        if len(self.box.actions) > 1 and sum(counts):
+        if not self.box.is_network() and len(self.box.actions) > 1 and self.fired():
             return actions_text(self.box, self.run)
-        return firings_text(sum(counts))
+        return firings_text(self.fired())
 
     def draw(self, x, y):
         box, wide = self.box, self.width
-        is_stopped = self.run and self.run.is_stopped(box)
-        title = f"instance {box.number}: {box.path} ({box.of_class})"
-        parts = [svg.rectangle(x, y, wide, self.height, svg.NODE, svg.WARNING if is_stopped else svg.NODE_EDGE, 6, title),
-                 svg.rectangle(x + PAD - 3, y + 8, self.badge_width, 16, svg.WARNING if is_stopped else svg.BADGE, radius=4),
-                 svg.text(x + PAD - 3 + self.badge_width / 2, y + 19.5, str(box.number), 10, svg.PAPER, "middle", True)]
+        is_stopped = self.run and any(self.run.is_stopped(leaf) for leaf in self.leaves)
+        edge, badge = (svg.WARNING, svg.WARNING) if is_stopped else (svg.NODE_EDGE, svg.BADGE)
+        parts = self.draw_edges(x, y, edge)
+        parts += [svg.rectangle(x + PAD - 3, y + 8, self.badge_width, 16, badge, radius=4),
+                  svg.text(x + PAD - 3 + self.badge_width / 2, y + 19.5, self.badge, 10, svg.PAPER, "middle", True)]
         left = x + PAD + self.badge_width + 3
         parts.append(svg.text(left, y + 20, svg.short(box.name, NAME_SIZE, wide), NAME_SIZE, svg.INK, is_bold=True))
         parts.append(svg.text(x + PAD - 2, y + 37, box.of_class, SMALL, svg.GREY))
@@ -180,28 +222,41 @@ class ActorPicture:
             parts += self.draw_firings(x, y + self.height - BAR)
         return parts
 
+    def draw_edges(self, x, y, edge):
+        """The box itself; a network has a second edge."""
+        kind = "network" if self.box.is_network() else "instance"
+        title = f"{kind} {self.badge}: {self.box.path} ({self.box.of_class})"
+        parts = [svg.rectangle(x, y, self.width, self.height, svg.NODE, edge, 6, title)]
+        if self.box.is_network():
+            parts.append(svg.rectangle(x + 2.5, y + 2.5, self.width - 5, self.height - 5, "none", svg.FRAME_EDGE, 4))
+        return parts
+
     def draw_ports(self, x, y):
         parts = []
-        joined = {link.source.key() for link in self.network.links} | set(self.network.links_into)
         for is_input, ports, heights in ((True, self.box.inputs, self.inputs), (False, self.box.outputs, self.outputs)):
             for k, (port, height) in enumerate(zip(ports, heights)):
-                colour = svg.INK if End(self.box, False, is_input, k).key() in joined else svg.PALE
+                colour = svg.INK if End(self.box, False, is_input, k).key() in self.network.joined else svg.PALE
                 side = x if is_input else x + self.width
                 parts.append(tag_port(side, y + height, colour))
                 parts.append(svg.text(side + (8 if is_input else -8), y + height + 3.5, port.name, SMALL, colour,
                                       "start" if is_input else "end"))
         return parts
 
+    def shares(self):
+        """What the bar of firings is made of: how many, their colour and their name."""
+        if self.box.is_network():
+            return [(self.fired(), svg.PALE, self.box.name)]
+        return [(count, svg.action_colour(action.number), action.name())
+                for action, count in zip(self.box.actions, self.run.of(self.box))]
+
     def draw_firings(self, x, y):
         """How often the instance fired, with a bar of its actions."""
-        counts = self.run.of(self.box)
         parts = [svg.text(x + PAD, y + 9, svg.short(self.fired_text(), SMALL, self.width - 2 * PAD + 2), SMALL, svg.GREY)]
         room, left = self.width - 2 * PAD, x + PAD
-        for action, count in zip(self.box.actions, counts):
+        for count, colour, name in self.shares():
             if count:
-                width = room * count / sum(counts)
-                parts.append(svg.rectangle(left, y + 15, width, 7, svg.action_colour(action.number),
-                                           title=f"{action.name()}: {firings_text(count)}"))
+                width = room * count / self.fired()
+                parts.append(svg.rectangle(left, y + 15, width, 7, colour, title=f"{name}: {firings_text(count)}"))
                 left += width
         return parts
 
@@ -234,9 +289,9 @@ class PortPicture:
 class NetworkPicture:
     """A network with its parts; one that stands in another is a frame."""
 
-    def __init__(self, box, network, run):
-        self.box, self.network, self.run = box, network, run
-        self.is_top = box is network.top
+    def __init__(self, box, view):
+        self.box, self.view = box, view
+        self.is_top = box is view.shown
         self.head = 0 if self.is_top else FRAME_HEAD
         self.title = [box.name, box.of_class]
         for each in box.parameters[:MAX_PARAMETERS]:
@@ -252,7 +307,7 @@ class NetworkPicture:
         box = self.box
         contents = [PortPicture(port, True, self.is_top) for port in box.inputs]
         contents += [PortPicture(port, False, self.is_top) for port in box.outputs]
-        contents += [picture_of(part, self.network, self.run) for part in box.parts]
+        contents += [picture_of(part, self.view) for part in box.parts]
         nodes = [Node(each.width, each.height, each.inputs, each.outputs, each) for each in contents]
         self.numbers = {id(part): len(box.inputs) + len(box.outputs) + k for k, part in enumerate(box.parts)}
         edges = [self.edge(connection) for connection in box.connections]
@@ -264,7 +319,7 @@ class NetworkPicture:
         return [svg.text_width(self.title[0], NAME_SIZE, True) + 8, svg.text_width(self.title[1], SMALL)]
 
     def edge(self, connection):
-        label = Label(connection, self.network, self.run)
+        label = Label(connection, self.view)
         source, source_port = self.node_of(connection.source)
         target, target_port = self.node_of(connection.target)
         return Edge(source, source_port, target, target_port, label.width + 12, label)
@@ -295,8 +350,8 @@ class NetworkPicture:
                 svg.text(x + PAD + name, y + 17, self.title[1], SMALL, svg.GREY)]
 
 
-def picture_of(box, network, run):
-    return (NetworkPicture if box.is_network() else ActorPicture)(box, network, run)
+def picture_of(box, view):
+    return (NetworkPicture if box.is_network() and view.is_open(box) else BoxPicture)(box, view)
 
 
 def draw_line(edge, x, y):
@@ -349,10 +404,11 @@ def wrapped(sentences, size, width):
     return lines
 
 
-def draw_network(network, title, run=None):
-    """The whole picture."""
-    picture = NetworkPicture(network.top, network, run)
-    heading = title + (f"  \u00b7  {' '.join([run.end] + run.end_parts)}" if run and run.end else "")
+def draw_network(network, title, run=None, path="", depth=MAX_DEPTH):
+    """The whole picture of a network, or of the one at a path in it."""
+    picture = NetworkPicture(box_at(network, path), View(network, run, box_at(network, path), depth))
+    title += f" \u00b7 {path}" if path else ""
+    heading = title + (f" \u00b7 {' '.join([run.end] + run.end_parts)}" if run and run.end else "")
     width = max(picture.width, svg.text_width(heading, 13, True), 470)
     notes = wrapped(legend(run), 9, width)
     height = picture.height + 74 + 13 * len(notes)

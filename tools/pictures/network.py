@@ -318,6 +318,9 @@ class Network:
         for port in range(len(top.outputs)):
             self.add_link(End(top, True, False, port))
         self.links_into = {link.target.key(): link for link in self.links}
+        # Ends of connections that a link passes.
+        self.joined = {end.key() for link in self.links for connection in link.connections
+                       for end in (connection.source, connection.target)}
 
     def add_link(self, target):
         """Adds the link to a reading end, if a chain of connections leads to it."""
