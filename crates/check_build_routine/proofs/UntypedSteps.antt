@@ -73,10 +73,10 @@ pub before_stop : (rest others all : List VarDecl) (found : List BoundLocal) (v 
 before_stop rest others all found v x here outer is untyped one inv =
     let broken : is_fine (type_of_var (var_tree v) here) ≡ false = sym one.typed ∙ untyped in (
       sym (append-nil (map local_view found))
-      ∙ sym (ap (λ ls. map local_view found ++ ls) (broken-local (type_of_var (var_tree v) here) (local_of (var_tree v) here) (locals_before (listed (map var_tree others)) (with_inner (var_tree v) here)) broken))
-      ∙ sym (ap (λ vs. map local_view found ++ locals_before (listed (map var_tree vs)) here) is)
-      ∙ inv.locals,
+          ∙ sym (ap (λ ls. map local_view found ++ ls) (broken-local (type_of_var (var_tree v) here) (local_of (var_tree v) here) (locals_before (listed (map var_tree others)) (with_inner (var_tree v) here)) broken))
+          ∙ sym (ap (λ vs. map local_view found ++ locals_before (listed (map var_tree vs)) here) is)
+          ∙ inv.locals,
       sym (broken-met (type_of_var (var_tree v) here) (var_tree v) (first_met (listed (map var_tree others)) (with_inner (var_tree v) here)) broken)
-      ∙ sym (ap (λ vs. first_met (listed (map var_tree vs)) here) is)
-      ∙ inv.types,
+          ∙ sym (ap (λ vs. first_met (listed (map var_tree vs)) here) is)
+          ∙ inv.types,
     )
