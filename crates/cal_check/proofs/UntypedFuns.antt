@@ -6,14 +6,14 @@ use Rattle.cal_ast.specs.Tree as tree
 use Rattle.cal_ast.specs.Tree.{Tree}
 use Rattle.cal_model.specs.Value.{Items, Single, Value, Values, stored}
 use Rattle.cal_model.specs.Outcome.{Out, Gives, Traps, Lacks, Clashes, and_then}
-use Rattle.cal_model.specs.Env.{Var}
+use Rattle.cal_model.specs.Env.{Env, Var}
 use Rattle.cal_model.specs.Expression.{Calls, eval, eval_all, prefixed}
 use Rattle.cal_model.specs.Actor.{Fun}
 use Rattle.cal_model.specs.Call.{answered, declared, on_call}
 use Rattle.cal_model.specs.Kinding.{Judged, Fine, Broken, Names, and_so}
 use Rattle.cal_model.specs.Sound.{with_locals}
 use Rattle.cal_model.proofs.KindValues.{fine-is}
-use Rattle.cal_check.specs.Routines.{Head, first_met, fun_if, locals_before, useless_fun}
+use Rattle.cal_check.specs.Routines.{Head, first_met, fun_if, fun_judged, head_judged, locals_before, useless_fun}
 use Rattle.cal_check.specs.Statements.{names_behind}
 use Rattle.cal_check.specs.Untyped.{UntypedGiveNothing}
 
