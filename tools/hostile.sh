@@ -581,10 +581,37 @@ for stack in 1024 8192; do
         } >Deep.xdf
         answers "$stack" check Deep.xdf
     fi
+    if begin "20,000 expressions in one another, $((stack / 1024)) MB of stack"; then
+        {
+            printf "<XDF name='Deep'><Instance id='a'><Class name='A'/><Parameter name='k'>"
+            for ((k = 0; k < 20000; k++)); do printf "<Expr kind='List'>"; done
+            for ((k = 0; k < 20000; k++)); do printf '</Expr>'; done
+            printf '</Parameter></Instance></XDF>'
+        } >Deep.xdf
+        answers "$stack" check Deep.xdf
+    fi
+    if begin "a row of 10,000 operands, $((stack / 1024)) MB of stack"; then
+        {
+            printf "<XDF name='Deep'><Instance id='a'><Class name='A'/><Parameter name='k'><Expr kind='BinOpSeq'><Expr kind='Var' name='v'/>"
+            for ((k = 0; k < 10000; k++)); do printf "<Op name='+'/><Expr kind='Var' name='v'/>"; done
+            printf '</Expr></Parameter></Instance></XDF>'
+        } >Deep.xdf
+        answers "$stack" check Deep.xdf
+    fi
     if begin "a row of 1,000 instances and 64 workers, $((stack / 1024)) MB of stack"; then
         answers "$stack" gen 1000 --trace trace --workers 64 --budget 100000
     fi
 done
+
+# --- Time ---
+
+# More firings than 32 bits count take some minutes: tried if RVC_LONG is 1.
+if [[ ${RVC_LONG-} == 1 ]] && begin 'a run of 4,294,967,297 firings'; then
+    printf 'actor Ever() ==> : action ==> end end' >Ever.cal
+    patience=7200
+    run run Ever.cal --trace /dev/null --budget 4294967297 --burst 65536
+    due 7 'budget 4294967297' 'grep -q "^firings 4294967297$" report'
+fi
 
 # --- Signals ---
 
