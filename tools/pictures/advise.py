@@ -41,6 +41,9 @@ def refusal_help(line, words):
     if path != "words":
         with open(path, "rb") as file:
             text = file.read(1 << 20).decode("latin-1")
+    if rule == "P1":
+        from pictures.end_help import port_help
+        return port_help(words, offset)
     if rule == "G1":
         return grammar_help(text, offset)
     return lexis_help(rule, text, offset) if rule[0] == "L" else rule_help(rule, path, text, offset, words)

@@ -28,9 +28,9 @@ class Told:
 
 
 class Command:
-    """The words of a command, with its network where it can be read."""
+    """The words of a command, with its network if that is asked for and can be read."""
 
-    def __init__(self, words):
+    def __init__(self, words, reads=True):
         self.plain, self.options, self.twice = [], {}, ""
         words = list(words)
         while words:
@@ -45,12 +45,12 @@ class Command:
         self.trace = self.options.get("--trace", "")
         self.network, self.instances = None, []
         try:
-            if self.top.endswith((".cal", ".xdf")):
+            if reads and self.top.endswith((".cal", ".xdf")):
                 self.network = read_network(self.top)
                 self.instances = [(leaf.path, leaf.of_class) for leaf in self.network.leaves]
         except (ReadError, RecursionError, LookupError, ValueError, TypeError, AttributeError):
             self.network = None
-        if not self.network:
+        if reads and not self.network:
             self.read_names()
 
     def read_names(self):
@@ -245,6 +245,7 @@ def usage(command, cause):
 
 
 def near(word, known):
+    """A known word that is written almost alike, or all of them."""
     found = difflib.get_close_matches(word, known, 1, 0.5)
     return f": is `{found[0]}` meant?" if found else f"; there are {listed(known)}"
 
@@ -306,6 +307,24 @@ def lacking_trace(command):
     return f"add `--trace FILE`, the file that `{command.verb}` {'reads' if command.verb == 'replay' else 'writes the trace to'}"
 
 
+def port_help(words, number):
+    """P1: the ports that the command opens."""
+    command = Command(words)
+    port_words = [word for word in command.plain[2:] if "=" in word]
+    name = port_words[number].partition("=")[0] if number < len(port_words) else ""
+    if command.verb in ("check", "certify", "fmt"):
+        return f"`{command.verb}` opens no port: leave the word out"
+    if command.verb == "gen":
+        return "the network of `gen` has the output `Out` alone"
+    if not command.network or not name:
+        return ""
+    inputs, outputs = ([port.name for port in ports] for ports in (command.network.top.inputs, command.network.top.outputs))
+    if command.verb == "replay" and name in outputs:
+        return f"`replay` opens inputs alone: leave `{port_words[number]}` out"
+    known = inputs if command.verb == "replay" else inputs + outputs
+    return f"there is no port `{name}`" + (near(name, known) if known else "")
+
+
 ENDS = {"uncertified": (uncertified, 5), "trapped": (trapped, 3), "stalled": (stalled, 3), "usage": (usage, 1)}
 
 
@@ -316,4 +335,4 @@ def end_help(line, words):
         return no_run(Command(words), int(parts[3]), parts[4])
     tell, count = ENDS[parts[0]]
     arguments = [int(part) if part.isdigit() else part for part in parts[1:]]
-    return tell(Command(words), *arguments) if len(arguments) == count else None
+    return tell(Command(words, tell is not usage), *arguments) if len(arguments) == count else None

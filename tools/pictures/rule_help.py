@@ -247,9 +247,10 @@ def folder_help(path):
             return f"{name}: call `rvc` {upwards(count)}"
     # A file of this name is elsewhere.
     found = [each for each in find_files({os.path.basename(each) for each in wanted}) if each not in wanted]
-    if found:
-        return f"{name}; there is `{found[0]}`, whose class is `{stem(found[0]).replace('/', '.')}`"
-    return name
+    if not found:
+        return name
+    is_top = path.endswith((".cal", ".xdf"))
+    return f"{name}; there is `{found[0]}`" + ("" if is_top else f", whose class is `{stem(found[0]).replace('/', '.')}`")
 
 
 def upwards(count):
@@ -274,9 +275,9 @@ def top_help(words):
     top = next((word for word in words[1:2]), "")
     if os.path.isabs(top) or ".." in top.split("/"):
         return "name the top by a path below the current folder"
-    found = folder_help(top)
     other = stem(top) + (".xdf" if top.endswith(".cal") else ".cal")
-    return f"{found}; there is `{other}`" if os.path.isfile(other) else found
+    found = folder_help(top)
+    return f"{found}; there is `{other}`" if os.path.isfile(other) and f"`{other}`" not in found else found
 
 
 def class_help(path, text, offset):
@@ -390,6 +391,8 @@ IN_NETWORKS = {"F3": attribute_help, "N5": connection_help}
 
 def rule_help(rule, path, text, offset, words):
     """Help on a rule, or nothing."""
+    if rule == "N2" and path == "words":
+        return "the top is given no values: give each of its parameters a default, as `int p = 1`, or name a network that gives them"
     if rule == "N1":
         return top_help(words) if path == "words" else class_help(path, text, offset)
     if path == "words":
