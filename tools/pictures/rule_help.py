@@ -151,13 +151,13 @@ def wrong_use(here):
 def assigned_constant(here):
     meaning, name = here.meaning(), here.name
     if meaning.kind == "token":
-        return f"`{name}` is a token, and keeps its value: declare a variable in front of `do`, as `var int y := {name}`, and change that"
+        return f"`{name}` is a token, and keeps its value: declare a variable behind `var`, with `:= {name}` as its start, and change that"
     if meaning.kind == "parameter":
-        return f"`{name}` is a parameter, and keeps its value: declare a variable, as `int y := {name};`, and change that"
+        return f"`{name}` is a parameter, and keeps its value: declare a variable with `:= {name}` as its start, and change that"
     if meaning.kind == "turn":
         return f"`{name}` is the variable of a `foreach`, which counts by itself: use a `while`, or a variable of your own"
     if meaning.kind == "import":
-        return f"`{name}` is imported, and so a constant: declare a variable, as `int y := {name};`, and change that"
+        return f"`{name}` is imported, and so a constant: declare a variable with `:= {name}` as its start, and change that"
     if meaning.offset >= 0:
         return f"declare `{name}` with `:=` (line {here.line_of(meaning.offset)}), so that it changes"
     return None
