@@ -16,7 +16,6 @@ sys.dont_write_bytecode = True
 sys.path.insert(0, os.path.dirname(os.path.dirname(os.path.realpath(__file__))))
 
 MOST_MEMORY = 1 << 30
-MOST_SECONDS = 5
 
 
 def advise(line, words):
@@ -56,7 +55,6 @@ def printable(text):
 
 def main():
     resource.setrlimit(resource.RLIMIT_AS, (MOST_MEMORY, MOST_MEMORY))
-    resource.setrlimit(resource.RLIMIT_CPU, (MOST_SECONDS, MOST_SECONDS))
     # An explanation never fails: what can't be found out isn't told.
     try:
         found = [printable(line) for line in advise(sys.argv[1], sys.argv[2:])]

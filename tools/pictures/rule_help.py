@@ -26,7 +26,9 @@ ATTRIBUTES = {
 
 def nearest(name, names):
     """A known name that is written almost alike."""
-    found = difflib.get_close_matches(name, [each for each in names if each != name], 1, 0.75)
+    names = [each for each in names if each != name]
+    same = [each for each in names if each.lower() == name.lower()]
+    found = same or difflib.get_close_matches(name, names, 1, 0.65)
     return found[0] if found else ""
 
 
@@ -55,6 +57,10 @@ class Here:
     def line_of(self, offset):
         return self.text.count("\n", 0, offset) + 1
 
+    def first_member(self):
+        """The token behind those of package and imports."""
+        return next((k for k, (word, _) in enumerate(self.reader.tokens) if word in ("actor", "unit")), 0)
+
     def begins_statement(self):
         return self.word(-1) in (";", "do", "then", "else", "begin") or self.word(-1) in ENDS
 
@@ -72,9 +78,12 @@ def unknown_name(here):
     meaning = here.meaning()
     if here.word(-1) == "=" and here.word(-2) == "type":
         return f"the type of items stands behind a `:`, as in `List(type:{here.name}, size=4)`"
-    if here.names_a_port() and meaning.kind in ("input", "output"):
-        side = "inputs stand in front of `==>`, and outputs" if meaning.kind == "input" else "outputs stand behind `==>`, and inputs"
-        return f"`{here.name}` is an {meaning.kind}: {side} {'behind it' if meaning.kind == 'input' else 'in front of it'}"
+    if here.at < here.first_member() and here.word(-1) == ".":
+        return f"the unit declares no `{here.name}`"
+    if meaning.kind == "token" and not here.names_a_port():
+        return f"the token `{here.name}` isn't known here: how many there are is a constant"
+    if meaning.kind in ("local", "turn") and meaning.offset > here.offset:
+        return f"`{here.name}` is declared behind this: put its declaration in front"
     if meaning.kind == "output":
         return f"an output is no variable: what is sent stands in the head of the action, as `{here.name}:[..]`"
     if meaning.kind == "input":
@@ -135,11 +144,14 @@ def wrong_use(here):
         return f"`{name}` is a function, and isn't assigned: its value is the expression behind its `:`"
     if kind == "function":
         return f"`{name}` is a function: call it with arguments in parentheses, `{name}(..)`"
+    if kind in ("input", "output") and here.names_a_port():
+        side = "in front of" if kind == "input" else "behind"
+        return f"`{name}` is an {kind}: {kind}s stand {side} `==>`"
+    if kind == "import" and here.begins_statement() and here.is_called():
+        return f"`{name}` is imported, and what is imported is no procedure: use its value, or declare a procedure in the actor"
     if kind == "import":
         used = "an imported constant isn't called" if here.is_called() else "an imported function is called with its arguments"
-        if here.begins_statement() and here.is_called():
-            used = "what is imported is no procedure, so it is no statement"
-        return f"{used}: `{name}` is imported, so look into its unit"
+        return f"`{name}` is imported: {used}"
     if kind and here.is_called():
         what = {"token": "a token", "input": "an input", "output": "an output"}.get(kind, "a variable")
         return f"`{name}` is {what} and isn't called: items of lists stand in brackets, `{name}[..]`"
@@ -175,6 +187,10 @@ def not_constant(here):
             continue
         meaning = here.reader.meaning(word, offset)
         inside = here.reader.member_at(offset)
+        if not inside:
+            return f"`{word}` isn't known in the head of the actor: parameters and imported constants are"
+        if meaning.kind == "function":
+            word, meaning = used_behind(here, word, inside) or (word, meaning)
         if meaning.kind == "variable" and meaning.offset >= inside.offset and inside.kind == "variable":
             line = here.line_of(meaning.offset)
             return f"`{word}` is declared in line {line}: put its declaration in front of this one"
@@ -182,6 +198,17 @@ def not_constant(here):
             return f"`{word}` changes: declare it with `=`, as a constant, or write a number"
         if meaning.kind in ("token", "formal", "local", "turn"):
             return f"`{word}` is known only when the actor runs: write a number or a constant, as large as it may come to be"
+    return None
+
+
+def used_behind(here, function, inside):
+    """A variable that a function uses and that is declared behind a place, with its meaning."""
+    found = next((each for each in here.reader.members if each.kind == "function" and each.name == function), None)
+    for at in range(found.first, found.last) if found else ():
+        word, offset = here.reader.tokens[at]
+        meaning = here.reader.meaning(word, offset) if NAME.fullmatch(word) and word not in RESERVED else None
+        if meaning and meaning.kind == "variable" and meaning.offset >= inside.offset:
+            return word, meaning
     return None
 
 
@@ -216,11 +243,13 @@ def type_arguments(here):
 def unknown_tag(here):
     """A3: the action's tag that is nearest."""
     tags = [tag for member in here.reader.actions() if member.name for tag in prefixes(member.name)]
-    found = nearest(here.name, tags)
+    tag = re.compile(r"[A-Za-z0-9_.]+").match(here.text, here.offset).group()
+    found = nearest(tag, tags)
     if found:
         return f"is `{found}` meant?"
-    return f"no action is tagged `{here.name}`; tags are {listed(list(dict.fromkeys(tags))[:8])}" if tags else \
-        f"no action has a tag: write `{here.name}:` in front of the action"
+    if not tags:
+        return f"no action has a tag: write `{tag}:` in front of the action"
+    return f"no action is tagged `{tag}`; tags are {listed(list(dict.fromkeys(tags))[:8])}"
 
 
 def prefixes(tag):
@@ -374,15 +403,45 @@ def attribute_help(text, offset):
 
 
 def connection_help(text, offset):
-    """N5: the instance that isn't there, or a name that is almost alike."""
+    """N5: the instance that isn't there, or the port that it hasn't."""
     found = attributes(text, offset)
-    instances = [attributes(text, match.start()).get("id", "") for match in re.finditer(r"<Instance\b", text)]
-    for side in ("src", "dst"):
-        name = found.get(side, "")
-        if name and name not in instances:
-            near = nearest(name, instances)
-            return f"there is no instance `{name}`" + (f": is `{near}` meant?" if near else f"; there are {listed(instances[:12])}")
+    classes = {}
+    for match in re.finditer(r"<Instance\b[^>]*>\s*<Class\b", text):
+        classes[attributes(text, match.start()).get("id", "")] = attributes(text, match.end() - 6).get("name", "")
+    for side, direction in (("src", "output"), ("dst", "input")):
+        name, port = found.get(side, ""), found.get(side + "-port", "")
+        if name and name not in classes:
+            near = nearest(name, classes)
+            return f"there is no instance `{name}`" + (f": is `{near}` meant?" if near else f"; there are {listed(list(classes)[:12])}")
+        ports = ports_in(text, "Output" if direction == "input" else "Input") if not name else ports_of_class(classes[name], direction)
+        if ports and port not in ports:
+            near = nearest(port, ports)
+            whose = f"`{name}` has no {direction}" if name else f"the network has no {'output' if direction == 'input' else 'input'}"
+            return f"{whose} `{port}`: " + (f"is `{near}` meant?" if near else f"it has {listed(ports[:12])}")
     return None
+
+
+def ports_in(text, kind):
+    """The ports of a network, in its text."""
+    found = [attributes(text, match.start()) for match in re.finditer(r"<Port\b", text)]
+    return [each.get("name", "") for each in found if each.get("kind") == kind]
+
+
+def ports_of_class(of_class, direction):
+    """The ports of a class, if its file can be read."""
+    stem_of_class = of_class.replace(".", "/")
+    for end in (".xdf", ".cal"):
+        if os.path.isfile(stem_of_class + end):
+            with open(stem_of_class + end, "rb") as file:
+                text = file.read(1 << 20).decode("latin-1")
+            if end == ".xdf":
+                return ports_in(text, direction.capitalize())
+            try:
+                reader = PlacedReader(stem_of_class + end, text)
+            except ReadError:
+                return []
+            return [each.name for each in (reader.found.inputs if direction == "input" else reader.found.outputs)]
+    return []
 
 
 IN_ACTORS = {"S1": unknown_name, "T2": type_arguments, "T4": assigned_constant, "T9": not_constant, "A3": unknown_tag}

@@ -203,7 +203,7 @@ class PlacedReader(CalReader):
         for kind, names in (("parameter", self.found.parameters), ("input", self.found.inputs), ("output", self.found.outputs)):
             if any(each.name == name for each in names):
                 return Meaning(kind)
-        if any(each == name for _, each in self.found.imports):
+        if any(each in (name, "*") for _, each in self.found.imports):
             return Meaning("import")
         return Meaning("")
 
