@@ -4,7 +4,6 @@ from pictures.source_text import ENDS, NAME, RESERVED, Source
 
 TYPES = {"int", "uint", "bool", "List", "float", "half", "String"}
 OPERATORS = set("or || and && | ^ & = != < <= > >= << >> + - * / div mod not ~".split())
-BODIES = ("action", "initialize", "procedure")
 HEADS = ("action", "initialize")
 
 FOREIGN = {
@@ -99,6 +98,8 @@ def grammar_help(text, offset):
 
 
 def whole_file(p):
+    if not p.stack and p.before == "end" and p.word in ("actor", "unit"):
+        return f"the long end is one word: `end{p.word}`"
     if not p.stack and p.at and p.before in ENDS:
         return "the actor or unit has ended in front of this: an `end` stands too early, or too often"
     if not p.stack and p.word in ("actor", "unit", "import", "package") and (is_operand_end(p.before) or p.before == "*"):
@@ -241,8 +242,6 @@ def file_parts(p):
         return "imports stand in front of `actor` or `unit`"
     if p.in_body() and p.word == "schedule" and p.after == "fsm":
         return "an actor has one schedule: put all transitions into it"
-    if p.before == "end" and p.word in ("actor", "unit"):
-        return f"the long end is one word: `end{p.word}`"
     if p.word == ";" and (p.before in ENDS or p.second == "end" and "end" + p.before in ENDS):
         return "no `;` stands behind an `end`"
     if p.word == ";" and p.before in (";", "do", "then", "else", "begin", ":"):

@@ -1,7 +1,7 @@
 """A source that may break rules, as explanations read it: its tokens, what is open at one of them, and what its names are."""
 
 import re
-from dataclasses import dataclass, field
+from dataclasses import dataclass
 
 from pictures.cal_text import TOKEN, CalReader, ReadError, place_of
 
