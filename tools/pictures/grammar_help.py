@@ -38,11 +38,15 @@ def lexis_help(rule, text, offset):
             return "save the file without a mark of its encoding (BOM) at the start"
         if here > "\x7f":
             return "outside of comments a file has ASCII alone: write the character anew, or remove it"
+        if here == "{" and text[:offset].rstrip().endswith(("=", ",", "{")):
+            return "the items of a list stand in brackets, as `[1, 2, 3]`"
         return FOREIGN.get(here)
     if rule == "L4":
         if rest[:2] in ("0b", "0B"):
             return "there are no binary numbers: write a decimal number, or a hexadecimal one as `0x1F`"
-        digits = rest.lstrip("0123456789")
+        digits = rest.lstrip("0123456789") if rest[:2] not in ("0x", "0X") else rest[2:].lstrip("0123456789abcdefABCDEF")
+        if digits[:1].isalpha():
+            return "leave the letters behind the number out: its type is that of the variable"
         if digits[:1] == "_":
             return "leave the `_` out of the number"
         if digits[:1] == ".":
@@ -175,9 +179,11 @@ def joined_signs(p):
     if not p.is_joined():
         return None
     pair = p.before + p.word
+    if pair == "==" and p.in_body():
+        return "the value of a constant stands behind one `=`, that of a variable behind `:=`"
     if pair == "==":
         return "equality is `=`"
-    if pair == "<>":
+    if pair in ("<>", "/="):
         return "inequality is `!=`"
     if pair == "**":
         return "there is no power: multiply, or write `1 << n`"
@@ -242,6 +248,8 @@ def file_parts(p):
         return "imports stand in front of `actor` or `unit`"
     if p.in_body() and p.word == "schedule" and p.after == "fsm":
         return "an actor has one schedule: put all transitions into it"
+    if p.second == "end" and "end" + p.before in ENDS and p.word in ENDS:
+        return f"the long end is one word: `end{p.before}`"
     if p.word == ";" and (p.before in ENDS or p.second == "end" and "end" + p.before in ENDS):
         return "no `;` stands behind an `end`"
     if p.word == ";" and p.before in (";", "do", "then", "else", "begin", ":"):
@@ -277,8 +285,14 @@ def types(p):
     if p.before == "[" and p.second == "List":
         return LIST_TYPE
     in_type = p.top and p.top.word == "(" and p.source.word(p.top.token - 1) in TYPES
+    if in_type and p.second == "=" and is_name(p.word):
+        return "the `)` of the type is missing in front of this"
     if in_type and p.source.word(p.top.token - 1) == "List":
         return LIST_TYPE
+    if p.before == "size" and p.second in TYPES:
+        return f"the size of a type is written `{p.second}(size=8)`"
+    if p.word in ("==>", ",", ")") and (p.before in TYPES and p.is_in("actor", "function", "procedure") or p.before == ")" and ends_type(p)):
+        return "a name is missing behind the type"
     if in_type and (p.before == "(" or p.before == ":"):
         return f"the size of a type is written `{p.source.word(p.top.token - 1)}(size=8)`"
     if p.word == "<" and p.before in ("int", "uint"):
@@ -324,6 +338,16 @@ def declarations(p):
         return "a schedule begins with `schedule fsm NAME :`"
     if p.in_body() and p.word == "," and is_operand_end(p.before):
         return "declare each variable by itself, with its type and a `;`"
+    if p.in_body() and p.word == "(" and is_name(p.before) and is_name(p.second):
+        return f"a function is declared as `function {p.before}(int x) --> int : x end`"
+    if p.in_body() and p.word in ("action", "initialize") and is_name(p.before) and (p.second in (";", ":") or p.second in ENDS):
+        return f"a `:` is missing behind the tag `{p.before}`"
+    if p.in_body() and p.word == ":" and is_name(p.before) and is_name(p.second):
+        return "the value of a constant stands behind `=`, that of a variable behind `:=`"
+    if p.in_body() and p.before == ":" and is_name(p.second) and (p.word in TYPES or p.after in (";", ":=", "=")):
+        return f"a variable is declared with its type in front of its name, as `int {p.second} := 1;`"
+    if p.in_body() and p.before == ":" and is_name(p.second) and is_name(p.word):
+        return "behind a tag and its `:` stands `action`"
     if p.in_body() and p.before == "return":
         return "there is no `return`: an action sends in its head, and the value of a function is its expression"
     if p.in_body() and p.word in (":=", "(", "[") and is_name(p.before) and (p.second in (";", ":") or p.second in ENDS):
@@ -346,6 +370,10 @@ def statements(p):
         return "there is no `case`: write `if .. then .. elsif .. end`"
     if p.begins_statement(1) and p.before in ("let", "int", "uint", "bool", "List") or p.begins_statement(2) and is_name(p.word):
         return "variables of an action are declared in front of `do`, behind `var` and without `;`"
+    if p.begins_statement(1) and is_name(p.before) and (is_name(p.word) or p.word[:1].isdigit()):
+        return "a statement assigns, as `x := ..;`, or calls a procedure, as `p(..);`"
+    if p.word in ("+", "-", "<<", ">>", "*", "&", "|", "^") and p.before == "]" and p.after in ("=", "+", "-"):
+        return f"there is no such assignment: write `x[i] := x[i] {p.word} 1;`"
     if p.word == "for":
         return "write `foreach int k in 0 .. 3 do .. end`"
     if p.begins_statement(1) and p.word in ("=", "<="):
@@ -389,6 +417,10 @@ def controls(p):
         return "bounds are written `0 .. 3`, the lower one first"
     if p.is_in("foreach") and p.frame.part == "head" and (p.word == "(" or p.before == "("):
         return "write `foreach int k in 0 .. 3 do .. end`"
+    if p.is_in("foreach") and p.frame.part == "head" and (p.word == "do" or p.before == ".."):
+        return "bounds are written `0 .. 3`, the lower one first"
+    if p.word == ":=" and (p.is_in("if", "while") and p.frame.part in ("if", "head") or p.is_in(*HEADS) and p.frame.part == "guard"):
+        return "equality is `=`"
     if not is_operand_end(p.before) or p.word in ELSEWHERE:
         return None
     if p.is_in("if") and p.frame.part == "if" and p.top is p.frame:
@@ -406,6 +438,24 @@ def heads(p):
         return None
     if p.frame.part == "inputs" and p.word in ("guard", "var", "do"):
         return f"`{p.word}` stands behind `==>` and the outputs"
+    if p.before == "initialize" and p.word != "==>":
+        return "an `initialize` takes no tokens: `==>` follows it"
+    is_tagged = p.second == "action" or p.before == ":" and p.third == "action"
+    if p.frame.part == "inputs" and is_name(p.word) and p.after == ":" and is_tagged:
+        tag = p.before if p.before != ":" else p.second
+        return f"a tag stands in front of `action`, as in `{tag}: action {p.word}:[..] ==> .. end`"
+    if p.frame.part == "inputs" and p.top.word == "[" and p.before in TYPES | {")"}:
+        return "tokens are named without a type: it is that of the port"
+    if p.frame.part == "inputs" and p.top.word == "[" and p.word == "|":
+        return "how many tokens are taken is fixed: name each, or write `repeat`"
+    if p.frame.part == "inputs" and p.top.word == "[" and p.word not in ("]", ",", ";"):
+        return "here stand names alone: what is asked of their values stands behind `guard`"
+    if p.frame.part == "inputs" and p.word in ENDS:
+        return "`==>` is missing, which stands there also if nothing is sent"
+    if p.frame.part in ("inputs", "outputs") and p.before == "]" and is_name(p.word) and p.after in (":", "["):
+        return "a `,` is missing in front of this"
+    if p.frame.part in ("inputs", "outputs") and p.word == "(" and is_name(p.before) and p.top is p.frame:
+        return f"write `{p.before}:[..]`, with a `:` and brackets"
     if p.word == ";" and p.frame.part == "var":
         return "variables behind `var` have a `,` between them, and no `;`"
     if p.word == ";" and p.frame.part == "guard":
@@ -433,6 +483,10 @@ def heads(p):
 
 def functions(p):
     if p.is_in("function"):
+        if p.second == "function" and p.before in TYPES:
+            return f"the type of a function stands behind its formals: `function {p.word}(int x) --> {p.before} : x end`"
+        if p.frame.part == "head" and p.word in (",", ")") and is_name(p.before) and p.second in ("(", ","):
+            return f"a formal has a type, as in `int {p.before}`"
         if p.frame.part == "head" and p.before == ")" and p.top is p.frame:
             return "a function has a type: `function f(int x) --> int : x end`"
         if p.frame.part in ("type", "var") and is_operand_end(p.before) and p.top is p.frame:
@@ -441,12 +495,20 @@ def functions(p):
         return "the value of a function is one expression, and `end` follows it"
     if p.is_in("function") and p.frame.part == "body" and p.top is p.frame and p.before in ENDS:
         return f"an `end` is missing: {p.source.name_of_opened(p.frame)} is open"
+    if p.is_in("procedure") and p.frame.part == "head" and p.word == "-->":
+        return "a procedure has no type and gives no value: write a function"
     if p.is_in("procedure") and p.frame.part != "do" and p.top is p.frame and p.word in (":", "do"):
         return "the statements of a procedure stand between `begin` and `end`"
     return None
 
 
 def schedules(p):
+    if p.is_in("schedule") and p.second == "fsm":
+        return "a schedule begins with `schedule fsm NAME :`"
+    if p.is_in("schedule") and p.second == "-->" and p.word == ",":
+        return "each transition ends with a `;`"
+    if p.is_in("schedule") and (p.word == "-->" and p.before != ")" or p.word == "(" and p.before in (":", ";")):
+        return "a transition is written `state (tag) --> state;`"
     if p.is_in("schedule") and is_name(p.before) and p.word not in ("-->", ";", ")", ",", ".", ":"):
         return "a transition is written `state (tag) --> state;`"
     if p.is_in("priority") and p.word in (",", ">>", "<", ">="):
@@ -462,6 +524,16 @@ def words_elsewhere(p):
         return ELSEWHERE[p.word]
     if p.before == "old" and is_name(p.word):
         return "leave `old` out"
+    if p.before == "native" and p.word in ("function", "procedure"):
+        return "there are no native functions and procedures: write it in this language"
+    if p.before in ("and", "or") and p.word in ("then", "else"):
+        return f"write `{p.before}` alone: its right side is evaluated only if the left one doesn't decide"
+    if p.word == ";" and p.before in ("break", "continue", "return", "exit"):
+        return f"there is no `{p.before}`: let the condition of an `if` or a `while` decide"
+    if p.before == ")" and p.second in TYPES and p.third == "(" and is_name(p.word):
+        return "numbers aren't cast: what is stored keeps the lowest bits of its type"
+    if p.word == "." and is_operand_end(p.before) and not p.in_body():
+        return "there are no parts of values and no methods; tokens come and go in the head of the action"
     if p.before == "let":
         return "there is no `let`: declare a variable behind `var`, in front of `do`"
     if p.second == "lambda" and p.top and p.source.word(p.top.token - 1) == "lambda" or p.third == "lambda":

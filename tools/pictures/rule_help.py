@@ -88,6 +88,8 @@ def unknown_name(here):
         return f"an output is no variable: what is sent stands in the head of the action, as `{here.name}:[..]`"
     if meaning.kind == "input":
         return f"an input is no variable: an action takes tokens in its head, as `{here.name}:[x]`, and calls them by these names"
+    if here.is_called() and here.name in ("int", "uint", "bool"):
+        return "numbers aren't cast: what is stored keeps the lowest bits of its type"
     if here.is_called() and here.name in OPERATOR_CALLS:
         return f"there is no such function: write the operator `{OPERATOR_CALLS[here.name]}`"
     if here.is_called() and here.name in PRINTING:

@@ -1,9 +1,10 @@
 """A source that may break rules, as explanations read it: its tokens, what is open at one of them, and what its names are."""
 
 import re
+from bisect import bisect_right
 from dataclasses import dataclass
 
-from pictures.cal_text import TOKEN, CalReader, ReadError, place_of
+from pictures.cal_text import TOKEN, CalReader, ReadError
 
 RESERVED = set("""actor unit package import action initialize function procedure guard var do begin end if then elsif else
     while foreach for in repeat schedule fsm priority true false not and or div mod endactor endunit endaction endinitialize
@@ -12,6 +13,7 @@ RESERVED = set("""actor unit package import action initialize function procedure
 ENDS = {word for word in RESERVED if word.startswith("end")}
 
 NAME = re.compile(r"[A-Za-z_][A-Za-z0-9_]*")
+MOST_WORDS = 3000
 
 
 @dataclass
@@ -30,6 +32,8 @@ class Source:
 
     def __init__(self, text):
         self.text = text
+        # Where each line begins.
+        self.lines = [0] + [match.end() for match in re.finditer("\n", text)]
         self.tokens = []
         offset = 0
         while offset < len(text):
@@ -40,10 +44,12 @@ class Source:
             offset = end
 
     def line(self, offset):
-        return place_of(self.text, offset)[0]
+        """The number of a line, from 1."""
+        return bisect_right(self.lines, offset)
 
     def column(self, offset):
-        return place_of(self.text, offset)[1]
+        """The number of a column, from 1."""
+        return offset - self.lines[self.line(offset) - 1] + 1
 
     def token_at(self, offset):
         """The number of the first token from an offset on."""
@@ -226,14 +232,14 @@ class PlacedReader(CalReader):
         return found
 
     def known_names(self, offset):
-        """All names that are known somewhere in the file."""
+        """All names that are known somewhere in the file, and those within the part at an offset, if it isn't too long."""
         names = [member.name for member in self.members if member.name and "." not in member.name]
         for declared in (self.found.parameters, self.found.inputs, self.found.outputs):
             names += [each.name for each in declared]
         names += [name for _, name in self.found.imports if name != "*"]
         member = self.member_at(offset)
-        if member:
-            words = [word for word, _ in self.tokens[member.first:member.last]]
+        if member and member.last - member.first < MOST_WORDS:
+            words = dict.fromkeys(word for word, _ in self.tokens[member.first:member.last])
             names += [word for word in words if NAME.fullmatch(word) and word not in RESERVED
                       and self.inner_meaning(member, word, offset)]
         return list(dict.fromkeys(names))
