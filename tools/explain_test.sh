@@ -521,7 +521,9 @@ folders() {
     cp Sum.cal tiny/Sum.cal
     rm Sum.cal
 
-    decoder 's/class/class/; s/"tiny\.Expand"/"Expand"/' N1 "write the class with its package, \`tiny.Expand\`: $below"
+    cp -r "$top/examples/stall" stall
+    helped N1 "$below: call \`rvc\` in the folder \`stall\`, with \`Pair.xdf\`" stall/Pair.xdf
+    decoder 's/"tiny\.Expand"/"Expand"/' N1 "write the class with its package, \`tiny.Expand\`: $below"
     decoder 's/"tiny\.Expand"/"tiny.Expond"/' N1 "$below, and there is no \`tiny/Expond.cal\` or \`tiny/Expond.xdf\`"
     decoder 's/name="Decoder"/name="Tiny"/' S5 'the attribute `name` in line 3 is `Tiny`, and the file'"'"'s name asks for `Decoder`: make them equal'
     decoder 's/name="Decoder"/name="tiny.Decoder"/' F3 'the `name` is that of the network alone: leave the package out, `Decoder`'

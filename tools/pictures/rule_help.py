@@ -5,7 +5,7 @@ import os
 import re
 
 from pictures.cal_text import ReadError
-from pictures.source_text import ENDS, NAME, RESERVED, PlacedReader
+from pictures.source_text import ENDS, NAME, RESERVED, PlacedReader, Source
 
 TYPES = "types are `bool`, `int(size=8)`, `uint(size=8)` and `List(type:int, size=4)`"
 
@@ -16,6 +16,7 @@ TYPE_WORDS = {"integer", "natural", "boolean", "char", "byte", "short", "long", 
               "logic", "std_logic", "std_logic_vector", "Int", "Bool", "list", "array", "void", "uint8_t", "int8_t", "uint16_t",
               "int16_t", "uint32_t", "int32_t", "uint64_t", "int64_t"}
 MOST_FILES = 4000
+MOST_BYTES = 1 << 20
 
 ATTRIBUTES = {
     "XDF": ("name",), "Port": ("kind", "name"), "Instance": ("id",), "Class": ("name",), "Parameter": ("name",),
@@ -316,12 +317,21 @@ def class_help(path, text, offset):
     named = attributes(text, offset).get("name", "")
     if not named:
         return None
-    found = folder_help(named.replace(".", "/"))
-    package = os.path.dirname(path).replace("/", ".")
-    beside = f"{package}.{named}".strip(".")
-    if "." not in named and package and any(os.path.isfile(beside.replace(".", "/") + end) for end in (".cal", ".xdf")):
-        return f"write the class with its package, `{beside}`: classes are looked for below the current folder"
-    return found
+    folder = os.path.dirname(path)
+    beside = os.path.join(folder, named.replace(".", "/"))
+    if folder and os.path.isfile(beside + ".cal") and package_of(beside + ".cal") == ".".join(named.split(".")[:-1]):
+        return f"classes are looked for below the current folder: call `rvc` in the folder `{folder}`, with `{os.path.basename(path)}`"
+    if folder and any(os.path.isfile(beside + end) for end in (".cal", ".xdf")):
+        return f"write the class with its package, `{beside.replace('/', '.')}`: classes are looked for below the current folder"
+    return folder_help(named.replace(".", "/"))
+
+
+def package_of(path):
+    """The package that a file declares, or nothing."""
+    with open(path, "rb") as file:
+        source = Source(file.read(MOST_BYTES).decode("latin-1"))
+    words = [word for word, _ in source.tokens]
+    return "".join(words[1:words.index(";")]) if words[:1] == ["package"] and ";" in words else ""
 
 
 def import_help(path, text, offset):
@@ -435,7 +445,7 @@ def ports_of_class(of_class, direction):
     for end in (".xdf", ".cal"):
         if os.path.isfile(stem_of_class + end):
             with open(stem_of_class + end, "rb") as file:
-                text = file.read(1 << 20).decode("latin-1")
+                text = file.read(MOST_BYTES).decode("latin-1")
             if end == ".xdf":
                 return ports_in(text, direction.capitalize())
             try:
