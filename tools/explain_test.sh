@@ -332,6 +332,7 @@ other_languages() {
     in_action G1 'write `foreach int k in 0 .. 3 do .. end`' 'do for (int k = 0; k < 3; k++) y := k;'
     in_action G1 'the variable has a type, as in `foreach int k in 0 .. 3`' 'do foreach k in 0 .. 3 do y := k; end'
     in_action G1 'bounds are written `0 .. 3`, the lower one first' 'do foreach int k in 0 to 3 do y := k; end'
+    in_action G1 'write `in` behind `k`' 'do foreach int k = 0 .. 3 do y := k; end'
     in_action G1 'write `do` behind the bounds' 'do foreach int k in 0 .. 3 y := k; end'
     in_action G1 'write `do` behind the condition' 'do while (x > 1) y := 1; end'
     in_action G1 'write `then` behind the condition' 'do if (x > 1) y := 1; end'
@@ -399,6 +400,10 @@ grammar() {
     in_action G1 'the `(` of line 1 isn'"'"'t closed' 'do y := (x + 1;'
     in_action G1 'no parenthesis or bracket is open that this `)` could close' 'do y := x + 1);'
     in_action G1 'an expression is missing behind `+`' 'do y := x + ;'
+    in_action G1 'an index is missing' 'do y := l[];'
+    in_action G1 '`then` stands here twice' 'do if x > 1 then then y := 1; end'
+    within G1 '`repeat` needs a constant number behind it' 'action In:[x] repeat ==> end'
+    within G1 'something is missing behind the `,`' 'action In:[x], ==> end'
     in_action G1 '`guard` and then `var` stand in front of `do`' 'do y := 1; var int z'
     in_action G1 'the outputs stand in front of `guard` and `var`' 'guard x = 1 Out:[x]'
     in_action G1 'what goes through a port stands in brackets: `Out:[..]`' 'Out:x'
@@ -606,6 +611,20 @@ help: $decide" certify tiny/Decoder.xdf
         certify tiny/Decoder.xdf
     RVC_EXPLAIN=0 ends 10 'uncertified 1 1 1 2 C2' '' certify tiny/Decoder.xdf
     cp good/Expand.cal tiny
+
+    sed -i 's/other: action Bytes:\[letter, n\]/other: action Bytes:[letter]/' tiny/ReadHead.cal
+    ends 10 'uncertified 0 0 0 1 C1' 'error C1: of two actions that may fire in one state, the higher needs more tokens on some port
+  --> tiny/ReadHead.cal:9:3
+  |
+9 |   head: action Bytes:[letter, n] ==>
+  |   ^
+note: instance 0 is `head` (tiny.ReadHead)
+note: state 0 is `start`
+note: action 0 is `head`, in line 9
+note: action 1 is `other`, in line 15
+note: from `Bytes` action 0 takes 2, and action 1 takes 1
+help: let both take as many tokens, or let a variable or a state of the schedule say which of them may fire' certify tiny/Decoder.xdf
+    cp good/ReadHead.cal tiny
 
     sed -i 's/15 - k/16 - k/' tiny/Turn.cal
     ends 5 'trapped 3 0 IndexRange' 'error IndexRange: an index lies outside its list

@@ -112,7 +112,21 @@ def link_text(command, number, growth=0):
     return f"link {number} leads from {end_name(link.source)} to {end_name(link.target)}, and holds {capacity} tokens"
 
 
-def uncertified(command, instance, state, first, second, _reason):
+def takes_text(command, instance, first, second):
+    """The ports from which two actions take different numbers of tokens, in words."""
+    leaves = command.network.leaves if command.network else []
+    if instance >= len(leaves) or max(first, second) >= len(leaves[instance].actions):
+        return []
+    leaf, found = leaves[instance], []
+    actions = [leaf.actions[number] for number in (first, second)]
+    for port in range(len(leaf.inputs)):
+        counts = [action.takes.get(port, 0) for action in actions]
+        if counts[0] != counts[1]:
+            found.append(f"from `{leaf.inputs[port].name}` action {first} takes {counts[0]}, and action {second} takes {counts[1]}")
+    return found
+
+
+def uncertified(command, instance, state, first, second, reason):
     told = Told()
     path, reader = command.reader(instance)
     place_action(told, path, reader, first)
@@ -121,6 +135,8 @@ def uncertified(command, instance, state, first, second, _reason):
     if state < len(states):
         told.notes.append(f"state {state} is `{states[state]}`")
     told.notes += [action_text(reader, number) for number in dict.fromkeys((first, second))]
+    if reason == "C1":
+        told.notes += takes_text(command, instance, first, second)
     return told
 
 

@@ -342,7 +342,7 @@ def declarations(p):
         return f"a function is declared as `function {p.before}(int x) --> int : x end`"
     if p.in_body() and p.word in ("action", "initialize") and is_name(p.before) and (p.second in (";", ":") or p.second in ENDS):
         return f"a `:` is missing behind the tag `{p.before}`"
-    if p.in_body() and p.word == ":" and is_name(p.before) and is_name(p.second):
+    if p.in_body() and p.word == ":" and is_name(p.before) and is_name(p.second) and p.after not in ("action", "initialize"):
         return "the value of a constant stands behind `=`, that of a variable behind `:=`"
     if p.in_body() and p.before == ":" and is_name(p.second) and (p.word in TYPES or p.after in (";", ":=", "=")):
         return f"a variable is declared with its type in front of its name, as `int {p.second} := 1;`"
@@ -417,6 +417,8 @@ def controls(p):
         return "bounds are written `0 .. 3`, the lower one first"
     if p.is_in("foreach") and p.frame.part == "head" and (p.word == "(" or p.before == "("):
         return "write `foreach int k in 0 .. 3 do .. end`"
+    if p.is_in("foreach") and p.frame.part == "head" and is_name(p.before) and p.source.word(p.frame.token + 2) == p.before:
+        return f"write `in` behind `{p.before}`"
     if p.is_in("foreach") and p.frame.part == "head" and (p.word == "do" or p.before == ".."):
         return "bounds are written `0 .. 3`, the lower one first"
     if p.word == ":=" and (p.is_in("if", "while") and p.frame.part in ("if", "head") or p.is_in(*HEADS) and p.frame.part == "guard"):
@@ -462,12 +464,14 @@ def heads(p):
         return "no `;` stands here; several guards have a `,` between them"
     if p.word == ";":
         return "no `;` stands here: `guard`, `var`, `do` or `end` follows"
-    if p.word == "]" and p.before == "[":
+    if p.word == "]" and p.before == "[" and not is_operand_end(p.second):
         return "a port from which nothing is taken, or to which nothing is sent, isn't named"
     if p.frame.part in ("inputs", "outputs") and p.word == "[" and is_name(p.before) and p.top is p.frame:
         return f"write `{p.before}:[..]`, with a `:`"
     if p.frame.part in ("inputs", "outputs") and p.before == ":" and is_name(p.second):
         return f"what goes through a port stands in brackets: `{p.second}:[..]`"
+    if p.before == "repeat":
+        return "`repeat` needs a constant number behind it"
     if p.before == "guard" and (p.word in ENDS or p.word in ("do", "var")):
         return "a guard needs an expression; leave the word `guard` out if there is none"
     if p.word == "guard":
@@ -546,8 +550,14 @@ def expressions(p):
         return f"an expression is missing behind `{p.before}`"
     if p.word == ".." and p.top and p.top.word == "[":
         return "an index is one number: write a loop"
+    if p.word == "]" and p.before == "[":
+        return "an index is missing"
+    if p.word == "," and p.before in (",", "[", "("):
+        return "leave this `,` out, or write what is missing in front of it"
     if p.before == "," and p.word in ("==>", ":", ")", "]", ";"):
         return "something is missing behind the `,`"
+    if p.word and p.word == p.before:
+        return f"`{p.word}` stands here twice"
     if is_operand_end(p.before) and (is_name(p.word) or p.word[:1].isdigit()) and p.top and not p.in_body():
         return f"between `{p.before}` and `{p.word}` an operator, a `,` or a `;` is missing"
     return None
