@@ -1,1 +1,2 @@
-"""What tools/draw and tools/timeline are made of: readers of actors, networks and traces, and writers of pictures."""
+"""What tools/draw, tools/timeline and the advice of tools/explain are made of: readers of actors, networks and traces,
+writers of pictures, and what tells mistakes apart."""
