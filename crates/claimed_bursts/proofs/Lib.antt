@@ -1,3 +1,4 @@
 mod Drawing
 mod Arriving
 mod Closing
+mod Making

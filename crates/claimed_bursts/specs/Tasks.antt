@@ -1,6 +1,6 @@
 -- A cell that is to make a burst, as a piece of work.
 -- Trusted: part of what a promise means.
-use Rattle.std.specs.Prelude.{◌≡◌, ℕ, ◌+◌, ◌≤◌, false, List, length, Option, Some}
+use Rattle.std.specs.Prelude.{◌≡◌, ℕ, ◌+◌, ◌≤◌, false, List, length, slice_get, Option, Some}
 use Rattle.rvc_base.specs.Lawful.{IsLawful}
 use Rattle.rvc_base.specs.declared.ids.InstId.{InstId}
 use Rattle.net_model.specs.declared.firing.BurstEnd.{BurstEnd}
@@ -30,3 +30,9 @@ pub record MakesBurst {C X : Type 0} (cell : C → Cell X) (old new : Task C) : 
   pub inst : new.inst ≡ old.inst
   pub limit : new.limit ≡ old.limit
   pub rooms : new.rooms ≡ old.rooms
+
+-- each of these tasks, by its place, is what one of the old ones became by its burst
+pub record EachMakesBurst {C X : Type 0} (cell : C → Cell X) (old new : List (Task C)) : Type 0 where
+  pub places : length new ≡ length old
+  pub each : (place : ℕ) (after : Task C) → slice_get new place ≡ Some after
+      → (before : Task C) × (slice_get old place ≡ Some before) × MakesBurst cell before after

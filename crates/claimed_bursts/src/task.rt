@@ -1,6 +1,6 @@
 //! A cell that is to make a burst, as a piece of work.
 
-ghost use Rattle.std.specs.Prelude.{◌≡◌, None};
+ghost use Rattle.std.specs.Prelude.{◌≡◌, None, length};
 ghost use Rattle.claimed_bursts.specs.Tasks.{MayBurst};
 
 use claim_board::Piece;
@@ -53,6 +53,35 @@ impl<'a, A: Firing> BurstTask<'a, A> {
             rooms,
             end: None,
         }
+    }
+
+    /// The number of the cell.
+    pub fn inst(&self) -> InstId
+        ensures { result ≡ self.now.inst }
+    {
+        self.inst
+    }
+
+    /// How the burst ended, once it was made.
+    pub fn end(&self) -> Option<BurstEnd>
+        ensures { result ≡ self.now.end }
+    {
+        self.end
+    }
+
+    /// How many firings the cell's journal names.
+    pub fn fired(&self) -> u64
+        ensures { result ≡ length (A.cell self.now.cell).journal }
+    {
+        self.cell.journal().len() as u64
+    }
+
+    /// The cell, without its task.
+    pub fn into_cell(self) -> A
+        ensures { result ≡ self.entry.cell }
+    {
+        let BurstTask { cell, .. } = self;
+        cell
     }
 }
 
