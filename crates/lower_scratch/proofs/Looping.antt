@@ -1,16 +1,22 @@
 -- What loops over rows show once they are through.
 use Rattle.std.proofs.Common.{◌≡◌, ℕ, zero, suc, ◌+◌, ◌<◌, ◌-◌, ◌≤◌, ◌⊎◌, inl, inr, Bool, true, false, ◌||◌, List, [], ◌∷◌, ◌++◌, length, refl, sym, ap, ◌∙◌, arith, ⊎_elim, subst, Option, None, Some}
-use Rattle.std.specs.Prelude.{nat_le, slice_get, slice_index_or}
+use Rattle.std.specs.Prelude.{◌==◌, if◌then◌else◌, nat_le, slice_get, slice_index_or}
 use Rattle.std.proofs.lemmas.List.{length-append}
 use Rattle.std.proofs.lemmas.Bool.{leb-true, le-leb, cases_lt}
 use Rattle.code_ir.specs.declared.instr.Instr.{Instr}
 use Rattle.code_ir.specs.declared.instr.Instr.TheVariants as op
+use Rattle.lowered_actor.specs.declared.parts.StateCell.{StateCell}
 use Rattle.lowered_actor.specs.Actor.{Action, Actor}
+use Rattle.lowered_actor.specs.Straight.{is_saved}
 use Rattle.lower_scratch.specs.declared.body.Body.{Body}
 use Rattle.lower_scratch.specs.declared.body.Last.{Last}
-use Rattle.lower_scratch.specs.Rows.{Enters, Flows, is_among, is_set, row_at, writes}
+use Rattle.lower_scratch.specs.Rows.{Enters, Flows, is_among, is_said, is_set, row_at, writes}
 use Rattle.lower_scratch.specs.Fitting.{AreRoutines, AreSet, FitsAll, FitsAt, IsRoutine, MayCall, MayEnter, Sends}
 use Rattle.lower_scratch.proofs.Alike.{both-true, either-true}
+
+right-true : (a b : Bool) → b ≡ true → (a || b) ≡ true
+right-true true b h = refl
+right-true false b h = h
 
 -- a row says so only of cells that it has
 in-row : (row : List Bool) (k : ℕ) → slice_index_or row k false ≡ true → k < length row
@@ -19,35 +25,38 @@ in-row (b ∷ row) zero h = omega arith
 in-row (b ∷ row) (suc k) h = let low = in-row row k h in omega (arith, low)
 
 -- a cell that is set is a state cell, or the row says so
-set-is : (kept : ℕ) (body : Body) (p c : ℕ) → is_set kept body p c ≡ true → (c < kept) ⊎ (slice_index_or (row_at body p) (c - kept) false ≡ true)
+set-is : (kept : ℕ) (body : Body) (p c : ℕ) → is_set kept body p c ≡ true → (c < kept) ⊎ ((body.low ≤ c) × (slice_index_or (row_at body p) (c - body.low) false ≡ true))
 set-is kept body p c h =
     ⊎_elim (λ (low : nat_le (suc c) kept ≡ true). let le = leb-true (suc c) kept low in inl (omega (arith, le)))
-    (λ (row : slice_index_or (row_at body p) (c - kept) false ≡ true). inr row)
-    (either-true (nat_le (suc c) kept) (slice_index_or (row_at body p) (c - kept) false) h)
+    (λ (said : is_said body p c ≡ true). inr (go (nat_le (suc c) body.low) refl said))
+    (either-true (nat_le (suc c) kept) (is_said body p c) h)
+  where
+    go : (b : Bool) → nat_le (suc c) body.low ≡ b → (if b then false else slice_index_or (row_at body p) (c - body.low) false) ≡ true → (body.low ≤ c) × (slice_index_or (row_at body p) (c - body.low) false ≡ true)
+    go true is said = absurd (cc)
+    go false is said =
+        ⊎_elim (λ (less : c < body.low). let yes : nat_le (suc c) body.low ≡ true = le-leb (suc c) body.low (omega (arith, less)) in absurd (cc)) (λ (past : body.low ≤ c). (past, said)) (cases_lt c body.low)
 
 set-below : (kept : ℕ) (body : Body) (p c : ℕ) → c < kept → is_set kept body p c ≡ true
-set-below kept body p c low = ap (λ b. b || slice_index_or (row_at body p) (c - kept) false) (le-leb (suc c) kept (omega (arith, low)))
+set-below kept body p c low = ap (λ b. b || is_said body p c) (le-leb (suc c) kept (omega (arith, low)))
 
 -- what holds of each cell of the row of a place, and of all state cells, holds of all that are set there
 each-set : (P : ℕ → Type 0) (kept : ℕ) (body : Body) (p : ℕ) → ((c : ℕ) → c < kept → P c)
-    → ((k : ℕ) → k < length (row_at body p) → slice_index_or (row_at body p) k false ≡ true → P (kept + k)) → (c : ℕ) → is_set kept body p c ≡ true → P c
+    → ((k : ℕ) → k < length (row_at body p) → slice_index_or (row_at body p) k false ≡ true → P (body.low + k)) → (c : ℕ) → is_set kept body p c ≡ true → P c
 each-set P kept body p state each c set =
     ⊎_elim (λ (low : c < kept). state c low)
-    (λ (high : kept ≤ c).
-    ⊎_elim (λ (low : c < kept). absurd (omega (arith, low, high)))
-    (λ (row : slice_index_or (row_at body p) (c - kept) false ≡ true).
-    let same : kept + (c - kept) ≡ c = omega (arith, high) in
-    subst P same (each (c - kept) (in-row (row_at body p) (c - kept) row) row)) (set-is kept body p c set))
-    (cases_lt c kept)
+    (λ (high : (body.low ≤ c) × (slice_index_or (row_at body p) (c - body.low) false ≡ true)).
+    let past = high.0 in
+    let same : body.low + (c - body.low) ≡ c = omega (arith, past) in
+    subst P same (each (c - body.low) (in-row (row_at body p) (c - body.low) high.1) high.1)) (set-is kept body p c set)
 
 pub flows-all : (kept : ℕ) (body : Body) (instr : Instr) (p q n : ℕ) → length (row_at body q) ≤ n
-    → ((k : ℕ) → k < n → slice_index_or (row_at body q) k false ≡ true → (is_set kept body p (kept + k) ≡ true) ⊎ (writes instr (kept + k) ≡ true)) → Flows kept body instr p q
+    → ((k : ℕ) → k < n → slice_index_or (row_at body q) k false ≡ true → (is_set kept body p (body.low + k) ≡ true) ⊎ (writes instr (body.low + k) ≡ true)) → Flows kept body instr p q
 flows-all kept body instr p q n far each =
     each-set (λ c. (is_set kept body p c ≡ true) ⊎ (writes instr c ≡ true)) kept body q (λ c low. inl (set-below kept body p c low))
     (λ k low row. each k (omega (arith, far, low)) row)
 
 pub enters-all : (kept : ℕ) (callee body : Body) (p n : ℕ) → length (row_at callee callee.begin) ≤ n
-    → ((k : ℕ) → k < n → slice_index_or (row_at callee callee.begin) k false ≡ true → is_set kept body p (kept + k) ≡ true) → Enters kept callee body p
+    → ((k : ℕ) → k < n → slice_index_or (row_at callee callee.begin) k false ≡ true → is_set kept body p (callee.low + k) ≡ true) → Enters kept callee body p
 enters-all kept callee body p n far each =
     each-set (λ c. is_set kept body p c ≡ true) kept callee callee.begin (λ c low. set-below kept body p c low) (λ k low row. each k (omega (arith, far, low)) row)
 
@@ -55,6 +64,16 @@ pub none-all : (kept : ℕ) (body : Body) (p n : ℕ) → length (row_at body p)
 none-all kept body p n far each =
     each-set (λ c. c < kept) kept body p (λ c low. low)
     (λ k low row. absurd (let no : true ≡ false = sym row ∙ each k (omega (arith, far, low)) in grind arith))
+
+-- ---- cells that may be written
+
+-- what stands among saved cells is one
+pub saved-at : (saved : List StateCell) (k c : ℕ) (one : StateCell) → slice_get saved k ≡ Some one → (one.cell == c) ≡ true → is_saved saved c ≡ true
+saved-at [] k c one e same = absurd (cc)
+saved-at (s ∷ saved) zero c one e same =
+    let is : s ≡ one = cc in
+    ap (λ b. b || is_saved saved c) (ap (λ (x : StateCell). x.cell == c) is ∙ same)
+saved-at (s ∷ saved) (suc k) c one e same = right-true (s.cell == c) (is_saved saved c) (saved-at saved k c one e same)
 
 -- cells from one on are those behind it
 pub each-behind : (P : ℕ → Type 0) (c n : ℕ) → ((k : ℕ) → k < n → P (c + k)) → (d : ℕ) → is_among c n d ≡ true → P d

@@ -1,6 +1,6 @@
 -- Bodies, and at each of their places whether a cell is set there, however that is known.
-use Rattle.std.proofs.Common.{◌≡◌, ℕ, suc, ◌+◌, ◌-◌, ◌<◌, ◌≤◌, ◌⊎◌, Bool, true, false, ◌||◌, List, [], All, refl, ap, subst, Option, None, Some}
-use Rattle.std.specs.Prelude.{nat_le, slice_get, slice_index_or}
+use Rattle.std.proofs.Common.{◌≡◌, ℕ, suc, ◌+◌, ◌<◌, ◌≤◌, ◌⊎◌, Bool, true, false, ◌||◌, List, [], All, refl, ap, subst, Option, None, Some}
+use Rattle.std.specs.Prelude.{nat_le, slice_get}
 use Rattle.code_ir.specs.declared.instr.Instr.{Instr}
 use Rattle.code_ir.specs.declared.instr.Instr.TheVariants as op
 use Rattle.code_ir.specs.declared.instr.Routine.{Routine}
@@ -9,7 +9,7 @@ use Rattle.lowered_actor.specs.Actor.{Action, Actor, number_on}
 use Rattle.lower_scratch.specs.declared.body.Body.{Body}
 use Rattle.lower_scratch.specs.declared.body.Last.{Last}
 use Rattle.lower_scratch.specs.declared.body.Last.TheVariants as last
-use Rattle.lower_scratch.specs.Rows.{called, reads, row_at, writes}
+use Rattle.lower_scratch.specs.Rows.{called, is_said, reads, writes}
 use Rattle.lower_scratch.specs.Fitting.{AreRoutines, FitsBody, HasBodies, HasBody, MayStand, last_of}
 
 -- the places of a body, and whether a cell is set at a place
@@ -80,7 +80,7 @@ abbrev pub span_of : ℕ → Body → Span
 span_of kept body = record {
   begin = body.begin;
   end = body.end;
-  set = λ p c. slice_index_or (row_at body p) (c - kept) false;
+  set = is_said body;
 }
 
 abbrev spanned : ℕ → Option (Option Body) → Option Span

@@ -1,19 +1,24 @@
 -- Where the cells that runs use for themselves hold what the run wrote.
 -- Not trusted: no promise is read with it.
-use Rattle.std.specs.Prelude.{◌≡◌, ℕ, suc, ◌+◌, ◌-◌, ◌==◌, ◌⊎◌, Bool, true, false, ◌&&◌, ◌||◌, List, [], nat_le, Option, None, Some, slice_get, slice_index_or}
+use Rattle.std.specs.Prelude.{◌≡◌, ℕ, suc, ◌+◌, ◌-◌, ◌==◌, ◌⊎◌, Bool, true, false, ◌&&◌, ◌||◌, if◌then◌else◌, List, [], nat_le, Option, None, Some, slice_get, slice_index_or}
 use Rattle.code_ir.specs.declared.instr.Instr.{Instr}
 use Rattle.code_ir.specs.declared.instr.Instr.TheVariants as op
 use Rattle.lower_scratch.specs.declared.body.Body.{Body}
 
 -- ---- what is set
 
--- at a place of a body, for each cell behind the state cells whether it is set
+-- at a place of a body, for each cell from its first one on whether it is set
 abbrev pub row_at : Body → ℕ → List Bool
 row_at body p = elim (slice_get body.rows.items (p - body.begin)) [ None ↦ [] | Some row ↦ row.items ]
 
+-- the row of a place says that a cell is set there
+abbrev pub is_said : Body → ℕ → ℕ → Bool
+is_said body p c =
+    if nat_le (suc c) body.low then false else slice_index_or (row_at body p) (c - body.low) false
+
 -- At a place a cell is set: it is a state cell, or the row of the place says so.
 abbrev pub is_set : ℕ → Body → ℕ → ℕ → Bool
-is_set kept body p c = nat_le (suc c) kept || slice_index_or (row_at body p) (c - kept) false
+is_set kept body p c = nat_le (suc c) kept || is_said body p c
 
 -- each cell that is to be set when a body is called is set at a place of another one
 abbrev pub Enters : ℕ → Body → Body → ℕ → Type 0

@@ -9,7 +9,9 @@ pub(crate) struct Body {
     pub begin: usize,
     /// The place behind its last one.
     pub end: usize,
-    /// For each place from the begin on and each cell behind the state cells whether the cell is set there.
+    /// The first cell of which the rows say something, behind the state cells.
+    pub low: u32,
+    /// For each place from the begin on and each cell from the first one on whether the cell is set there.
     pub rows: Vec<Vec<bool>>,
 }
 
@@ -41,7 +43,10 @@ pub(crate) fn is_set(kept: u32, body: &Body, place: usize, cell: usize) -> bool
     if cell < kept as usize {
         return true;
     }
-    match row_at(body, place).get(cell - kept as usize) {
+    if cell < body.low as usize {
+        return false;
+    }
+    match row_at(body, place).get(cell - body.low as usize) {
         Some(set) => *set,
         None => false,
     }
@@ -78,7 +83,7 @@ pub(crate) fn enters(kept: u32, callee: &Body, body: &Body, place: usize) -> boo
 {
     let row = row_at(callee, callee.begin);
     for k in 0..row.len() {
-        if row[k] && !is_set(kept, body, place, kept as usize + k) {
+        if row[k] && !is_set(kept, body, place, callee.low as usize + k) {
             return false;
         }
     }

@@ -17,7 +17,7 @@ fn flows(kept: u32, body: &Body, instr: &Instr, from: usize, to: usize) -> bool
 {
     let row = row_at(body, to);
     for k in 0..row.len() {
-        let cell = kept as usize + k;
+        let cell = body.low as usize + k;
         if row[k] && !is_set(kept, body, from, cell) && !writes(instr, cell) {
             return false;
         }

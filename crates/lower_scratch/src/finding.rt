@@ -4,6 +4,7 @@ ghost use Rattle.std.specs.Prelude.{◌≡◌, IfOk};
 
 use crate::body::Body;
 use crate::instrs::{ends_body, goes_on, target};
+use crate::reach::reach_of;
 use code_ir::Instr;
 use lowered_actor::Parts;
 use std::alloc::{AllocError, Global};
@@ -18,13 +19,19 @@ pub(crate) fn body_at(
     ensures { IfOk result (λ body. body.begin ≡ begin) }
 {
     let end = end_of(parts.code.instrs(), begin);
-    let scratch = parts.code.cells().saturating_sub(parts.kept) as usize;
-    let mut needed = vec![in alloc; false; scratch]?;
+    let reach = reach_of(parts, routines, begin, end);
+    let low = reach.low;
+    let mut needed = vec![in alloc; false; reach.high.saturating_sub(low) as usize]?;
     let mut rows = rows_from(alloc, &needed, begin, end)?;
-    settle(parts, routines, begin, &mut rows, &mut needed)?;
+    settle(parts, routines, begin, low, &mut rows, &mut needed)?;
     let mut rows = rows_from(alloc, &needed, begin, end)?;
-    settle(parts, routines, begin, &mut rows, &mut needed)?;
-    Ok(Body { begin, end, rows })
+    settle(parts, routines, begin, low, &mut rows, &mut needed)?;
+    Ok(Body {
+        begin,
+        end,
+        low,
+        rows,
+    })
 }
 
 /// Goes through a body as long as that changes what is set.
@@ -32,11 +39,12 @@ fn settle(
     parts: &Parts,
     routines: &[Option<Body>],
     begin: usize,
+    low: u32,
     rows: &mut Vec<Vec<bool>>,
     needed: &mut Vec<bool>,
 ) -> Result<(), AllocError> {
     for _pass in 0..rows.len() {
-        let changed = pass(parts, routines, begin, rows, needed)?;
+        let changed = pass(parts, routines, begin, low, rows, needed)?;
         if !changed {
             return Ok(());
         }
@@ -75,6 +83,7 @@ fn pass(
     parts: &Parts,
     routines: &[Option<Body>],
     begin: usize,
+    low: u32,
     rows: &mut Vec<Vec<bool>>,
     needed: &mut Vec<bool>,
 ) -> Result<bool, AllocError> {
@@ -84,8 +93,8 @@ fn pass(
         let place = begin.saturating_add(k);
         if place < instrs.len() {
             let mut row = rows[k].clone()?;
-            read(parts.kept, routines, &instrs[place], &mut row, needed);
-            write(parts.kept, &instrs[place], &mut row);
+            read(low, routines, &instrs[place], &mut row, needed);
+            write(low, &instrs[place], &mut row);
             if pass_on(begin, place, &instrs[place], &row, rows) {
                 changed = true;
             }
@@ -95,42 +104,38 @@ fn pass(
 }
 
 /// What an instruction reads is needed at the begin if it isn't set.
-fn read(
-    kept: u32,
-    routines: &[Option<Body>],
-    instr: &Instr,
-    row: &mut [bool],
-    needed: &mut [bool],
-) {
+fn read(low: u32, routines: &[Option<Body>], instr: &Instr, row: &mut [bool], needed: &mut [bool]) {
     match *instr {
-        Instr::Load(cell) => read_each(kept, cell, 1, row, needed),
-        Instr::LoadAt(cell, count) => read_each(kept, cell, count, row, needed),
-        Instr::Copy(_, from, count, _) => read_each(kept, from, count, row, needed),
-        Instr::CopyTo(_, _, from, count, _) => read_each(kept, from, count, row, needed),
-        Instr::CopyFrom(_, from, count, _) => read_each(kept, from, count, row, needed),
-        Instr::Call(r) => read_needed(routines, r, row, needed),
+        Instr::Load(cell) => read_each(low, cell, 1, row, needed),
+        Instr::LoadAt(cell, count) => read_each(low, cell, count, row, needed),
+        Instr::Copy(_, from, count, _) => read_each(low, from, count, row, needed),
+        Instr::CopyTo(_, _, from, count, _) => read_each(low, from, count, row, needed),
+        Instr::CopyFrom(_, from, count, _) => read_each(low, from, count, row, needed),
+        Instr::Call(r) => read_needed(low, routines, r, row, needed),
         _ => {}
     }
 }
 
 /// So many cells are read.
-fn read_each(kept: u32, cell: u32, count: u32, row: &mut [bool], needed: &mut [bool]) {
+fn read_each(low: u32, cell: u32, count: u32, row: &mut [bool], needed: &mut [bool]) {
     for k in 0..count as usize {
         let cell = cell as usize + k;
-        if cell >= kept as usize {
-            need(cell - kept as usize, row, needed);
+        if cell >= low as usize {
+            need(cell - low as usize, row, needed);
         }
     }
 }
 
 /// What a routine needs is read.
-fn read_needed(routines: &[Option<Body>], r: u32, row: &mut [bool], needed: &mut [bool]) {
+fn read_needed(low: u32, routines: &[Option<Body>], r: u32, row: &mut [bool], needed: &mut [bool]) {
     if let Some(Some(callee)) = routines.get(r as usize) {
         if let Some(first) = callee.rows.get(0) {
+            let mut cell = callee.low;
             for k in 0..first.len() {
                 if first[k] {
-                    need(k, row, needed);
+                    read_each(low, cell, 1, row, needed);
                 }
+                cell = cell.saturating_add(1);
             }
         }
     }
@@ -145,23 +150,23 @@ fn need(cell: usize, row: &mut [bool], needed: &mut [bool]) {
 }
 
 /// What an instruction writes is set.
-fn write(kept: u32, instr: &Instr, row: &mut [bool]) {
+fn write(low: u32, instr: &Instr, row: &mut [bool]) {
     match *instr {
-        Instr::Store(cell, _) => write_each(kept, cell, 1, row),
-        Instr::Copy(to, _, count, _) => write_each(kept, to, count, row),
-        Instr::CopyFrom(to, _, _, count) => write_each(kept, to, count, row),
-        Instr::TokenList(to, _, _, _, count) => write_each(kept, to, count, row),
-        Instr::Zero(cell, count) => write_each(kept, cell, count, row),
+        Instr::Store(cell, _) => write_each(low, cell, 1, row),
+        Instr::Copy(to, _, count, _) => write_each(low, to, count, row),
+        Instr::CopyFrom(to, _, _, count) => write_each(low, to, count, row),
+        Instr::TokenList(to, _, _, _, count) => write_each(low, to, count, row),
+        Instr::Zero(cell, count) => write_each(low, cell, count, row),
         _ => {}
     }
 }
 
 /// So many cells are set.
-fn write_each(kept: u32, cell: u32, count: u32, row: &mut [bool]) {
+fn write_each(low: u32, cell: u32, count: u32, row: &mut [bool]) {
     for k in 0..count as usize {
         let cell = cell as usize + k;
-        if cell >= kept as usize && cell - (kept as usize) < row.len() {
-            row[cell - kept as usize] = true;
+        if cell >= low as usize && cell - (low as usize) < row.len() {
+            row[cell - low as usize] = true;
         }
     }
 }

@@ -18,6 +18,7 @@ mod finding;
 mod instrs;
 mod keeping;
 pub mod laws;
+mod reach;
 mod stores;
 
 pub use body::Last;

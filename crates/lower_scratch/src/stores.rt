@@ -1,6 +1,6 @@
 //! Which instructions may stand in a body.
 
-ghost use Rattle.std.specs.Prelude.{◌≡◌, ℕ, ◌+◌, ◌*◌, ◌<◌, true, IsTrue};
+ghost use Rattle.std.specs.Prelude.{◌≡◌, ℕ, ◌+◌, ◌*◌, ◌<◌, ◌≤◌, ◌^◌, true, IsTrue};
 ghost use Rattle.lowered_actor.specs.Actor.{actor_of, number_on};
 ghost use Rattle.lowered_actor.specs.Straight.{is_saved, may_store};
 ghost use Rattle.lower_scratch.specs.Fitting.{MayStand, MayStoreEach};
@@ -97,8 +97,21 @@ fn may_store(parts: &Parts, firing: bool, cell: usize) -> bool
     parts.kept as usize <= cell || (firing && is_saved(&parts.saved, cell))
 }
 
-/// Whether each of so many cells may be written.
+/// Whether each of so many cells may be written. Most stand behind the state cells, or among saved ones in a row.
 fn may_store_each(parts: &Parts, firing: bool, cell: u32, count: u32) -> bool
+    ensures { IsTrue result → MayStoreEach (actor_of parts.now) firing cell count }
+{
+    if parts.kept <= cell {
+        return true;
+    }
+    if firing && are_saved(&parts.saved, cell as usize, count as usize) {
+        return true;
+    }
+    each_may_store(parts, firing, cell, count)
+}
+
+/// Whether each of so many cells may be written, one after the other.
+fn each_may_store(parts: &Parts, firing: bool, cell: u32, count: u32) -> bool
     ensures { IsTrue result → MayStoreEach (actor_of parts.now) firing cell count }
 {
     for k in 0..count as usize {
@@ -109,8 +122,32 @@ fn may_store_each(parts: &Parts, firing: bool, cell: u32, count: u32) -> bool
     true
 }
 
-/// Whether a cell is one of these.
+/// Whether so many cells are seen to be among these, in a row.
+fn are_saved(saved: &[StateCell], cell: usize, count: usize) -> bool
+    requires { cell + count < 2 ^ 33 }
+    ensures { IsTrue result → (d : ℕ) → cell ≤ d → d < cell + count → is_saved saved.now d ≡ true }
+{
+    let first = place_of(saved, cell);
+    for k in 0..count {
+        if !is_saved_at(saved, first.saturating_add(k), cell + k) {
+            return false;
+        }
+    }
+    true
+}
+
+/// Whether a cell is one of these. It is looked for in halves first, since their numbers rise.
 fn is_saved(saved: &[StateCell], cell: usize) -> bool
+    ensures { result ≡ is_saved saved.now cell }
+{
+    if is_saved_at(saved, place_of(saved, cell), cell) {
+        return true;
+    }
+    is_found(saved, cell)
+}
+
+/// Whether a cell is found among these, one after the other.
+fn is_found(saved: &[StateCell], cell: usize) -> bool
     ensures { result ≡ is_saved saved.now cell }
 {
     for one in saved {
@@ -119,4 +156,29 @@ fn is_saved(saved: &[StateCell], cell: usize) -> bool
         }
     }
     false
+}
+
+/// Whether a cell is the one at a place.
+fn is_saved_at(saved: &[StateCell], place: usize, cell: usize) -> bool
+    ensures { IsTrue result → is_saved saved.now cell ≡ true }
+{
+    match saved.get(place) {
+        Some(one) => one.cell as usize == cell,
+        None => false,
+    }
+}
+
+/// Where a cell stands among these if their numbers rise and it is one of them.
+fn place_of(saved: &[StateCell], cell: usize) -> usize {
+    let mut low = 0;
+    let mut high = saved.len();
+    'halves: while low < high {
+        let middle = low + (high - low) / 2;
+        if (saved[middle].cell as usize) < cell {
+            low = middle + 1;
+        } else {
+            high = middle;
+        }
+    }
+    low
 }
