@@ -17,3 +17,5 @@ pub mod WholeRoutines
 pub mod WholeActors
 pub mod AllowedRoutines
 pub mod AllowedEntries
+pub mod Sizes
+pub mod Ready

@@ -1,5 +1,5 @@
 -- All functions and procedures of a sound actor have routines.
-use Rattle.std.proofs.Common.{◌≡◌, ℕ, zero, suc, ◌<◌, ◌⊎◌, ⊎_elim, Bool, true, false, List, [], ◌∷◌, ◌++◌, length, refl, sym, ap, subst, ◌∙◌, Option, None, Some, arith}
+use Rattle.std.proofs.Common.{◌≡◌, ℕ, zero, suc, ◌<◌, ⊎_elim, Bool, true, false, List, [], ◌∷◌, ◌++◌, length, refl, sym, ap, subst, ◌∙◌, Option, None, Some, arith}
 use Rattle.std.specs.Prelude.{slice_get, if◌then◌else◌}
 use Rattle.std.specs.Str.{bytes_eq}
 use Rattle.std.proofs.lemmas.Slice.Eq.{bytes_eq-Decides}
@@ -34,15 +34,15 @@ same-many (x ∷ xs) [] h = absurd h
 
 -- ---- what is found by a name
 
-record IsAt {A : Type 0} (name : A → List ℕ) (text : List ℕ) (xs : List A) (x : A) : Type 0 where
-  place : ℕ
-  there : slice_get xs place ≡ Some x
-  same : name x ≡ text
+pub record IsAt {A : Type 0} (name : A → List ℕ) (text : List ℕ) (xs : List A) (x : A) : Type 0 where
+  pub place : ℕ
+  pub there : slice_get xs place ≡ Some x
+  pub same : name x ≡ text
 
 module _ {A : Type 0} (name : A → List ℕ) (named : List ℕ → List A → Option A) (none : (text : List ℕ) → named text [] ≡ None)
     (more : (text : List ℕ) (x : A) (xs : List A) → named text (x ∷ xs) ≡ (if bytes_eq (name x) text then Some x else named text xs)) where
   -- it stands somewhere
-  place-of : (text : List ℕ) (xs : List A) (x : A) → named text xs ≡ Some x → IsAt name text xs x
+  pub place-of : (text : List ℕ) (xs : List A) (x : A) → named text xs ≡ Some x → IsAt name text xs x
   place-of text [] x e = let f : None ≡ Some x = sym (none text) ∙ e in absurd (cc)
   place-of text (y ∷ xs) x e = go (λ h. place-of text xs x h) (bytes_eq (name y) text) refl (sym (more text y xs) ∙ e)
     where
@@ -68,11 +68,9 @@ module _ {A : Type 0} (name : A → List ℕ) (named : List ℕ → List A → O
           let r = later j f in
           (r.0, more text z xs ∙ ap (λ b. if b then Some z else named text xs) is ∙ r.1, r.2, r.3)
 
-module _ (actor : Actor) (sound : IsSound actor) (rs : Routines) (settled : AreSettled actor rs) where
-  ready : AreReady actor.funs (names_of actor) (globals_of actor)
+module _ (actor : Actor) (sound : IsSound actor) where
+  pub ready : AreReady actor.funs (names_of actor) (globals_of actor)
   ready = ready_vars actor.funs actor.vars sound.vars
-
-  -- ---- functions
 
   record StandsForFun (g : Function) : Type 0 where
     fun : Fun
@@ -84,10 +82,11 @@ module _ (actor : Actor) (sound : IsSound actor) (rs : Routines) (settled : AreS
   functions-named now (function_more fs k f g all there is none) =
       each-last StandsForFun fs g (functions-named fs all) (record { fun = f; named = ap (λ text. fun_named text actor.funs) is.text ∙ fun-found actor sound k f there; is = is })
 
-  routine-of : (text : List ℕ) (f : Fun) → fun_named text actor.funs ≡ Some f → HasFunction rs.functions f → IsRoutineOf rs.functions text f
-  routine-of text f e has =
+  -- a function that is among these has a routine
+  pub function-routine : (fs : List Function) → AreFunctions actor fs → (text : List ℕ) (f : Fun) → fun_named text actor.funs ≡ Some f → HasFunction fs f → IsRoutineOf fs text f
+  function-routine fs are text f e has =
       let p : IsAt (λ (x : Fun). x.name) text actor.funs f = place-of (λ (x : Fun). x.name) fun_named (λ text. refl) (λ text x xs. refl) text actor.funs f e in
-      let r = found-first (λ (x : Function). x.text) function_named (λ text. refl) (λ text x xs. refl) StandsForFun text rs.functions has.place has.function (functions-named rs.functions settled.functions) has.there (has.is.text ∙ p.same) in
+      let r = found-first (λ (x : Function). x.text) function_named (λ text. refl) (λ text x xs. refl) StandsForFun text fs has.place has.function (functions-named fs are) has.there (has.is.text ∙ p.same) in
       let s : StandsForFun r.0 = r.2 in
       let again : fun_named text actor.funs ≡ Some s.fun = ap (λ t. fun_named t actor.funs) (sym r.3) ∙ s.named in
       let one : s.fun ≡ f = cc in
@@ -99,6 +98,38 @@ module _ (actor : Actor) (sound : IsSound actor) (rs : Routines) (settled : AreS
         as_many = same-many s.fun.formals r.0.formals s.is.formals ∙ ap (λ (x : Fun). length x.formals) one;
         result = s.is.result ∙ ap (λ (x : Fun). x.result) one;
       }
+
+  record StandsForProc (g : Procedure) : Type 0 where
+    proc : Proc
+    named : proc_named g.text actor.procs ≡ Some proc
+    is : IsProcedure proc g
+
+  procedures-named : (fs : List Function) (ps : List Procedure) → AreProcedures actor fs ps → Each StandsForProc ps
+  procedures-named fs [] no_procedure = tt
+  procedures-named fs now (procedure_more ps k p g all there is none) =
+      each-last StandsForProc ps g (procedures-named fs ps all) (record { proc = p; named = ap (λ text. proc_named text actor.procs) is.text ∙ proc-found actor sound k p there; is = is })
+
+  -- .. and a procedure
+  pub procedure-routine : (fs : List Function) (ps : List Procedure) → AreProcedures actor fs ps → (text : List ℕ) (q : Proc) → proc_named text actor.procs ≡ Some q → HasProcedure ps q → IsRoutineOfProc ps text q
+  procedure-routine fs ps are text q e has =
+      let p : IsAt (λ (x : Proc). x.name) text actor.procs q = place-of (λ (x : Proc). x.name) proc_named (λ text. refl) (λ text x xs. refl) text actor.procs q e in
+      let r = found-first (λ (x : Procedure). x.text) procedure_named (λ text. refl) (λ text x xs. refl) StandsForProc text ps has.place has.procedure (procedures-named fs ps are) has.there (has.is.text ∙ p.same) in
+      let s : StandsForProc r.0 = r.2 in
+      let again : proc_named text actor.procs ≡ Some s.proc = ap (λ t. proc_named t actor.procs) (sym r.3) ∙ s.named in
+      let one : s.proc ≡ q = cc in
+      let is : IsProc actor.procs (names_of actor) q = each-at (IsProc actor.procs (names_of actor)) actor.procs p.place q sound.procs p.there in
+      record {
+        routine = r.0;
+        found = r.1;
+        formals = is.formals;
+        as_many = same-many s.proc.formals r.0.formals s.is.formals ∙ ap (λ (x : Proc). length x.formals) one;
+      }
+
+module _ (actor : Actor) (sound : IsSound actor) (rs : Routines) (settled : AreSettled actor rs) where
+  -- ---- functions
+
+  routine-of : (text : List ℕ) (f : Fun) → fun_named text actor.funs ≡ Some f → HasFunction rs.functions f → IsRoutineOf rs.functions text f
+  routine-of = function-routine actor sound rs.functions settled.functions
 
   -- one whose calls all have routines has one
   fun-step : (k : ℕ) (f : Fun) → slice_get actor.funs k ≡ Some f → ((text : List ℕ) → sound.funs_end.rank text < sound.funs_end.rank f.name → HasRoutine actor.funs rs.functions text) → HasFunction rs.functions f
@@ -115,7 +146,7 @@ module _ (actor : Actor) (sound : IsSound actor) (rs : Routines) (settled : AreS
 
       not-left : (at : ℕ) → left_out_fun rs.functions (globals_of actor) f ≡ Some at → ⊥
       not-left at e =
-          let none : left_out_fun rs.functions (globals_of actor) f ≡ None = fun_none actor.funs rs.functions f (names_of actor) (globals_of actor) ready starts calls (each-at (IsFun (names_of actor)) actor.funs k f sound.funs there) in
+          let none : left_out_fun rs.functions (globals_of actor) f ≡ None = fun_none actor.funs rs.functions f (names_of actor) (globals_of actor) (ready actor sound) starts calls (each-at (IsFun (names_of actor)) actor.funs k f sound.funs there) in
           cc
 
   have-fun : (n k : ℕ) (f : Fun) → slice_get actor.funs k ≡ Some f → sound.funs_end.rank f.name < n → HasFunction rs.functions f
@@ -133,30 +164,8 @@ module _ (actor : Actor) (sound : IsSound actor) (rs : Routines) (settled : AreS
 
   -- ---- procedures
 
-  record StandsForProc (g : Procedure) : Type 0 where
-    proc : Proc
-    named : proc_named g.text actor.procs ≡ Some proc
-    is : IsProcedure proc g
-
-  procedures-named : (ps : List Procedure) → AreProcedures actor rs.functions ps → Each StandsForProc ps
-  procedures-named [] no_procedure = tt
-  procedures-named now (procedure_more ps k p g all there is none) =
-      each-last StandsForProc ps g (procedures-named ps all) (record { proc = p; named = ap (λ text. proc_named text actor.procs) is.text ∙ proc-found actor sound k p there; is = is })
-
   routine-of-proc : (text : List ℕ) (q : Proc) → proc_named text actor.procs ≡ Some q → HasProcedure rs.procedures q → IsRoutineOfProc rs.procedures text q
-  routine-of-proc text q e has =
-      let p : IsAt (λ (x : Proc). x.name) text actor.procs q = place-of (λ (x : Proc). x.name) proc_named (λ text. refl) (λ text x xs. refl) text actor.procs q e in
-      let r = found-first (λ (x : Procedure). x.text) procedure_named (λ text. refl) (λ text x xs. refl) StandsForProc text rs.procedures has.place has.procedure (procedures-named rs.procedures settled.procedures) has.there (has.is.text ∙ p.same) in
-      let s : StandsForProc r.0 = r.2 in
-      let again : proc_named text actor.procs ≡ Some s.proc = ap (λ t. proc_named t actor.procs) (sym r.3) ∙ s.named in
-      let one : s.proc ≡ q = cc in
-      let is : IsProc actor.procs (names_of actor) q = each-at (IsProc actor.procs (names_of actor)) actor.procs p.place q sound.procs p.there in
-      record {
-        routine = r.0;
-        found = r.1;
-        formals = is.formals;
-        as_many = same-many s.proc.formals r.0.formals s.is.formals ∙ ap (λ (x : Proc). length x.formals) one;
-      }
+  routine-of-proc = procedure-routine actor sound rs.functions rs.procedures settled.procedures
 
   proc-step : (k : ℕ) (q : Proc) → slice_get actor.procs k ≡ Some q → ((text : List ℕ) → sound.procs_end.rank text < sound.procs_end.rank q.name → HasProcRoutine actor.procs rs.procedures text) → HasProcedure rs.procedures q
   proc-step k q there deeper = ⊎_elim (λ (h : HasProcedure rs.procedures q). h) (λ (out : (at : ℕ) × (left_out_proc rs (globals_of actor) q ≡ Some at)). absurd (not-left out.0 out.1)) (settled.all_procedures k q there)
@@ -172,7 +181,7 @@ module _ (actor : Actor) (sound : IsSound actor) (rs : Routines) (settled : AreS
 
       not-left : (at : ℕ) → left_out_proc rs (globals_of actor) q ≡ Some at → ⊥
       not-left at e =
-          let none : left_out_proc rs (globals_of actor) q ≡ None = proc_none actor.funs actor.procs rs q (names_of actor) (globals_of actor) ready starts calls (each-at (IsProc actor.procs (names_of actor)) actor.procs k q sound.procs there) in
+          let none : left_out_proc rs (globals_of actor) q ≡ None = proc_none actor.funs actor.procs rs q (names_of actor) (globals_of actor) (ready actor sound) starts calls (each-at (IsProc actor.procs (names_of actor)) actor.procs k q sound.procs there) in
           cc
 
   have-proc : (n k : ℕ) (q : Proc) → slice_get actor.procs k ≡ Some q → sound.procs_end.rank q.name < n → HasProcedure rs.procedures q

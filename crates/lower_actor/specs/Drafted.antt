@@ -1,7 +1,9 @@
 -- Drafts that begin with the routines of functions and procedures.
 -- Not trusted: no promise is read with it.
-use Rattle.std.specs.Prelude.{◌≡◌, ℕ, ◌+◌, ◌≤◌, ◌⊎◌, List, [], ◌∷◌, ◌++◌, length, map, None, Some, slice_get}
+use Rattle.std.specs.Prelude.{◌≡◌, ℕ, ◌+◌, ◌≤◌, ◌⊎◌, Bool, true, false, List, [], ◌∷◌, ◌++◌, length, map, None, Some, slice_get}
+use Rattle.cal_model.specs.declared.bound.Bound.{Bound}
 use Rattle.cal_model.specs.Actor.{Actor, Fun, Proc}
+use Rattle.cal_model.specs.View.{actor_of}
 use Rattle.code_ir.specs.declared.instr.Instr.{Instr}
 use Rattle.code_ir.specs.declared.instr.Routine.{Routine}
 use Rattle.code_ir.specs.Code.{Code}
@@ -15,6 +17,7 @@ use Rattle.lower_stmt.specs.Proceeding.{AreProcRoutines, IsProcAdded, left_out_p
 use Rattle.lower_stmt.specs.Procedures.{Procedure, Routines}
 use Rattle.action_lower.specs.FiringCode.{globals_of}
 use Rattle.action_lower.specs.Seats.{state_cells}
+use Rattle.lower_actor.specs.Calls.{LacksOne, calls_of_fun, calls_of_proc, is_made}
 use Rattle.lower_actor.specs.Fitting.{AreBodies}
 use Rattle.lower_actor.specs.Settled.{AreFunctions, AreProcedures, HasFunction, HasProcedure, calling}
 
@@ -72,28 +75,28 @@ pub record HasFunctionAt (actor : Actor) (fs : List Function) (k : ℕ) : Type 0
   pub there : slice_get actor.funs k ≡ Some function
   pub whole : left_out_fun fs (globals_of actor) function ≡ None
 
--- .. which stands at a place among those that are left
-pub record IsWholeFunction (actor : Actor) (fs : List Function) (left : List ℕ) (place : ℕ) : Type 0 where
-  pub number : ℕ
-  pub is : slice_get left place ≡ Some number
-  pub at : HasFunctionAt actor fs number
-
--- a number is among those that are left
-abbrev pub IsLeft : List ℕ → ℕ → Type 0
-IsLeft left k = (place : ℕ) × (slice_get left place ≡ Some k)
-
--- Some functions have their routines, and all others are among those that are left.
-pub record FunctionsSoFar (actor : Actor) (fs : List Function) (left : List ℕ) (draft : Draft) : Type 0 where
-  pub holds : HoldsFunctions actor fs draft
+-- What is known of functions that have routines: no part of each is left out if it may call those before it, and each
+-- that is marked is one of them.
+pub record KnownFunctions (actor : Actor) (fs : List Function) (made : List Bool) : Type 0 where
   pub are : AreFunctions actor fs
-  pub others : (k : ℕ) (f : Fun) → slice_get actor.funs k ≡ Some f
-      → HasFunction fs f ⊎ IsLeft left k
+  pub marks : (k : ℕ) (f : Fun) → slice_get actor.funs k ≡ Some f → is_made made k ≡ true
+      → HasFunction fs f
+  pub count : length made ≡ length actor.funs
 
--- a part of each of those that are left is left out
-abbrev pub NoFunctionMore : Actor → List Function → List ℕ → Type 0
-NoFunctionMore actor fs left = (k : ℕ) (f : Fun) → IsLeft left k
-    → slice_get actor.funs k ≡ Some f
-    → (at : ℕ) × left_out_fun fs (globals_of actor) f ≡ Some at
+-- Some functions have their routines, those that are marked.
+pub record FunctionsSoFar (actor : Actor) (fs : List Function) (made : List Bool) (draft : Draft) : Type 0 where
+  pub holds : HoldsFunctions actor fs draft
+  pub known : KnownFunctions actor fs made
+
+-- the function of this number isn't marked, and nothing of it is left out
+pub record IsReadyFunction (actor : Actor) (fs : List Function) (made : List Bool) (k : ℕ) : Type 0 where
+  pub at : HasFunctionAt actor fs k
+  pub not_yet : is_made made k ≡ false
+
+-- the function of this number is marked, or one that it calls isn't
+abbrev pub WaitsFunction : Bound → List Bool → ℕ → Type 0
+WaitsFunction b made k = (f : Fun) → slice_get (actor_of b).funs k ≡ Some f
+    → (is_made made k ≡ true) ⊎ LacksOne made (calls_of_fun b f).functions
 
 -- ---- procedures
 
@@ -120,23 +123,26 @@ pub record HasProcedureAt (actor : Actor) (fs : List Function) (ps : List Proced
   pub there : slice_get actor.procs k ≡ Some procedure
   pub whole : left_out_proc (calling fs ps) (globals_of actor) procedure ≡ None
 
-pub record IsWholeProcedure (actor : Actor) (fs : List Function) (ps : List Procedure)
-    (left : List ℕ) (place : ℕ) : Type 0 where
-  pub number : ℕ
-  pub is : slice_get left place ≡ Some number
-  pub at : HasProcedureAt actor fs ps number
+pub record KnownProcedures (actor : Actor) (fs : List Function) (ps : List Procedure)
+    (made : List Bool) : Type 0 where
+  pub are : AreProcedures actor fs ps
+  pub marks : (k : ℕ) (p : Proc) → slice_get actor.procs k ≡ Some p → is_made made k ≡ true
+      → HasProcedure ps p
+  pub count : length made ≡ length actor.procs
 
 pub record ProceduresSoFar (actor : Actor) (fs : List Function) (ps : List Procedure)
-    (left : List ℕ) (draft : Draft) : Type 0 where
+    (made : List Bool) (draft : Draft) : Type 0 where
   pub holds : HoldsProcedures actor fs ps draft
-  pub are : AreProcedures actor fs ps
-  pub others : (k : ℕ) (p : Proc) → slice_get actor.procs k ≡ Some p
-      → HasProcedure ps p ⊎ IsLeft left k
+  pub known : KnownProcedures actor fs ps made
 
-abbrev pub NoProcedureMore : Actor → List Function → List Procedure → List ℕ → Type 0
-NoProcedureMore actor fs ps left = (k : ℕ) (p : Proc) → IsLeft left k
-    → slice_get actor.procs k ≡ Some p
-    → (at : ℕ) × left_out_proc (calling fs ps) (globals_of actor) p ≡ Some at
+pub record IsReadyProcedure (actor : Actor) (fs : List Function) (ps : List Procedure)
+    (made : List Bool) (k : ℕ) : Type 0 where
+  pub at : HasProcedureAt actor fs ps k
+  pub not_yet : is_made made k ≡ false
+
+abbrev pub WaitsProcedure : Bound → List Bool → ℕ → Type 0
+WaitsProcedure b made k = (p : Proc) → slice_get (actor_of b).procs k ≡ Some p
+    → (is_made made k ≡ true) ⊎ LacksOne made (calls_of_proc b p).procedures
 
 -- ---- behind them
 

@@ -1,3 +1,4 @@
+pub mod Calls
 pub mod Coded
 pub mod Drafted
 pub mod Faults

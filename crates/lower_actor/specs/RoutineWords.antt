@@ -1,10 +1,9 @@
 -- The words of the contracts of calls that make routines, over names and routines as the code has them.
 -- Not trusted: no promise is read with it.
-use Rattle.std.specs.Prelude.{◌≡◌, ℕ, List, None, Some, slice_get}
+use Rattle.std.specs.Prelude.{◌≡◌, ℕ, Bool, List, None}
 use Rattle.cal_model.specs.declared.bound.Bound.{Bound}
 use Rattle.cal_model.specs.declared.bound.BoundFun.{BoundFun}
 use Rattle.cal_model.specs.declared.bound.BoundProc.{BoundProc}
-use Rattle.cal_model.specs.Actor.{Fun, Proc}
 use Rattle.cal_model.specs.View.{actor_of, fun_view, proc_view}
 use Rattle.lower_base.specs.declared.callees.Callee.{Callee}
 use Rattle.lower_base.specs.declared.draft.Draft.{Draft}
@@ -15,46 +14,39 @@ use Rattle.lower_base.specs.Routining.{left_out_fun}
 use Rattle.lower_stmt.specs.declared.callees.ProcCallee.{ProcCallee}
 use Rattle.lower_stmt.specs.Proceeding.{left_out_proc}
 use Rattle.lower_stmt.specs.Procedures.{procedures_view, routines_of}
-use Rattle.action_lower.specs.FiringCode.{globals_of}
-use Rattle.lower_actor.specs.Drafted.{AddsFunction, AddsProcedure, FunctionsSoFar, HasFunctionAt, HasProcedureAt}
-use Rattle.lower_actor.specs.Drafted.{HoldsProcedures, IsWholeFunction, IsWholeProcedure, NoFunctionMore, NoProcedureMore}
-use Rattle.lower_actor.specs.Drafted.{ProceduresSoFar}
+use Rattle.law_forms.specs.Lowerable.{HasRoutine}
+use Rattle.lower_actor.specs.Drafted.{AddsFunction, AddsProcedure, FunctionsSoFar, HoldsProcedures, IsReadyFunction, IsReadyProcedure}
+use Rattle.lower_actor.specs.Drafted.{KnownFunctions, KnownProcedures, ProceduresSoFar, WaitsFunction, WaitsProcedure}
 use Rattle.lower_actor.specs.Settled.{AllProcedures, AreProcedures}
 
 -- ---- functions
 
--- some functions have routines, and the others are among those that are left
-abbrev pub MadeFunctions : Bound → List Callee → List ℕ → Draft → Type 0
-MadeFunctions b callees left draft =
-    FunctionsSoFar (actor_of b) (functions_view callees) left draft
+-- some functions have routines, those that are marked
+abbrev pub MadeFunctions : Bound → List Callee → List Bool → Draft → Type 0
+MadeFunctions b callees made draft =
+    FunctionsSoFar (actor_of b) (functions_view callees) made draft
 
--- a part of each of those that are left is left out
-abbrev pub NoFunctionLeft : Bound → List Callee → List ℕ → Type 0
-NoFunctionLeft b callees left = NoFunctionMore (actor_of b) (functions_view callees) left
+-- what is known of them
+abbrev pub KnownFuns : Bound → List Callee → List Bool → Type 0
+KnownFuns b callees made = KnownFunctions (actor_of b) (functions_view callees) made
 
--- no part is left out of the one at a place of those that are left
-abbrev pub IsNextFunction : Bound → List Callee → List ℕ → ℕ → Type 0
-IsNextFunction b callees left place =
-    IsWholeFunction (actor_of b) (functions_view callees) left place
+-- nothing is left out of the function of a number, which isn't marked
+abbrev pub IsReadyFun : Bound → List Callee → List Bool → ℕ → Type 0
+IsReadyFun b callees made k = IsReadyFunction (actor_of b) (functions_view callees) made k
 
--- .. of the function of a number
-abbrev pub IsWholeFunAt : Bound → List Callee → ℕ → Type 0
-IsWholeFunAt b callees k = HasFunctionAt (actor_of b) (functions_view callees) k
+-- each that isn't marked calls one that isn't
+abbrev pub NoFunctionLeft : Bound → List Bool → Type 0
+NoFunctionLeft b made = (k : ℕ) → WaitsFunction b made k
 
--- a part is left out of the function of a number, if there is one
-abbrev pub IsPartialFunAt : Bound → List Callee → ℕ → Type 0
-IsPartialFunAt b callees k = (f : Fun) → slice_get (actor_of b).funs k ≡ Some f
-    → (at : ℕ) × left_out_fun (functions_view callees) (globals_of (actor_of b)) f ≡ Some at
+-- each function that is called has a routine
+abbrev pub HaveRoutines : Bound → List Callee → Type 0
+HaveRoutines b callees = (text : List ℕ)
+    → HasRoutine (actor_of b).funs (functions_view callees) text
 
 -- no part of a function is left out
 abbrev pub IsWholeFun : List Named → List Callee → BoundFun → Type 0
 IsWholeFun names callees f =
     left_out_fun (functions_view callees) (names_view names) (fun_view f) ≡ None
-
--- .. or a part is
-abbrev pub IsPartialFun : List Named → List Callee → BoundFun → Type 0
-IsPartialFun names callees f = (at : ℕ)
-    × left_out_fun (functions_view callees) (names_view names) (fun_view f) ≡ Some at
 
 -- one function more has a routine
 abbrev pub AddsFun : List Named → BoundFun → List Callee → List Callee → Draft → Draft → Type 0
@@ -79,34 +71,24 @@ abbrev pub AreAllProcedures : Bound → List Callee → List ProcCallee → Type
 AreAllProcedures b callees procedures =
     AllProcedures (actor_of b) (functions_view callees) (procedures_view procedures)
 
-abbrev pub MadeProcedures : Bound → List Callee → List ProcCallee → List ℕ → Draft → Type 0
-MadeProcedures b callees procedures left draft =
-    ProceduresSoFar (actor_of b) (functions_view callees) (procedures_view procedures) left draft
+abbrev pub MadeProcedures : Bound → List Callee → List ProcCallee → List Bool → Draft → Type 0
+MadeProcedures b callees procedures made draft =
+    ProceduresSoFar (actor_of b) (functions_view callees) (procedures_view procedures) made draft
 
-abbrev pub NoProcedureLeft : Bound → List Callee → List ProcCallee → List ℕ → Type 0
-NoProcedureLeft b callees procedures left =
-    NoProcedureMore (actor_of b) (functions_view callees) (procedures_view procedures) left
+abbrev pub KnownProcs : Bound → List Callee → List ProcCallee → List Bool → Type 0
+KnownProcs b callees procedures made =
+    KnownProcedures (actor_of b) (functions_view callees) (procedures_view procedures) made
 
-abbrev pub IsNextProcedure : Bound → List Callee → List ProcCallee → List ℕ → ℕ → Type 0
-IsNextProcedure b callees procedures left place =
-    IsWholeProcedure (actor_of b) (functions_view callees) (procedures_view procedures) left place
+abbrev pub IsReadyProc : Bound → List Callee → List ProcCallee → List Bool → ℕ → Type 0
+IsReadyProc b callees procedures made k =
+    IsReadyProcedure (actor_of b) (functions_view callees) (procedures_view procedures) made k
 
-abbrev pub IsWholeProcAt : Bound → List Callee → List ProcCallee → ℕ → Type 0
-IsWholeProcAt b callees procedures k =
-    HasProcedureAt (actor_of b) (functions_view callees) (procedures_view procedures) k
-
-abbrev pub IsPartialProcAt : Bound → List Callee → List ProcCallee → ℕ → Type 0
-IsPartialProcAt b callees procedures k = (p : Proc) → slice_get (actor_of b).procs k ≡ Some p
-    → (at : ℕ) × left_out_proc (routines_of callees procedures) (globals_of (actor_of b)) p
-    ≡ Some at
+abbrev pub NoProcedureLeft : Bound → List Bool → Type 0
+NoProcedureLeft b made = (k : ℕ) → WaitsProcedure b made k
 
 abbrev pub IsWholeProc : List Named → List Callee → List ProcCallee → BoundProc → Type 0
 IsWholeProc names callees procedures p =
     left_out_proc (routines_of callees procedures) (names_view names) (proc_view p) ≡ None
-
-abbrev pub IsPartialProc : List Named → List Callee → List ProcCallee → BoundProc → Type 0
-IsPartialProc names callees procedures p = (at : ℕ)
-    × left_out_proc (routines_of callees procedures) (names_view names) (proc_view p) ≡ Some at
 
 abbrev pub AddsProc : List Named → List Callee → BoundProc → List ProcCallee → List ProcCallee → Draft → Draft → Type 0
 AddsProc names callees p before now old new =

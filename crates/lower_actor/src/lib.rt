@@ -8,11 +8,16 @@
 
 mod actions;
 mod actor;
+mod call_exprs;
+mod call_stmts;
+mod calls;
 mod code;
 mod fault;
 mod firings;
 mod functions;
 pub mod laws;
+mod made;
+mod order;
 mod procedures;
 mod routines;
 mod sends;

@@ -1,34 +1,28 @@
-use Rattle.std.proofs.Common.{◌≡◌, List, None, subst, sym}
-use Rattle.std.proofs.lemmas.Result.{on_ok_weaker}
+use Rattle.std.proofs.Common.{◌<◌, Bool, List, subst, sym}
 use Rattle.cal_model.specs.Actor.{Fun}
 use Rattle.cal_model.specs.View.{actor_of, fun_view}
-use Rattle.lower_base.specs.Names.{Name, names_view}
+use Rattle.lower_base.specs.Names.{Name}
 use Rattle.lower_base.specs.Callees.{functions_view}
-use Rattle.lower_base.specs.Routining.{left_out_fun}
 use Rattle.action_lower.specs.FiringCode.{globals_of}
-use Rattle.lower_actor.specs.Drafted.{AddsFunction, FunctionsSoFar}
-use Rattle.lower_actor.proofs.Chosen.{function-taken, taken-is}
+use Rattle.lower_actor.specs.Calls.{unmade}
+use Rattle.lower_actor.specs.Drafted.{AddsFunction}
+use Rattle.lower_actor.proofs.Chosen.{fewer-unmade, function-taken, item-is, marked-low}
 use Rattle.lower_actor.proofs.functions.lower_at.Goals as goal
 
 pub returns-clause-so_far : goal.returns-clause-so_far
 returns-clause-so_far c =
-    let whole = c.requires.whole in
+    let at = c.requires.ready.at in
     let actor = actor_of c.args.b.now in
-    on_ok_weaker c.add_function.result
-    (λ added.
-    let named : AddsFunction (globals_of actor) (fun_view c.index.result.now) (functions_view c.args.callees.now.items) (functions_view c.add_function.new.callees.items) c.args.draft.now c.add_function.new.draft =
-    subst (λ (names : List Name). AddsFunction names (fun_view c.index.result.now) (functions_view c.args.callees.now.items) (functions_view c.add_function.new.callees.items) c.args.draft.now c.add_function.new.draft) c.requires.names added in
-    let one : AddsFunction (globals_of actor) whole.at.function (functions_view c.args.callees.now.items) (functions_view c.add_function.new.callees.items) c.args.draft.now c.add_function.new.draft =
-    subst (λ (x : Fun). AddsFunction (globals_of actor) x (functions_view c.args.callees.now.items) (functions_view c.add_function.new.callees.items) c.args.draft.now c.add_function.new.draft) (taken-is fun_view c.args.b.now.funs.items c.args.left.now.items c.args.place c.requires.whole.number c.remove-k.result c.index.result.now c.requires.whole.at.function c.remove-k.ensures.value c.requires.whole.is c.requires.whole.at.there c.index.ensures) named in
-    subst (λ left. FunctionsSoFar actor (functions_view c.add_function.new.callees.items) left c.add_function.new.draft) (sym c.remove-k.ensures.items)
-    (function-taken actor c.requires.sound (functions_view c.args.callees.now.items) (functions_view c.add_function.new.callees.items) c.args.left.now.items c.args.place whole.number whole.at.function c.args.draft.now c.add_function.new.draft c.requires.so_far
-    whole.is whole.at.there whole.at.whole one))
-    c.add_function.ensures.added
+    let before = functions_view c.args.callees.now.items in
+    let now = functions_view c.add_function.new.callees.items in
+    let named : AddsFunction (globals_of actor) (fun_view c.index.result.now) before now c.args.draft.now c.add_function.new.draft =
+    subst (λ (names : List Name). AddsFunction names (fun_view c.index.result.now) before now c.args.draft.now c.add_function.new.draft) c.requires.names c.in_ok-add_function.ensures.added in
+    let one : AddsFunction (globals_of actor) at.function before now c.args.draft.now c.add_function.new.draft =
+    subst (λ (x : Fun). AddsFunction (globals_of actor) x before now c.args.draft.now c.add_function.new.draft) (item-is fun_view c.args.b.now.funs.items c.args.k c.index.result.now at.function at.there c.index.ensures) named in
+    function-taken actor c.requires.sound before now c.args.made.now.items c.mark.new.made.items c.args.k at.function c.args.draft.now c.add_function.new.draft c.requires.so_far c.mark.ensures at.there at.whole one
 
-pub add_function-requires : goal.add_function-requires
-add_function-requires c = record {
-  whole =
-      subst (λ x. left_out_fun (functions_view c.args.callees.now.items) (names_view c.args.names.now) x ≡ None)
-      (sym (taken-is fun_view c.args.b.now.funs.items c.args.left.now.items c.args.place c.requires.whole.number c.remove-k.result c.index.result.now c.requires.whole.at.function c.remove-k.ensures.value c.requires.whole.is c.requires.whole.at.there c.index.ensures))
-      (subst (λ (names : List Name). left_out_fun (functions_view c.args.callees.now.items) names c.requires.whole.at.function ≡ None) (sym c.requires.names) c.requires.whole.at.whole);
-}
+pub returns-clause-fewer : goal.returns-clause-fewer
+returns-clause-fewer c =
+    let at = c.requires.ready.at in
+    subst (λ (bs : List Bool). unmade bs < unmade c.args.made.now.items) (sym c.mark.ensures)
+    (fewer-unmade c.args.made.now.items c.args.k (marked-low (actor_of c.args.b.now).funs c.args.made.now.items c.args.k at.function at.there c.requires.so_far.known.count) c.requires.ready.not_yet)
