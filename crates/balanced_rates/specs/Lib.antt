@@ -1,0 +1,4 @@
+pub mod Balance
+pub mod Fault
+pub mod Fraction
+pub mod Split
