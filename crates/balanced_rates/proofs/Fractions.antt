@@ -29,22 +29,31 @@ lowest_of_whole x y whole x_some y_some e = record {
   multiples = λ t u h. (t, omega arith, let times : x * t ≡ y * whole * t = ap (λ z. z * t) e in let both : y * (whole * t) ≡ y * u = omega arith in let is : whole * t ≡ u = cancels y (whole * t) u y_some both in omega arith);
 }
 
+rest_is_even : (x y whole rest t u left : ℕ) → x ≡ y * whole + rest → u ≡ whole * t + left → x * t ≡ y * u → y * left ≡ rest * t
+rest_is_even x y whole rest t u left e u_is h =
+    let times : x * t ≡ (y * whole + rest) * t = ap (λ z. z * t) e in
+    let both : y * u ≡ y * (whole * t + left) = ap (λ z. y * z) u_is in
+    omega arith
+
+rest_is_multiple : (whole p q t u left s : ℕ) → u ≡ whole * t + left → left ≡ s * q → t ≡ s * p → u ≡ s * (whole * p + q)
+rest_is_multiple whole p q t u left s u_is left_is t_is =
+    let many : whole * t ≡ whole * (s * p) = ap (λ z. whole * z) t_is in omega arith
+
+rest_multiples : (x y whole rest p q t u : ℕ) → 0 < y → x ≡ y * whole + rest → IsLowest y rest p q → x * t ≡ y * u → (left : ℕ) × (u ≡ whole * t + left)
+rest_multiples x y whole rest p q t u y_some e inner h =
+    let times : x * t ≡ (y * whole + rest) * t = ap (λ z. z * t) e in
+    let within : whole * t ≤ u = cancels_le y (whole * t) u y_some (omega arith) in
+    (u - whole * t, omega arith)
+
 pub lowest_of_rest : (x y whole rest p q : ℕ) → 0 < y → x ≡ y * whole + rest → IsLowest y rest p q → IsLowest x y (whole * p + q) p
 lowest_of_rest x y whole rest p q y_some e inner = record {
   over = let p_some = inner.over in let q_some = inner.under in omega arith;
   under = inner.over;
   same = let times : x * p ≡ (y * whole + rest) * p = ap (λ z. z * p) e in let known = inner.same in omega arith;
-  multiples = λ t u h. (
-      let times : x * t ≡ (y * whole + rest) * t = ap (λ z. z * t) e in
-      let within : whole * t ≤ u = cancels_le y (whole * t) u y_some (omega arith) in
-      let left = u - whole * t in
-      let u_is : u ≡ whole * t + left = omega arith in
-      let both : y * u ≡ y * (whole * t + left) = ap (λ z. y * z) u_is in
-      let found : (s : ℕ) × (left ≡ s * q) × (t ≡ s * p) = inner.multiples left t (omega arith) in
-      let many : whole * t ≡ whole * (found.0 * p) = ap (λ z. whole * z) found.2 in
-      let left_is : left ≡ found.0 * q = found.1 in
-      (found.0, found.2, omega arith)
-      );
+  multiples = λ t u h.
+      let left = rest_multiples x y whole rest p q t u y_some e inner h in
+      let found = inner.multiples left.0 t (rest_is_even x y whole rest t u left.0 e left.1 h) in
+      (found.0, found.2, rest_is_multiple whole p q t u left.0 found.0 left.1 found.1 found.2);
 }
 
 -- its numbers are no greater than those that it is made of

@@ -66,6 +66,16 @@ split_more n links link parts firings split among balanced inside = record {
   multiples = λ others h. split.multiples others (balances_before n links link others h);
 }
 
+-- factors of which that of one part is replaced
+abbrev replaced : ℕ → ℕ → (ℕ → ℕ) → ℕ → ℕ
+replaced a factor factors c = if nat_eq c a then factor else factors c
+
+replaced_at : (a factor : ℕ) (factors : ℕ → ℕ) (c : ℕ) → c ≡ a → replaced a factor factors c ≡ factor
+replaced_at a factor factors c e = rw (eq-eqb c a e) refl
+
+replaced_elsewhere : (a factor : ℕ) (factors : ℕ → ℕ) (c : ℕ) → c ≢ a → replaced a factor factors c ≡ factors c
+replaced_elsewhere a factor factors c other = rw (ne_eqb c a other) refl
+
 -- ---- a link that joins two parts
 pub record IsJoined (n : ℕ) (link : RatedLink) (parts firings parts' firings' : ℕ → ℕ) (p q : ℕ) : Type 0 where
   pub among : IsAmong n link
@@ -132,36 +142,41 @@ module _ (n : ℕ) (link : RatedLink) (parts firings parts' firings' : ℕ → �
   pub now_inside : IsInside parts' link
   now_inside gives = part_of_others link.writer joined.among.0 joined.apart ∙ sym (part_of_second link.reader joined.among.1 refl)
 
+  -- the new factor of a leaf in the first part, in the second one and elsewhere
+  multiple_in_first : (others factors : ℕ → ℕ) (s k : ℕ) → k < n → others k ≡ factors (parts k) * firings k → factors (parts link.writer) ≡ s * q → parts k ≡ parts link.writer → others k ≡ replaced (parts link.writer) s factors (parts' k) * firings' k
+  multiple_in_first others factors s k inside multiple is e =
+      let part : parts' k ≡ parts link.writer = part_of_others k inside (λ e'. joined.apart (sym e ∙ e')) ∙ e in
+      let old : others k ≡ s * q * firings k = multiple ∙ (ap (λ c. factors c * firings k) e ∙ ap (λ z. z * firings k) is) in
+      let new : replaced (parts link.writer) s factors (parts' k) * firings' k ≡ s * (q * firings k) = ap (λ z. z * firings' k) (replaced_at (parts link.writer) s factors (parts' k) part) ∙ ap (λ z. s * z) (in_first k inside e) in
+      omega arith
+
+  multiple_in_second : (others factors : ℕ → ℕ) (s k : ℕ) → k < n → others k ≡ factors (parts k) * firings k → factors (parts link.reader) ≡ s * p → parts k ≡ parts link.reader → others k ≡ replaced (parts link.writer) s factors (parts' k) * firings' k
+  multiple_in_second others factors s k inside multiple is e =
+      let part : parts' k ≡ parts link.writer = part_of_second k inside e in
+      let old : others k ≡ s * p * firings k = multiple ∙ (ap (λ c. factors c * firings k) e ∙ ap (λ z. z * firings k) is) in
+      let new : replaced (parts link.writer) s factors (parts' k) * firings' k ≡ s * (p * firings k) = ap (λ z. z * firings' k) (replaced_at (parts link.writer) s factors (parts' k) part) ∙ ap (λ z. s * z) (in_second k inside e) in
+      omega arith
+
+  multiple_elsewhere : (others factors : ℕ → ℕ) (s k : ℕ) → k < n → others k ≡ factors (parts k) * firings k → parts k ≢ parts link.writer → parts k ≢ parts link.reader → others k ≡ replaced (parts link.writer) s factors (parts' k) * firings' k
+  multiple_elsewhere others factors s k inside multiple other other' =
+      let part : parts' k ≡ parts k = part_of_others k inside other' in
+      let factor : replaced (parts link.writer) s factors (parts' k) ≡ factors (parts k) = ap (λ c. replaced (parts link.writer) s factors c) part ∙ replaced_elsewhere (parts link.writer) s factors (parts k) other in
+      multiple ∙ (ap (λ z. z * firings k) (sym factor) ∙ ap (λ z. replaced (parts link.writer) s factors (parts' k) * z) (sym (elsewhere k inside other other')))
+
+  -- the factors of both parts come from one number
+  one_factor : (others factors : ℕ → ℕ) → ((k : ℕ) → k < n → others k ≡ factors (parts k) * firings k) → IsBalanced others link → (s : ℕ) × (factors (parts link.writer) ≡ s * q) × (factors (parts link.reader) ≡ s * p)
+  one_factor others factors multiple balanced =
+      let given : link.give * others link.writer ≡ link.give * (factors (parts link.writer) * firings link.writer) = ap (λ z. link.give * z) (multiple link.writer joined.among.0) in
+      let needed : link.need * others link.reader ≡ link.need * (factors (parts link.reader) * firings link.reader) = ap (λ z. link.need * z) (multiple link.reader joined.among.1) in
+      joined.lowest.multiples (factors (parts link.writer)) (factors (parts link.reader)) (omega (arith, balanced))
+
   pub now_multiple : (others factors : ℕ → ℕ) → ((k : ℕ) → k < n → others k ≡ factors (parts k) * firings k) → IsBalanced others link → (factors' : ℕ → ℕ) × ((k : ℕ) → k < n → others k ≡ factors' (parts' k) * firings' k)
   now_multiple others factors multiple balanced =
-      let writes : others link.writer ≡ factors (parts link.writer) * firings link.writer = multiple link.writer joined.among.0 in
-      let reads : others link.reader ≡ factors (parts link.reader) * firings link.reader = multiple link.reader joined.among.1 in
-      let given : link.give * others link.writer ≡ link.give * (factors (parts link.writer) * firings link.writer) = ap (λ z. link.give * z) writes in
-      let needed : link.need * others link.reader ≡ link.need * (factors (parts link.reader) * firings link.reader) = ap (λ z. link.need * z) reads in
-      let even : link.give * firings link.writer * factors (parts link.writer) ≡ link.need * firings link.reader * factors (parts link.reader) = omega (arith, balanced) in
-      let found : (s : ℕ) × (factors (parts link.writer) ≡ s * q) × (factors (parts link.reader) ≡ s * p) = joined.lowest.multiples (factors (parts link.writer)) (factors (parts link.reader)) even in
-      let s = found.0 in
-      let factors' : ℕ → ℕ = λ c. if nat_eq c (parts link.writer) then s else factors c in
-      let at_first : (c : ℕ) → c ≡ parts link.writer → factors' c ≡ s = λ c e. rw (eq-eqb c (parts link.writer) e) refl in
-      let at_others : (c : ℕ) → c ≢ parts link.writer → factors' c ≡ factors c = λ c other. rw (ne_eqb c (parts link.writer) other) refl in (
-        factors',
-        λ k inside.
-            ⊎_elim (λ (e : parts k ≡ parts link.writer).
-            let part : parts' k ≡ parts link.writer = part_of_others k inside (λ e'. joined.apart (sym e ∙ e')) ∙ e in
-            let old : others k ≡ s * q * firings k = multiple k inside ∙ (ap (λ c. factors c * firings k) e ∙ ap (λ z. z * firings k) found.1) in
-            let new : factors' (parts' k) * firings' k ≡ s * (q * firings k) = ap (λ z. z * firings' k) (at_first (parts' k) part) ∙ ap (λ z. s * z) (in_first k inside e) in
-            omega arith)
-            (λ (other : parts k ≢ parts link.writer). ⊎_elim
-            (λ (e : parts k ≡ parts link.reader).
-            let part : parts' k ≡ parts link.writer = part_of_second k inside e in
-            let old : others k ≡ s * p * firings k = multiple k inside ∙ (ap (λ c. factors c * firings k) e ∙ ap (λ z. z * firings k) found.2) in
-            let new : factors' (parts' k) * firings' k ≡ s * (p * firings k) = ap (λ z. z * firings' k) (at_first (parts' k) part) ∙ ap (λ z. s * z) (in_second k inside e) in
-            omega arith)
-            (λ (other' : parts k ≢ parts link.reader).
-            let part : parts' k ≡ parts k = part_of_others k inside other' in
-            let factor : factors' (parts' k) ≡ factors (parts k) = ap factors' part ∙ at_others (parts k) other in
-            multiple k inside ∙ (ap (λ z. z * firings k) (sym factor) ∙ ap (λ z. factors' (parts' k) * z) (sym (elsewhere k inside other other'))))
-            (cases_eq (parts k) (parts link.reader)))
+      let found = one_factor others factors multiple balanced in (
+        replaced (parts link.writer) found.0 factors,
+        λ k inside. ⊎_elim (multiple_in_first others factors found.0 k inside (multiple k inside) found.1)
+            (λ other. ⊎_elim (multiple_in_second others factors found.0 k inside (multiple k inside) found.2)
+            (multiple_elsewhere others factors found.0 k inside (multiple k inside) other) (cases_eq (parts k) (parts link.reader)))
             (cases_eq (parts k) (parts link.writer)),
       )
 
