@@ -1,7 +1,7 @@
 -- What is known once a link more was looked at.
 use Rattle.std.proofs.Common.{◌≡◌, ◌≢◌, ℕ, ◌+◌, ◌*◌, ◌<◌, ◌≤◌, List, [], ◌∷◌, ◌++◌, length, get_or, take, refl, subst, ⊎_elim, inl, inr, nat_eq}
-use Rattle.std.specs.Prelude.{All, if◌then◌else◌}
-use Rattle.std.proofs.lemmas.List.{take_more, take_all}
+use Rattle.std.specs.Prelude.{if◌then◌else◌}
+use Rattle.std.proofs.lemmas.List.{take_more}
 use Rattle.balanced_rates.specs.declared.link.RatedLink.{RatedLink}
 use Rattle.balanced_rates.specs.declared.split.Outcome.{Outcome}
 use Rattle.balanced_rates.specs.declared.split.Outcome.TheVariants.{Balanced, Contrary, Long}

@@ -1,5 +1,5 @@
 -- Leaves split into parts that links join.
-use Rattle.std.specs.Prelude.{◌≡◌, ◌≢◌, ℕ, ◌+◌, ◌*◌, ◌<◌, ◌≤◌, List, [], ◌∷◌, ◌++◌, All, slice_index, if◌then◌else◌, nat_eq}
+use Rattle.std.specs.Prelude.{◌≡◌, ◌≢◌, ℕ, ◌*◌, ◌<◌, ◌≤◌, List, All, slice_index, if◌then◌else◌, nat_eq}
 use Rattle.balanced_rates.specs.declared.link.RatedLink.{RatedLink}
 use Rattle.balanced_rates.specs.declared.split.Outcome.{Outcome}
 use Rattle.balanced_rates.specs.declared.split.Outcome.TheVariants.{Balanced, Contrary, Long}

@@ -12,4 +12,4 @@ mod split;
 mod vector;
 
 pub use link::RatedLink;
-pub use vector::{BalanceFault, repetition};
+pub use vector::{BalanceFault, are_among, repetition};

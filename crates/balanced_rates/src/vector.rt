@@ -1,6 +1,6 @@
 //! The repetition vector.
 
-ghost use Rattle.std.specs.Prelude.{◌≡◌, ◌<◌, ℕ, [], All, length, IfOk, IfErr, MatchOption};
+ghost use Rattle.std.specs.Prelude.{◌≡◌, ◌<◌, ◌↔◌, ℕ, [], All, length, IfOk, IfErr, IsTrue, MatchOption};
 ghost use Rattle.balanced_rates.specs.Balance.{IsAmong, IsLeast, IsFirstFault, IsMultipleFrom, Balances};
 ghost use Rattle.balanced_rates.specs.Fault.{IsCause};
 ghost use Rattle.balanced_rates.specs.Split.{at, IsSplit};
@@ -29,6 +29,18 @@ impl From<AllocError> for BalanceFault {
     fn from(_refused: AllocError) -> BalanceFault {
         BalanceFault::Memory
     }
+}
+
+/// Whether the ends of each link are among the first `leaves` leaves.
+pub fn are_among(links: &[RatedLink], leaves: usize) -> bool
+    ensures { IsTrue result ↔ All (IsAmong leaves) links.now }
+{
+    for link in links {
+        if link.writer as usize >= leaves || link.reader as usize >= leaves {
+            return false;
+        }
+    }
+    true
 }
 
 /// How often each of `leaves` leaves fires in one period: the least vector that balances each link. A period has

@@ -1,14 +1,16 @@
 //! Rows of orders, automata, queues, plans of rounds, boards, and the test of code.
 //!
-//! Rows of the parts that runs are made of: orders, automata, queues of tokens, plans of rounds, boards, and the test
-//! of code, over the public calls of `priority_order`, `schedule_fsm`, `token_ring`, `round_plan`, `claim_board` and
-//! `code_ir`.
+//! Rows of the parts that runs are made of: orders, automata, queues of tokens, plans of rounds, boards, the test
+//! of code, and repetition vectors, over the public calls of `priority_order`, `schedule_fsm`, `token_ring`, `round_plan`, `claim_board`,
+//! `code_ir` and `balanced_rates`.
 //!
 //! Tests that stand beside a crate make it be proved twice.
 #![tactic(auto)]
 
 #[cfg(test)]
 mod automata;
+#[cfg(test)]
+mod balances;
 #[cfg(test)]
 mod boards;
 #[cfg(test)]

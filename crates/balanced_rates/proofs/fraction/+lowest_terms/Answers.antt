@@ -1,7 +1,6 @@
-use Rattle.std.proofs.Common.{◌≡◌, ◌*◌, ◌+◌, ◌≤◌, ◌/◌, ◌%◌, arith}
+use Rattle.std.proofs.Common.{◌*◌, ◌+◌, ◌≤◌, ◌/◌, ◌%◌, arith}
 use Rattle.balanced_rates.specs.Fraction.{IsLowest}
 use Rattle.balanced_rates.proofs.Fractions.{lowest_of_whole, lowest_of_rest, lowest_is_within}
-use Rattle.balanced_rates.proofs.Parts.{split_joined}
 use Rattle.balanced_rates.proofs.fraction.+lowest_terms.Goals as goal
 
 pub returns-then-rest-eq0 : goal.returns-then-rest-eq0

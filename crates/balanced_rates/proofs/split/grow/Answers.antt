@@ -1,4 +1,4 @@
-use Rattle.std.proofs.Common.{◌≡◌, ℕ, ◌+◌, ◌*◌, ◌<◌, ◌≤◌, ◌≢◌, length, set, ap₂, ◌∙◌, sym, rules, arith, below_more, get_or-set_same, get_or-set_other, mul_comm}
+use Rattle.std.proofs.Common.{◌≡◌, ℕ, ◌+◌, ◌*◌, ◌<◌, ◌≤◌, ◌≢◌, length, ap₂, ◌∙◌, rules, arith, below_more, get_or-set_same, get_or-set_other, mul_comm}
 use Rattle.balanced_rates.specs.Balance.{total}
 use Rattle.balanced_rates.specs.Split.{at, growth, grown}
 use Rattle.balanced_rates.proofs.Parts.{total_more, total_onward, total_same}

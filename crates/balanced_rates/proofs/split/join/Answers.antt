@@ -1,4 +1,4 @@
-use Rattle.std.proofs.Common.{◌≡◌, ◌*◌, ◌≤◌, length, subst₂, arith}
+use Rattle.std.proofs.Common.{◌*◌, ◌≤◌, length, subst₂, arith}
 use Rattle.balanced_rates.specs.Balance.{total}
 use Rattle.balanced_rates.specs.Fraction.{IsLowest}
 use Rattle.balanced_rates.specs.Split.{at}

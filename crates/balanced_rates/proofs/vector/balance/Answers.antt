@@ -1,4 +1,4 @@
-use Rattle.std.proofs.Common.{◌≡◌, ℕ, ◌+◌, ◌≤◌, List, length, take, sym, subst, below_more, arith}
+use Rattle.std.proofs.Common.{◌≡◌, ◌+◌, ◌≤◌, length, take, sym, subst, below_more, arith}
 use Rattle.std.proofs.lemmas.List.{take_all}
 use Rattle.balanced_rates.specs.declared.link.RatedLink.{RatedLink}
 use Rattle.balanced_rates.specs.Balance.{IsContrary, IsLong, total}

@@ -1,4 +1,4 @@
-use Rattle.std.proofs.Common.{◌≡◌, ℕ, ◌<◌, List, [], length, drop, replicate, ap, ◌∙◌, subst, subst₂, rules, arith}
+use Rattle.std.proofs.Common.{◌≡◌, ℕ, length, drop, replicate, ap, ◌∙◌, subst, arith}
 use Rattle.std.proofs.lemmas.List.{take_at, get_or-replicate}
 use Rattle.balanced_rates.specs.Balance.{IsFirstFault}
 use Rattle.balanced_rates.specs.Fault.{IsCause}
