@@ -1,0 +1,6 @@
+use Rattle.std.proofs.Common.{◌≢◌, ℕ, ◌<◌}
+use Rattle.balanced_rates.specs.Split.{at}
+use Rattle.period_order.proofs.board.least_ready.Given as goal
+
+abbrev pub invariant-loop-leaf : goal.invariant-loop-leaf
+invariant-loop-leaf l = (other : ℕ) → other < l.leaf → 0 < at l.left other → at l.unmet other ≢ 0

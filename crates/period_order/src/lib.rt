@@ -1,0 +1,14 @@
+//! The order in which leaves of fixed rates fire in one period, and the most tokens that wait on each link.
+//!
+//! Links lie between leaves and are given by their rates, and nothing lies on a link at first. A leaf may take its
+//! turn if it finds on each link to it as many tokens as it needs, and what it gives lies on its links from then on
+//! (Lee and Messerschmitt, "Synchronous Data Flow", 1987). [`find_period`] lets the least leaf that may take its turn do
+//! so, until each has had its turns. If that comes to a stop before, no order of these turns is possible.
+#![tactic(auto)]
+
+mod board;
+mod order;
+mod setup;
+mod turn;
+
+pub use order::{Period, PeriodFault, find_period};
