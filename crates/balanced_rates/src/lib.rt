@@ -7,9 +7,11 @@
 #![tactic(auto)]
 
 mod fraction;
+mod laws;
 mod link;
 mod split;
 mod vector;
 
+pub use laws::{balance_is_linear, one_repetition_vector};
 pub use link::RatedLink;
 pub use vector::{BalanceFault, are_among, repetition};

@@ -276,3 +276,30 @@ blocked_of_played n links firings order left unmet tokens peaks among played non
       },
       λ period is. no_period n links firings order among none period is leaf leaf_in fewer,
     )
+
+-- ---- least first
+-- no leaf takes more turns than it is to
+turns_within : (n : ℕ) (links : List RatedLink) (firings : ℕ → ℕ) (order : List ℕ) → IsLeastFirst n links firings order → (p : ℕ) → p ≤ length order → (leaf : ℕ) → turns leaf (take p order) ≤ firings leaf
+turns_within n links firings order least_first zero within leaf = omega arith
+turns_within n links firings order least_first (suc p) within leaf =
+    let inside : p < length order = omega (arith, within) in
+    let step : take (suc p) order ≡ take p order ++ get_or order p 0 ∷ [] = rw (← add-one) (take_more order p 0 inside) in
+    let before : turns leaf (take p order) ≤ firings leaf = turns_within n links firings order least_first p (omega (arith, inside)) leaf in
+    ⊎_elim (λ (it : leaf ≡ get_or order p 0).
+    let more : turns leaf (take (suc p) order) ≡ turns leaf (take p order) + 1 = ap (λ ls. turns leaf ls) step ∙ subst (λ j. turns j (take p order ++ get_or order p 0 ∷ []) ≡ turns j (take p order) + 1) (sym it) (turns_of_it (get_or order p 0) (take p order)) in
+    let left : turns leaf (take p order) < firings leaf = subst (λ j. turns j (take p order) < firings j) (sym it) (least_first p inside).may.left in
+    omega arith)
+    (λ (apart : leaf ≢ get_or order p 0).
+    let same : turns leaf (take (suc p) order) ≡ turns leaf (take p order) = ap (λ ls. turns leaf ls) step ∙ turns_of_other leaf (get_or order p 0) (take p order) apart in
+    omega arith) (cases_eq leaf (get_or order p 0))
+
+pub least_first_is_period : (n : ℕ) (links : List RatedLink) (firings : ℕ → ℕ) (order period : List ℕ) → All (IsAmong n) links → IsLeastFirst n links firings order → ((leaf : ℕ) → ¬ MayFire n links firings order leaf) → IsPeriod n links firings period → IsPeriod n links firings order
+least_first_is_period n links firings order period among least_first none is = record {
+  among = λ p d inside. subst (λ k. k < n) (get_or_default order p 0 d inside) (least_first p inside).may.among;
+  finds = λ p inside. (least_first p inside).may.finds;
+  counts = λ leaf leaf_in.
+      let whole : turns leaf (take (length order) order) ≡ turns leaf order = ap (λ ls. turns leaf ls) (take_all (length order) order (omega arith)) in
+      let within : turns leaf (take (length order) order) ≤ firings leaf = turns_within n links firings order least_first (length order) (omega arith) leaf in
+      ⊎_elim (λ (less : turns leaf order < firings leaf). absurd (no_period n links firings order among none period is leaf leaf_in less))
+      (λ (over : firings leaf ≤ turns leaf order). omega (arith, over)) (cases_lt (turns leaf order) (firings leaf));
+}

@@ -1,3 +1,4 @@
 pub mod Board
 pub mod Fault
+pub mod Laws
 pub mod Turns

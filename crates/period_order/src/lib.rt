@@ -7,8 +7,10 @@
 #![tactic(auto)]
 
 mod board;
+mod laws;
 mod order;
 mod setup;
 mod turn;
 
+pub use laws::{least_first_suffices, periods_empty_their_links};
 pub use order::{Period, PeriodFault, find_period};

@@ -41,7 +41,10 @@ const ROWS: &[(usize, &[(u32, u32, u32, u32)], &str)] = &[
 ];
 
 /// Links of those numbers.
-fn links_of(alloc: Global, numbers: &[(u32, u32, u32, u32)]) -> Result<Vec<RatedLink>, AllocError> {
+pub(crate) fn links_of(
+    alloc: Global,
+    numbers: &[(u32, u32, u32, u32)],
+) -> Result<Vec<RatedLink>, AllocError> {
     let mut links = Vec::new(alloc);
     for &(writer, reader, give, need) in numbers {
         links.push(RatedLink {

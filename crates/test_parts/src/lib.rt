@@ -1,8 +1,8 @@
-//! Rows of orders, automata, queues, plans of rounds, boards, and the test of code.
+//! Rows of orders, automata, queues, plans of rounds, boards, the test of code, and periods.
 //!
 //! Rows of the parts that runs are made of: orders, automata, queues of tokens, plans of rounds, boards, the test
-//! of code, and repetition vectors, over the public calls of `priority_order`, `schedule_fsm`, `token_ring`, `round_plan`, `claim_board`,
-//! `code_ir` and `balanced_rates`.
+//! of code, repetition vectors and periods, over the public calls of `priority_order`, `schedule_fsm`, `token_ring`,
+//! `round_plan`, `claim_board`, `code_ir`, `balanced_rates` and `period_order`.
 //!
 //! Tests that stand beside a crate make it be proved twice.
 #![tactic(auto)]
@@ -17,6 +17,8 @@ mod boards;
 mod codes;
 #[cfg(test)]
 mod orders;
+#[cfg(test)]
+mod periods;
 #[cfg(test)]
 mod rings;
 #[cfg(test)]
