@@ -2,7 +2,7 @@
 -- Trusted: part of what a promise means.
 use Rattle.std.specs.Prelude.{◌≡◌, ℕ, ◌+◌, ◌*◌, ◌<◌, List}
 use Rattle.balanced_rates.specs.declared.link.RatedLink.{RatedLink}
-use Rattle.balanced_rates.specs.Balance.{IsBalanced, Balances, IsLeast}
+use Rattle.balanced_rates.specs.Balance.{IsBalanced, IsLeast}
 
 -- two least vectors are one
 abbrev pub LeastIsOne : Type 0

@@ -1,15 +1,15 @@
 -- Tokens that move on the links of a leaf.
-use Rattle.std.proofs.Common.{◌≡◌, ◌≢◌, ◌⊎◌, ℕ, zero, suc, ◌+◌, ◌<◌, ◌≤◌, List, [], ◌∷◌, ◌++◌, length, get_or, max, refl, sym, ap, ◌∙◌, subst, inl, inr, ⊎_elim, arith, nat_eq, ne_eqb, set, add-one, get_or-set_same, get_or-set_other}
+use Rattle.std.proofs.Common.{◌≡◌, ◌≢◌, ◌⊎◌, ℕ, zero, suc, ◌+◌, ◌<◌, ◌≤◌, List, [], ◌∷◌, ◌++◌, length, get_or, max, refl, sym, ap, ◌∙◌, subst, inl, inr, ⊎_elim, arith, ne_eqb, set, add-one, get_or-set_same, get_or-set_other}
 use Rattle.std.specs.Prelude.{All, AllPairs, Contains}
 use Rattle.std.proofs.lemmas.Bool.{cases_eq, cases_lt}
 use Rattle.std.proofs.lemmas.List.{get_or_default, get_or_append_left, get_or_push}
-use Rattle.std.proofs.lemmas.List.Elements.{All-push, All-nil, Contains-push, Contains-append_left, All-contains}
+use Rattle.std.proofs.lemmas.List.Elements.{All-push, All-nil, Contains-push, Contains-append_left}
 use Rattle.std.proofs.lemmas.List.Quantifiers.{all_pairs_push}
 use Rattle.balanced_rates.specs.declared.link.RatedLink.{RatedLink}
 use Rattle.balanced_rates.specs.Balance.{total}
 use Rattle.balanced_rates.specs.Split.{at}
-use Rattle.period_order.specs.Board.{link_at, lacks, lacking, gives, takes, moved, IsTouching, AreTouching}
-use Rattle.period_order.proofs.Sums.{sum_changed, sum_same}
+use Rattle.period_order.specs.Board.{link_at, lacks, lacking, moved, IsTouching, AreTouching}
+use Rattle.period_order.proofs.Sums.{sum_changed}
 use Rattle.period_order.proofs.Taking.{lacks_none}
 
 -- ---- rows of links

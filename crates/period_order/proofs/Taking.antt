@@ -1,13 +1,12 @@
 -- Turns and the tokens that they leave.
-use Rattle.std.proofs.Common.{◌≡◌, ◌≢◌, ℕ, zero, suc, ◌+◌, ◌-◌, ◌*◌, ◌<◌, ◌≤◌, List, [], ◌∷◌, ◌++◌, length, get_or, take, drop, max, cond, refl, sym, ap, ◌∙◌, subst, ⊎_elim, arith, nat_eq, nat_lt, eq-eqb, ne_eqb, lt-ltb, le-ltb, add-one, length-append, take-append-drop}
-use Rattle.std.specs.Prelude.{All, if◌then◌else◌, sum_by}
+use Rattle.std.proofs.Common.{◌≡◌, ◌≢◌, ℕ, zero, suc, ◌+◌, ◌-◌, ◌*◌, ◌<◌, ◌≤◌, List, [], ◌∷◌, ◌++◌, length, get_or, take, drop, max, cond, refl, sym, ap, ◌∙◌, subst, ⊎_elim, arith, nat_eq, eq-eqb, ne_eqb, lt-ltb, le-ltb, add-one, length-append, take-append-drop}
+use Rattle.std.specs.Prelude.{All}
 use Rattle.std.proofs.Math.Nat.{mul-le-mul_left}
 use Rattle.std.proofs.lemmas.Bool.{cases_eq, cases_lt}
 use Rattle.std.proofs.lemmas.List.{get_or_append_left, get_or_push, get_or_default, take_more, take_all, take_at, take-append-le}
-use Rattle.std.proofs.lemmas.List.Elements.{All-push}
 use Rattle.std.proofs.lemmas.List.Sums.{sum_by_push, sum_by-append}
 use Rattle.balanced_rates.specs.declared.link.RatedLink.{RatedLink}
-use Rattle.balanced_rates.specs.Balance.{IsAmong, total}
+use Rattle.balanced_rates.specs.Balance.{IsAmong}
 use Rattle.period_order.specs.Turns.{turns, given, taken, waiting, Finds, IsPeriod, MayFire, IsNext, IsLeastFirst, IsBlocked, IsPeak}
 use Rattle.period_order.specs.Board.{link_at, lacks, lacking, gives, takes, moved, IsPlayed}
 use Rattle.period_order.proofs.Sums.{term_within_sum, sum_is_zero}

@@ -1,8 +1,7 @@
 -- What is kept while turns are taken.
-use Rattle.std.specs.Prelude.{◌≡◌, ◌⊎◌, ℕ, ◌+◌, ◌-◌, ◌<◌, ◌≤◌, List, length, All, AllPairs, Contains, ◌≢◌, [], slice_index, slice_index_or, if◌then◌else◌, nat_eq, nat_lt, ◌&&◌}
+use Rattle.std.specs.Prelude.{◌≡◌, ◌⊎◌, ℕ, ◌+◌, ◌-◌, ◌<◌, List, length, All, AllPairs, Contains, ◌≢◌, [], slice_index_or, if◌then◌else◌, nat_eq, nat_lt}
 use Rattle.balanced_rates.specs.declared.link.RatedLink.{RatedLink}
 use Rattle.balanced_rates.specs.Balance.{total}
-use Rattle.balanced_rates.specs.Split.{at}
 use Rattle.period_order.specs.Turns.{turns, given, taken, IsLeastFirst, IsPeak}
 
 -- a link by its number

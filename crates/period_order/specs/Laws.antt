@@ -1,6 +1,6 @@
 -- What holds of all periods.
 -- Trusted: part of what a promise means.
-use Rattle.std.specs.Prelude.{◌≡◌, ℕ, List, All, Contains}
+use Rattle.std.specs.Prelude.{◌≡◌, ℕ, List, All}
 use Rattle.balanced_rates.specs.declared.link.RatedLink.{RatedLink}
 use Rattle.balanced_rates.specs.Balance.{IsAmong, IsBalanced}
 use Rattle.period_order.specs.Turns.{waiting, given, taken, IsPeriod, MayFire, IsLeastFirst}

@@ -1,4 +1,4 @@
-use Rattle.std.proofs.Common.{◌≡◌, ◌≢◌, ℕ, ◌+◌, ◌-◌, ◌<◌, ◌≤◌, List, length, set, sym, ◌∙◌, subst, arith, get_or-set_same, get_or-set_other}
+use Rattle.std.proofs.Common.{◌≡◌, ℕ, ◌-◌, ◌<◌, List, length, set, sym, ◌∙◌, subst, arith, get_or-set_same, get_or-set_other}
 use Rattle.balanced_rates.specs.Split.{at}
 use Rattle.period_order.specs.Board.{IsPlayed}
 use Rattle.period_order.proofs.Sums.{sum_falls}

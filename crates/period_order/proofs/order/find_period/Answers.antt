@@ -1,8 +1,8 @@
-use Rattle.std.proofs.Common.{◌≡◌, ℕ, ◌<◌, List, [], ◌++◌, length, map, take, drop, refl, sym, ap, ◌∙◌, subst, arith}
+use Rattle.std.proofs.Common.{◌≡◌, ℕ, ◌<◌, [], length, map, drop, refl, sym, ap, ◌∙◌, subst, arith}
 use Rattle.std.specs.Prelude.{slice_index_or, vec_items}
 use Rattle.std.proofs.lemmas.List.{take_at, get_or-replicate}
 use Rattle.balanced_rates.specs.Split.{at}
-use Rattle.period_order.specs.Board.{link_at, lacks, lacking, IsTouching, IsPlayed}
+use Rattle.period_order.specs.Board.{link_at, lacks, IsTouching, IsPlayed}
 use Rattle.period_order.specs.Turns.{MayFire, IsPeak}
 use Rattle.period_order.proofs.Sums.{sum_same}
 use Rattle.period_order.proofs.Taking.{played_none, period_of_played, blocked_of_played}

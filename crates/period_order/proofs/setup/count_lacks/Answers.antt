@@ -1,4 +1,4 @@
-use Rattle.std.proofs.Common.{◌≡◌, ◌+◌, ◌<◌, ◌≤◌, length, arith}
+use Rattle.std.proofs.Common.{◌≡◌, ◌<◌, ◌≤◌, length, arith}
 use Rattle.balanced_rates.specs.Balance.{total}
 use Rattle.balanced_rates.specs.Split.{at}
 use Rattle.period_order.specs.Board.{lacks, link_at}

@@ -1,9 +1,9 @@
-use Rattle.std.proofs.Common.{◌≡◌, ◌+◌, ◌*◌, ◌<◌, ◌≤◌, length, sym, subst, arith}
+use Rattle.std.proofs.Common.{◌≡◌, ◌<◌, ◌≤◌, length, arith}
 use Rattle.balanced_rates.specs.Split.{at}
-use Rattle.period_order.specs.Board.{link_at, lacks, lacking, gives, takes, moved}
+use Rattle.period_order.specs.Board.{link_at, lacks, lacking}
 use Rattle.period_order.proofs.Sums.{term_within_sum, sum_within}
 use Rattle.period_order.proofs.Taking.{lacks_at_most}
-use Rattle.period_order.proofs.Moving.{moving_none, moving_more, moved_all, peaked_all, moved_on_by, earlier_is_other}
+use Rattle.period_order.proofs.Moving.{moving_none, moving_more, moved_all, peaked_all, moved_on_by}
 use Rattle.period_order.proofs.turn.fire.Goals as goal
 
 pub loop-l-init : goal.loop-l-init
