@@ -1,4 +1,4 @@
-//! How often each leaf of a network fires in one period, if each of its firings has the same rates.
+//! How often each leaf fires in one period of a network whose rates are fixed.
 //!
 //! Links are given by their rates: how many tokens a firing of the writing leaf gives, and how many one of the
 //! reading leaf needs. A vector of firings balances a link if over all of them as many tokens are given as are
