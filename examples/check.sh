@@ -1,15 +1,16 @@
 #!/usr/bin/env bash
 # Runs each example on a program, and compares the status, the report and the files that it writes with what is expected.
 #
-#     examples/check.sh RVC
+#     examples/check.sh RVC [all]
 #
+# With `all` the tests of the tools for people run, too: of pictures, of progress, of explanations and of packages.
 # RVC is the script `rvc` or another program of these words. A copy of the examples is run, so nothing is written here.
 # What is kept is also compared with what other programs give, if these are installed. The status is 0 if nothing differs,
 # 1 if something does, and 2 if nothing could be run.
 set -u
 
-if [[ $# -ne 1 ]] || ! rvc=$(command -v -- "$1"); then
-    echo "usage: examples/check.sh RVC" >&2
+if [[ $# -lt 1 || $# -gt 2 || ${2-all} != all ]] || ! rvc=$(command -v -- "$1"); then
+    echo "usage: examples/check.sh RVC [all]" >&2
     exit 2
 fi
 rvc=$(readlink -f -- "$rvc")
@@ -244,6 +245,29 @@ done <"$here/tiny/mistakes"
 run fmt fmt AddClip.cal
 judge "the status of fmt AddClip.cal: $status, not 0" "$(same_status 0)"
 judge 'the text of fmt AddClip.cal' "$(same_files "$room/report.txt" "$here/fmt/expected")"
+
+# Runs a tool's own tests, whose last line counts what passed and what didn't.
+tries_tool() { # the test, words
+    local test=$here/../tools/$1 last
+    shift
+    last=$("$test" "$@" 2>&1 | tee "$room/tool.txt" | tail -n 1)
+    if [[ $last =~ ^([0-9]+)' passed, '([0-9]+)' '(differ|failed)$ ]]; then
+        passed=$((passed + BASH_REMATCH[1]))
+        failed=$((failed + BASH_REMATCH[2]))
+        [[ ${BASH_REMATCH[2]} -eq 0 ]] || cat "$room/tool.txt"
+    else
+        judge "the end of $test: $last" no
+    fi
+}
+
+if [[ ${2-} == all ]]; then
+    program=$rvc
+    [[ $(head -c 2 -- "$rvc") == '#!' ]] && program=$(dirname -- "$rvc")/crates/rvc_cli/out/rvc_cli
+    tries_tool pictures_test "$rvc"
+    tries_tool progress_test.sh "$program"
+    tries_tool explain_test.sh --without-program
+    tries_tool package_test.sh "$program"
+fi
 
 printf '%s passed, %s differ\n' "$passed" "$failed"
 [[ $failed -eq 0 ]]
