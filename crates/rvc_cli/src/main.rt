@@ -5,7 +5,7 @@
 mod rows;
 
 use rvc_io::OpenGate;
-use rvc_real::{FileDrains, FileFeeds, FolderLibrary};
+use rvc_real::{FileDrains, FileFeeds, FolderLibrary, SeenFiles, hold_standard_streams};
 use rvc_top::rvc;
 use std::alloc::AllocError;
 use std::env;
@@ -16,9 +16,11 @@ fn main(rt: HostRuntime) -> ExitCode {
     let Ok(words) = read_arguments(&rt) else {
         return ExitCode::from(8);
     };
-    let mut library = FolderLibrary::new(&rt);
-    let mut feeds = FileFeeds::new(&rt, rt.alloc());
-    let mut drains = FileDrains::new(&rt, rt.alloc());
+    let _held = hold_standard_streams(&rt);
+    let seen = SeenFiles::new(rt.alloc());
+    let mut library = FolderLibrary::new(&rt, &seen);
+    let mut feeds = FileFeeds::new(&rt, &seen, rt.alloc());
+    let mut drains = FileDrains::new(&rt, &seen, rt.alloc());
     let status = rvc(
         &rt,
         rt.alloc(),

@@ -1,3 +1,4 @@
 pub mod Counting
 pub mod Folder
 pub mod Open
+pub mod SameFile

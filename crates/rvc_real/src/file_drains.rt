@@ -8,24 +8,33 @@ ghost use Rattle.rvc_real.specs.Counting.{counted};
 ghost use Rattle.rvc_real.specs.Open.{OpenState, channel_is_open, channels_of};
 
 use crate::open_files::OpenFiles;
+use crate::seen_files::{SeenFiles, are_one_file};
 use rvc_io::{Act, Drains, Failed, Past};
 use std::alloc::Global;
+use std::fs::{Metadata, OpenFile, OpenOptions};
 use std::io::Write;
 use std::marker::Model;
 use std::rt::Files;
 use std::{fs, io};
 
+/// The name of standard output among the files.
+const STANDARD_OUTPUT: &str = "/dev/stdout";
+
 /// Channels of which number 0 is standard output and each other is a file. What is told of their bytes are those that
 /// they took. A refused growth is a failure too.
+///
+/// A regular file that the run has seen, or that is its standard output, is opened as no other channel, by whatever name:
+/// that is a failure, and the file stays as it is.
 #[derive(Drop)]
-pub struct FileDrains<R: Files> {
+pub struct FileDrains<'a, R: Files> {
     rt: R,
+    seen: &'a SeenFiles,
     files: OpenFiles<R::File>,
     faults: u64,
     past: Past,
 }
 
-impl<R: Files> Model for FileDrains<R> {
+impl<'a, R: Files> Model for FileDrains<'a, R> {
     ghost use Rattle.rvc_real.specs.Open.{OpenState};
 
     ghost Value = { OpenState };
@@ -33,10 +42,10 @@ impl<R: Files> Model for FileDrains<R> {
     ghost view = { λ d. record { flags = d.files; faults = d.faults; past = d.past.acts } };
 }
 
-impl<R: Files + Print> FileDrains<R> {
-    /// Channels of the standard output of `rt` and of files that it creates. Only channel 0 is
-    /// open.
-    pub fn new(rt: R, alloc: Global) -> FileDrains<R>
+impl<'a, R: Files + Print> FileDrains<'a, R> {
+    /// Channels of the standard output of `rt` and of files that it creates, none of which `seen`
+    /// has. Only channel 0 is open.
+    pub fn new(rt: R, seen: &'a SeenFiles, alloc: Global) -> FileDrains<'a, R>
         ensures fresh { result ≡ record { flags = []; faults = 0; past = [] } }
         ensures output_open { channel_is_open result 0 ≡ true }
         ensures others_closed { (channel : ℕ) → channel ≢ 0
@@ -44,13 +53,15 @@ impl<R: Files + Print> FileDrains<R> {
     {
         FileDrains {
             rt,
+            seen,
             files: OpenFiles::new(alloc),
             faults: 0,
             past: Past::new(),
         }
     }
 
-    /// Creates the file `name`, or empties it, as `channel`, and says whether that could be done.
+    /// Creates the file `name`, or empties it if it wasn't seen, as `channel`, and says whether that
+    /// could be done.
     #[tactic(auto, using(crate::proofs::OpenLemmas::set_here, crate::proofs::OpenLemmas::set_elsewhere))]
     fn create_file(&mut self, channel: u32, name: &str) -> bool
         ensures opened { result ≡ true → channel_is_open self.new channel ≡ true }
@@ -64,7 +75,7 @@ impl<R: Files + Print> FileDrains<R> {
         if self.files.make_room(channel).is_err() {
             return false;
         }
-        let Ok(created) = fs::create(&self.rt, name) else {
+        let Some(created) = create_unseen(&self.rt, self.seen, name) else {
             return false;
         };
         self.files.keep(channel, created);
@@ -91,7 +102,7 @@ impl<R: Files + Print> FileDrains<R> {
     }
 }
 
-impl<R: Files + Print> Drains for FileDrains<R> {
+impl<'a, R: Files + Print> Drains for FileDrains<'a, R> {
     ghost channels = { channels_of };
 
     ghost past = { λ d. d.past };
@@ -147,5 +158,31 @@ impl<R: Files + Print> Drains for FileDrains<R> {
                 Err(Failed)
             }
         }
+    }
+}
+
+/// Opens the file `name` to write it, creates it if there is none, and empties it if it wasn't seen.
+fn create_unseen<R: Files>(rt: &R, seen: &SeenFiles, name: &str) -> Option<R::File> {
+    let file = OpenOptions::new()
+        .write(true)
+        .create(true)
+        .open(rt, name)
+        .ok()?;
+    let found = file.metadata().ok()?;
+    if found.is_file() {
+        if seen.has(&found) || is_standard_output(rt, &found) {
+            return None;
+        }
+        file.set_len(0).ok()?;
+    }
+    seen.note(&found).ok()?;
+    Some(file)
+}
+
+/// Whether standard output is this file.
+fn is_standard_output<R: Files>(rt: &R, found: &Metadata) -> bool {
+    match fs::metadata(rt, STANDARD_OUTPUT) {
+        Ok(output) => are_one_file(&output, found),
+        Err(_) => false,
     }
 }

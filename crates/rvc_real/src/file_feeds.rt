@@ -8,23 +8,26 @@ ghost use Rattle.rvc_real.specs.Counting.{counted};
 ghost use Rattle.rvc_real.specs.Open.{OpenState, feed_is_open, inputs_of};
 
 use crate::open_files::OpenFiles;
+use crate::seen_files::SeenFiles;
 use rvc_io::{Act, Failed, Feeds, Past};
 use std::alloc::Global;
 use std::fs;
+use std::fs::OpenFile;
 use std::io::Read;
 use std::marker::Model;
 use std::rt::Files;
 
 /// Feeds that are files. Nothing is told of the bytes that are left on them. A refused growth is a failure too.
 #[derive(Drop)]
-pub struct FileFeeds<R: Files> {
+pub struct FileFeeds<'a, R: Files> {
     rt: R,
+    seen: &'a SeenFiles,
     files: OpenFiles<R::File>,
     faults: u64,
     past: Past,
 }
 
-impl<R: Files> Model for FileFeeds<R> {
+impl<'a, R: Files> Model for FileFeeds<'a, R> {
     ghost use Rattle.rvc_real.specs.Open.{OpenState};
 
     ghost Value = { OpenState };
@@ -32,14 +35,15 @@ impl<R: Files> Model for FileFeeds<R> {
     ghost view = { λ f. record { flags = f.files; faults = f.faults; past = f.past.acts } };
 }
 
-impl<R: Files> FileFeeds<R> {
-    /// Feeds of the files that `rt` opens. None is open yet.
-    pub fn new(rt: R, alloc: Global) -> FileFeeds<R>
+impl<'a, R: Files> FileFeeds<'a, R> {
+    /// Feeds of the files that `rt` opens, each of which `seen` is told. None is open yet.
+    pub fn new(rt: R, seen: &'a SeenFiles, alloc: Global) -> FileFeeds<'a, R>
         ensures fresh { result ≡ record { flags = []; faults = 0; past = [] } }
         ensures none_open { (feed : ℕ) → feed_is_open result feed ≡ false }
     {
         FileFeeds {
             rt,
+            seen,
             files: OpenFiles::new(alloc),
             faults: 0,
             past: Past::new(),
@@ -58,7 +62,7 @@ impl<R: Files> FileFeeds<R> {
         if self.files.make_room(feed).is_err() {
             return false;
         }
-        let Ok(file) = fs::open(&self.rt, name) else {
+        let Some(file) = open_seen(&self.rt, self.seen, name) else {
             return false;
         };
         self.files.keep(feed, file);
@@ -66,7 +70,7 @@ impl<R: Files> FileFeeds<R> {
     }
 }
 
-impl<R: Files> Feeds for FileFeeds<R> {
+impl<'a, R: Files> Feeds for FileFeeds<'a, R> {
     ghost feeds = { inputs_of };
 
     ghost past = { λ f. f.past };
@@ -117,4 +121,12 @@ impl<R: Files> Feeds for FileFeeds<R> {
         self.past.note(&Act::Passed(feed, &buf[..count]));
         Ok(count)
     }
+}
+
+/// Opens the file `name` to read it, and notes which it is.
+fn open_seen<R: Files>(rt: &R, seen: &SeenFiles, name: &str) -> Option<R::File> {
+    let file = fs::open(rt, name).ok()?;
+    let found = file.metadata().ok()?;
+    seen.note(&found).ok()?;
+    Some(file)
 }

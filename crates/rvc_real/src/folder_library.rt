@@ -8,23 +8,26 @@ ghost use Rattle.rvc_io.specs.Library.{IsTooLong, max_file_bytes};
 ghost use Rattle.rvc_real.specs.Counting.{counted};
 ghost use Rattle.rvc_real.specs.Folder.{FolderState, file_told, parts, is_up, leads_out, is_failed, is_missing};
 
+use crate::seen_files::SeenFiles;
 use rvc_io::{Act, Library, MAX_FILE_BYTES, Past, ReadAnswer};
 use std::alloc::Global;
 use std::fs;
+use std::fs::OpenFile;
 use std::io::{Error, ErrorKind, Read};
 use std::marker::Model;
 use std::rt::Files;
 
 /// The files below the current folder, of which nothing is told.
 #[derive(Drop)]
-pub struct FolderLibrary<R> {
+pub struct FolderLibrary<'a, R> {
     rt: R,
+    seen: &'a SeenFiles,
     faults: u64,
     misses: u64,
     past: Past,
 }
 
-impl<R> Model for FolderLibrary<R> {
+impl<'a, R> Model for FolderLibrary<'a, R> {
     ghost use Rattle.rvc_real.specs.Folder.{FolderState};
 
     ghost Value = { FolderState };
@@ -32,15 +35,16 @@ impl<R> Model for FolderLibrary<R> {
     ghost view = { λ l. record { faults = l.faults; misses = l.misses; past = l.past.acts } };
 }
 
-impl<R: Files> FolderLibrary<R> {
+impl<'a, R: Files> FolderLibrary<'a, R> {
     ghost use Rattle.rvc_io.specs.Reads.{read_as};
 
-    /// The files that `rt` finds below the current folder.
-    pub fn new(rt: R) -> FolderLibrary<R>
+    /// The files that `rt` finds below the current folder, each of which `seen` is told.
+    pub fn new(rt: R, seen: &'a SeenFiles) -> FolderLibrary<'a, R>
         ensures { result ≡ record { faults = 0; misses = 0; past = [] } }
     {
         FolderLibrary {
             rt,
+            seen,
             faults: 0,
             misses: 0,
             past: Past::new(),
@@ -66,7 +70,7 @@ impl<R: Files> FolderLibrary<R> {
     }
 }
 
-impl<R: Files> Library for FolderLibrary<R> {
+impl<'a, R: Files> Library for FolderLibrary<'a, R> {
     ghost use Rattle.rvc_io.specs.Reads.{read_as};
 
     ghost file = { file_told };
@@ -102,7 +106,7 @@ impl<R: Files> Library for FolderLibrary<R> {
         ensures faults { self.new.faults ≡ counted (is_failed result) self.old.faults }
         ensures misses { self.new.misses ≡ counted (is_missing result) self.old.misses }
     {
-        let answer = read_below(&self.rt, name, out);
+        let answer = read_below(&self.rt, self.seen, name, out);
         if answer != ReadAnswer::Found {
             out.clear();
         }
@@ -112,7 +116,7 @@ impl<R: Files> Library for FolderLibrary<R> {
 }
 
 /// Reads the file `name` below the current folder.
-fn read_below<R: Files>(rt: &R, name: &str, out: &mut Vec<u8>) -> ReadAnswer
+fn read_below<R: Files>(rt: &R, seen: &SeenFiles, name: &str, out: &mut Vec<u8>) -> ReadAnswer
     requires { out.old.items ≡ [] }
     ensures within { result ≡ ReadAnswer.Found → length out.new.items ≤ max_file_bytes }
     ensures below { leads_out name.now ≡ true → result ≡ ReadAnswer.Missing }
@@ -121,10 +125,25 @@ fn read_below<R: Files>(rt: &R, name: &str, out: &mut Vec<u8>) -> ReadAnswer
         return ReadAnswer::Missing;
     }
     match fs::open(rt, name) {
-        Ok(file) => read_whole(file, out),
+        Ok(file) => read_seen(file, seen, out),
         Err(error) if is_lacking(&error) => ReadAnswer::Missing,
         Err(_) => ReadAnswer::Failed,
     }
+}
+
+/// Notes which file was opened, and reads it.
+fn read_seen<F: Read + OpenFile + Drop>(file: F, seen: &SeenFiles, out: &mut Vec<u8>) -> ReadAnswer
+    requires { out.old.items ≡ [] }
+    ensures within { result ≡ ReadAnswer.Found → length out.new.items ≤ max_file_bytes }
+    ensures there { result ≢ ReadAnswer.Missing }
+{
+    let Ok(found) = file.metadata() else {
+        return ReadAnswer::Failed;
+    };
+    if seen.note(&found).is_err() {
+        return ReadAnswer::Memory;
+    }
+    read_whole(file, out)
 }
 
 /// Reads a file that was opened, and stops one byte past its limit.

@@ -9,7 +9,11 @@ mod file_drains;
 mod file_feeds;
 mod folder_library;
 mod open_files;
+mod seen_files;
+mod standard_streams;
 
 pub use file_drains::FileDrains;
 pub use file_feeds::FileFeeds;
 pub use folder_library::FolderLibrary;
+pub use seen_files::SeenFiles;
+pub use standard_streams::hold_standard_streams;
