@@ -238,6 +238,16 @@ if begin 'standard output closed, a run without inputs'; then
     status=$? last=
     due 3 '' '[[ $(tail -n 1 trace) == q ]]'
 fi
+if begin 'standard output closed, the text of fmt'; then
+    "$program" fmt Inc.cal >&- 2>errors
+    status=$? last=
+    due 3 '' '[[ $(<Inc.cal) == "$inc" ]]'
+fi
+if begin 'standard input and output closed, a check'; then
+    "$program" check Inc.cal >&- 2>errors <&-
+    status=$? last=
+    due 3 '' '[[ $(<Inc.cal) == "$inc" ]]'
+fi
 if begin 'standard streams closed'; then
     "$program" gen 1 Out=out --trace trace >&- 2>&- <&-
     status=$? last=
@@ -253,6 +263,11 @@ if begin 'the output is the input'; then
 fi
 if begin 'the output is a link to the input'; then
     ln -s in other
+    run run Inc.cal In=in Out=other --trace trace
+    due 3 'write fault 2' '[[ $(bytes in) -eq 3 ]]'
+fi
+if begin 'the output is a second name of the input'; then
+    ln in other
     run run Inc.cal In=in Out=other --trace trace
     due 3 'write fault 2' '[[ $(bytes in) -eq 3 ]]'
 fi
@@ -272,6 +287,20 @@ if begin 'two outputs of one name'; then
     fork 2 2 >Fork.xdf
     run run Fork.xdf In=in O0=both O1=both --trace trace
     due 3 'write fault 3'
+fi
+if begin 'the output is the file of the report'; then
+    run run Inc.cal In=in Out=report --trace trace
+    due 3 'write fault 2' '[[ $(bytes in) -eq 3 ]]'
+fi
+if begin 'the output of a check that is redirected to a source'; then
+    "$program" check Inc.cal >>Inc.cal 2>errors
+    status=$? last=$(tail -n 1 Inc.cal)
+    due 0 'done' '[[ $(head -c ${#inc} Inc.cal) == "$inc" ]]'
+fi
+if begin 'an output that was there before'; then
+    printf 'before and longer' >out
+    run run Inc.cal In=in Out=out --trace trace
+    due 0 'quiet' '[[ $(bytes out) -eq 3 ]]'
 fi
 if begin 'the output is a folder'; then
     run run Inc.cal In=in Out=. --trace trace

@@ -1,11 +1,12 @@
 //! Each adapter once on real files, in a folder of its own where the test runs.
 
-ghost use Rattle.std.specs.Prelude.{◌≡◌, ◌<◌, ℕ, true, length};
+ghost use Rattle.std.specs.Prelude.{◌≡◌, ◌<◌, ℕ, true, false, length};
 ghost use Rattle.rvc_real.specs.Open.{feed_is_open, channel_is_open};
 
 use rvc_io::{Drains, Failed, Feeds, Library, MAX_FILE_BYTES, ReadAnswer};
-use rvc_real::{FileDrains, FileFeeds, FolderLibrary};
+use rvc_real::{FileDrains, FileFeeds, FolderLibrary, SeenFiles};
 use std::fs;
+use std::os::unix::fs::symlink;
 use std::process::Abort;
 use std::test::Fail;
 
@@ -31,7 +32,7 @@ fn write_folder(rt: &HostRuntime) -> Result<(), Fail> {
 /// Reads `name`, and says how that went and how many bytes there were.
 fn read(
     rt: &HostRuntime,
-    library: &mut FolderLibrary<&HostRuntime>,
+    library: &mut FolderLibrary<'_, &HostRuntime>,
     name: &str,
 ) -> (ReadAnswer, usize) {
     let mut out = Vec::new(rt.alloc());
@@ -43,7 +44,7 @@ fn read(
 fn hold_reads(
     rt: &impl Abort,
     host: &HostRuntime,
-    library: &mut FolderLibrary<&HostRuntime>,
+    library: &mut FolderLibrary<'_, &HostRuntime>,
     rows: &[(&str, ReadAnswer, usize)],
 ) {
     for &(name, answer, bytes) in rows {
@@ -74,7 +75,7 @@ const READS: &[(&str, ReadAnswer, usize)] = &[
 fn hold_bytes(
     rt: &impl Abort,
     host: &HostRuntime,
-    library: &mut FolderLibrary<&HostRuntime>,
+    library: &mut FolderLibrary<'_, &HostRuntime>,
     name: &str,
     want: &[u8],
 ) {
@@ -88,7 +89,8 @@ fn hold_bytes(
 
 /// Reads the files of the folder.
 fn read_folder(rt: &impl Abort, host: &HostRuntime) {
-    let mut library = FolderLibrary::new(host);
+    let seen = SeenFiles::new(host.alloc());
+    let mut library = FolderLibrary::new(host, &seen);
     hold_reads(rt, host, &mut library, READS);
     hold_bytes(rt, host, &mut library, "rvc_real_library/three", b"abc");
 }
@@ -103,7 +105,7 @@ fn reads_below_the_current_folder(rt: HostRuntime) -> Result<(), Fail> {
 }
 
 /// Pulls into two bytes, to which these come.
-fn pull(rt: &impl Abort, feeds: &mut FileFeeds<&HostRuntime>, feed: u32, want: &[u8])
+fn pull(rt: &impl Abort, feeds: &mut FileFeeds<'_, &HostRuntime>, feed: u32, want: &[u8])
     requires { feed_is_open feeds.old feed ≡ true }
     ensures { (other : ℕ) → feed_is_open feeds.new other ≡ feed_is_open feeds.old other }
 {
@@ -116,7 +118,8 @@ fn pull(rt: &impl Abort, feeds: &mut FileFeeds<&HostRuntime>, feed: u32, want: &
 
 /// Pulls a file of three bytes by two feeds.
 fn pull_three(rt: &impl Abort, host: &HostRuntime) {
-    let mut feeds = FileFeeds::new(host, host.alloc());
+    let seen = SeenFiles::new(host.alloc());
+    let mut feeds = FileFeeds::new(host, &seen, host.alloc());
     assert!(rt; feeds.open(3, "rvc_real_no_feed") == Err(Failed));
     assert!(rt; feeds.open(3, "rvc_real_feed") == Ok(()));
     assert!(rt; feeds.open(1, "rvc_real_feed") == Ok(()));
@@ -135,7 +138,7 @@ fn pulls_from_files(rt: HostRuntime) -> Result<(), Fail> {
 }
 
 /// Puts a piece, which is taken whole.
-fn put(rt: &impl Abort, drains: &mut FileDrains<&HostRuntime>, channel: u32, piece: &[u8])
+fn put(rt: &impl Abort, drains: &mut FileDrains<'_, &HostRuntime>, channel: u32, piece: &[u8])
     requires open { channel_is_open drains.old channel ≡ true }
     requires some { 0 < length piece.now }
     ensures { (other : ℕ) → channel_is_open drains.new other ≡ channel_is_open drains.old other }
@@ -156,7 +159,8 @@ fn hold_text(rt: &impl Abort, host: &HostRuntime, path: &str, want: &str) {
 
 /// Puts pieces into standard output and a file, and one into a file that takes none.
 fn put_pieces(rt: &impl Abort, host: &HostRuntime) {
-    let mut drains = FileDrains::new(host, host.alloc());
+    let seen = SeenFiles::new(host.alloc());
+    let mut drains = FileDrains::new(host, &seen, host.alloc());
     put(rt, &mut drains, 0, b"out\n");
     assert!(rt; drains.open(2, "rvc_real_no_folder/drain") == Err(Failed));
     assert!(rt; drains.open(2, "rvc_real_drain") == Ok(()));
@@ -172,5 +176,86 @@ fn puts_into_files_and_standard_output(rt: HostRuntime) -> Result<(), Fail> {
     fs::write(&rt, "rvc_real_drain", b"before".as_slice())?;
     put_pieces(&rt, &rt);
     fs::remove_file(&rt, "rvc_real_drain")?;
+    Ok(())
+}
+
+/// The files of a run, each of three bytes, and other names of them.
+fn write_seen(rt: &HostRuntime) -> Result<(), Fail> {
+    fs::create_dir(rt, "rvc_real_seen")?;
+    fs::write(rt, "rvc_real_seen/source", b"abc".as_slice())?;
+    fs::write(rt, "rvc_real_seen/input", b"abc".as_slice())?;
+    fs::write(rt, "rvc_real_seen/unseen", b"abc".as_slice())?;
+    fs::hard_link(rt, "rvc_real_seen/source", "rvc_real_seen/twin")?;
+    symlink(rt, "input", "rvc_real_seen/link")?;
+    Ok(())
+}
+
+/// Names of files that the run has seen.
+const SEEN: &[&str] = &[
+    "rvc_real_seen/source",
+    "rvc_real_seen/twin",
+    "rvc_real_seen/input",
+    "rvc_real_seen/link",
+    "rvc_real_seen/../rvc_real_seen/input",
+];
+
+/// Stops unless a file can't be opened as channel 2, and keeps its text.
+fn hold_refused(
+    rt: &impl Abort,
+    host: &HostRuntime,
+    drains: &mut FileDrains<'_, &HostRuntime>,
+    name: &str,
+    text: &str,
+)
+    requires { channel_is_open drains.old 2 ≡ false }
+    ensures { channel_is_open drains.new 2 ≡ false }
+{
+    assert!(rt; drains.open(2, name) == Err(Failed));
+    hold_text(rt, host, name, text);
+}
+
+/// The same for each name of a file that the run has seen.
+fn hold_all_refused(
+    rt: &impl Abort,
+    host: &HostRuntime,
+    drains: &mut FileDrains<'_, &HostRuntime>,
+)
+    requires { channel_is_open drains.old 2 ≡ false }
+    ensures { channel_is_open drains.new 2 ≡ false }
+{
+    for &name in SEEN {
+        hold_refused(rt, host, drains, name, "abc");
+    }
+}
+
+/// Puts into a file that wasn't seen, which is seen then, and into a device that two channels share.
+fn put_unseen(rt: &impl Abort, host: &HostRuntime, seen: &SeenFiles) {
+    let mut drains = FileDrains::new(host, seen, host.alloc());
+    assert!(rt; drains.open(1, "rvc_real_seen/unseen") == Ok(()));
+    put(rt, &mut drains, 1, b"a");
+    assert!(rt; drains.open(2, "rvc_real_seen/unseen") == Err(Failed));
+    hold_text(rt, host, "rvc_real_seen/unseen", "a");
+    assert!(rt; drains.open(2, "/dev/null") == Ok(()));
+    assert!(rt; drains.open(3, "/dev/null") == Ok(()));
+}
+
+/// Opens as channels what was read as a source and what a feed is.
+fn open_seen(rt: &impl Abort, host: &HostRuntime) {
+    let seen = SeenFiles::new(host.alloc());
+    let mut library = FolderLibrary::new(host, &seen);
+    hold_bytes(rt, host, &mut library, "rvc_real_seen/source", b"abc");
+    let mut feeds = FileFeeds::new(host, &seen, host.alloc());
+    assert!(rt; feeds.open(0, "rvc_real_seen/input") == Ok(()));
+    let mut drains = FileDrains::new(host, &seen, host.alloc());
+    hold_all_refused(rt, host, &mut drains);
+    put_unseen(rt, host, &seen);
+}
+
+#[test]
+fn empties_no_file_that_was_seen(rt: HostRuntime) -> Result<(), Fail> {
+    let _ = fs::remove_dir_all(&rt, "rvc_real_seen");
+    write_seen(&rt)?;
+    open_seen(&rt, &rt);
+    fs::remove_dir_all(&rt, "rvc_real_seen")?;
     Ok(())
 }
