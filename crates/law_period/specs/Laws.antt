@@ -9,7 +9,7 @@ use Rattle.net_model.specs.State.{State, start_of}
 use Rattle.net_model.specs.Wired.{IsWired}
 use Rattle.net_model.specs.Laws.{AreLawful}
 use Rattle.law_period.specs.Static.{NetRates, AreStatic, IsPeriodOf}
-use Rattle.law_period.specs.Runs.{IsAtRest, HasInput, Completes, TrapsOnTheWay}
+use Rattle.law_period.specs.Runs.{IsAtRest, HasEnoughInput, Completes, TrapsOnTheWay}
 use Rattle.law_period.specs.Cycles.{Leads}
 
 -- ---- runs: over states X of actors, of which those of leaf i are kept
@@ -24,7 +24,7 @@ abbrev pub PeriodsAreRuns : (X : Type 0) → (ℕ → X → Type 0) → Type 0
 PeriodsAreRuns X kept =
     (net : Network X) (rates : NetRates) (firings : ℕ → ℕ) (order : List ℕ) (s : State X)
     → IsWired net → AreLawful net → AreStatic net kept rates → IsPeriodOf net rates firings order
-    → IsAtRest net kept s → HasInput net rates firings s
+    → IsAtRest net kept s → HasEnoughInput net rates firings s
     → Completes net kept rates firings order s ⊎ TrapsOnTheWay net rates order s
 
 -- ---- vectors

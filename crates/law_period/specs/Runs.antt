@@ -52,8 +52,8 @@ abbrev pub held : Flow → ℕ
 held flow = length flow.sent - flow.taken
 
 -- on each input link there are as many tokens as a period takes
-abbrev pub HasInput : {X : Type 0} → Network X → NetRates → (ℕ → ℕ) → State X → Type 0
-HasInput net rates firings s = (link : Link) (flow : Flow) → IsOn net s link flow
+abbrev pub HasEnoughInput : {X : Type 0} → Network X → NetRates → (ℕ → ℕ) → State X → Type 0
+HasEnoughInput net rates firings s = (link : Link) (flow : Flow) → IsOn net s link flow
     → is_input link ≡ true → taken_at rates firings link.to ≤ held flow
 
 -- ---- runs
