@@ -1,2 +1,3 @@
+mod Blocked
 mod Cycles
 mod Multiples

@@ -65,14 +65,14 @@ same_over x y z w p q r s some others one other same =
     omega arith
 
 module _ (n : ℕ) (links : List RatedLink) (firings others : ℕ → ℕ) (among : All (IsAmong n) links) (least : IsLeast n links firings) (h : Balances n links others) where
-  parts_at : (k : ℕ) → Shared (suc (others k - 1)) (suc (firings k - 1))
+  abbrev parts_at : (k : ℕ) → Shared (suc (others k - 1)) (suc (firings k - 1))
   parts_at k = shared (others k - 1) (firings k - 1)
 
   -- the greatest number that divides both at a leaf, and what it takes to the other vector
-  common : ℕ → ℕ
+  abbrev common : ℕ → ℕ
   common k = (parts_at k).factor
 
-  ratio : ℕ → ℕ
+  abbrev ratio : ℕ → ℕ
   ratio k = (parts_at k).over
 
   firings_some : (k : ℕ) → k < n → suc (firings k - 1) ≡ firings k
@@ -120,9 +120,6 @@ module _ (n : ℕ) (links : List RatedLink) (firings others : ℕ → ℕ) (amon
       (λ (none' : link.need ≤ 0). omega arith) (cases_lt 0 link.need) in
       rw (no_give, no_need) (omega arith))
       (cases_lt 0 link.give)
-
-  default : RatedLink
-  default = record { writer = 0; reader = 0; give = 0; need = 0 }
 
   common_balances : Balances n links common
   common_balances = record {
