@@ -1,3 +1,5 @@
 mod Blocked
 mod Cycles
 mod Multiples
+mod Deliveries
+mod Progress
