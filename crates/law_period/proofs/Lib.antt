@@ -3,3 +3,4 @@ mod Cycles
 mod Multiples
 mod Deliveries
 mod Progress
+mod OneTurn
