@@ -4,3 +4,4 @@ mod Multiples
 mod Deliveries
 mod Progress
 mod OneTurn
+mod WholePeriod
