@@ -1,12 +1,12 @@
 -- No leaf on a cycle of links on which tokens are needed is the first of it to fire.
-use Rattle.std.proofs.Common.{◌≡◌, ◌⊎◌, ℕ, zero, suc, ◌+◌, ◌*◌, ◌<◌, ◌≤◌, List, [], ◌∷◌, ◌++◌, length, get_or, take, refl, sym, ap, ◌∙◌, subst, inl, inr, ⊎_elim, arith, add-one}
-use Rattle.std.specs.Prelude.{All, Contains}
-use Rattle.std.proofs.lemmas.Bool.{cases_eq, cases_lt}
+use Rattle.std.proofs.Common.{◌≡◌, ℕ, zero, suc, ◌+◌, ◌*◌, ◌<◌, ◌≤◌, List, [], ◌∷◌, ◌++◌, length, get_or, take, refl, ap, ◌∙◌, ⊎_elim, arith, add-one}
+use Rattle.std.specs.Prelude.{Contains}
+use Rattle.std.proofs.lemmas.Bool.{cases_eq}
 use Rattle.std.proofs.lemmas.List.{take_more, take_all}
 use Rattle.std.proofs.lemmas.List.Elements.{All-contains}
 use Rattle.balanced_rates.specs.declared.link.RatedLink.{RatedLink}
-use Rattle.period_order.specs.Turns.{turns, given, taken, Finds, IsPeriod}
-use Rattle.period_order.proofs.Taking.{turns_of_it, turns_of_other}
+use Rattle.period_order.specs.Turns.{turns, given, taken, IsPeriod}
+use Rattle.period_order.proofs.Taking.{turns_of_other}
 use Rattle.law_period.specs.Cycles.{Leads}
 use Rattle.law_period.specs.Cycles.Leads.{by_link, further}
 

@@ -1,8 +1,7 @@
 -- All that was sent arrives: these events may happen, and hold no more on any inner link.
-use Rattle.std.proofs.Common.{◌≡◌, ◌⊎◌, ℕ, zero, suc, ◌+◌, ◌-◌, ◌<◌, ◌≤◌, Bool, true, false, List, [], ◌∷◌, ◌++◌, length, refl, sym, ap, ◌∙◌, subst, inl, inr, ⊎_elim, arith, append_assoc, length-append}
-use Rattle.std.specs.Prelude.{Option, None, Some, slice_get, slice_set, if◌then◌else◌}
+use Rattle.std.proofs.Common.{◌≡◌, ◌⊎◌, ℕ, zero, suc, ◌+◌, ◌-◌, ◌≤◌, false, List, [], ◌∷◌, ◌++◌, length, refl, sym, ap, ◌∙◌, subst, inl, inr, ⊎_elim, arith, append_assoc, length-append}
+use Rattle.std.specs.Prelude.{Option, None, Some, slice_get, slice_set}
 use Rattle.balanced_rates.specs.declared.link.RatedLink.{RatedLink}
-use Rattle.period_order.specs.Turns.{IsPeak}
 use Rattle.net_model.specs.declared.wiring.End.{End}
 use Rattle.net_model.specs.declared.wiring.End.TheVariants.{Leaf as AtLeaf, Net as AtNet}
 use Rattle.net_model.specs.declared.wiring.Link.{Link}
@@ -11,9 +10,9 @@ use Rattle.net_model.specs.State.{Flow, State}
 use Rattle.net_model.specs.Event.{Event, Deliver, each_flow, after_arrival, happens, and_then, run}
 use Rattle.net_model.specs.Trace.{OnNext}
 use Rattle.net_model.specs.Laws.{HasFlows}
-use Rattle.net_model.proofs.Arriving.{Arrived, arrived, arrived_unless, arrives_so}
+use Rattle.net_model.proofs.Arriving.{Arrived, arrived_unless, arrives_so}
 use Rattle.law_period.specs.Static.{NetRates, rated_between, rated}
-use Rattle.law_period.specs.Runs.{IsOn, held, arrivals, all_arrive, IsWithinPeaks, Throughout}
+use Rattle.law_period.specs.Runs.{held, arrivals, all_arrive, IsWithinPeaks, Throughout}
 
 -- ---- lists
 pub same_get : {A : Type 0} (o : Option A) (x y : A) → o ≡ Some x → o ≡ Some y → x ≡ y

@@ -1,7 +1,6 @@
 -- One turn of a leaf: it has its tokens, so it fires or traps, and what it gives arrives.
-use Rattle.std.proofs.Common.{◌≡◌, ◌≢◌, ◌⊎◌, ℕ, zero, suc, ◌+◌, ◌-◌, ◌*◌, ◌<◌, ◌≤◌, Bool, true, false, List, [], ◌∷◌, ◌++◌, ℤ, length, map, get_or, take, drop, cond, refl, sym, ap, ◌∙◌, subst, inl, inr, ⊎_elim, arith, eq-eqb, ne_eqb, length-append, append_assoc}
-use Rattle.std.specs.Prelude.{All, Contains, Option, None, Some, slice_get, slice_set, slice_index_or, if◌then◌else◌, ◌==◌, ◌&&◌, nat_eq}
-use Rattle.std.specs.List.{range_with_len}
+use Rattle.std.proofs.Common.{◌≡◌, ◌≢◌, ◌⊎◌, ℕ, zero, suc, ◌+◌, ◌*◌, ◌<◌, ◌≤◌, Bool, true, false, List, [], ◌∷◌, ◌++◌, ℤ, length, map, get_or, take, cond, refl, sym, ap, ◌∙◌, subst, inl, inr, ⊎_elim, arith, eq-eqb, length-append, append_assoc}
+use Rattle.std.specs.Prelude.{Option, None, Some, slice_get, slice_index_or, if◌then◌else◌, ◌==◌, ◌&&◌, nat_eq}
 use Rattle.std.proofs.Math.Nat.{mul-le-mul_left}
 use Rattle.std.proofs.lemmas.Bool.{cases_eq, cases_lt, eqb-true}
 use Rattle.std.proofs.lemmas.List.{take_at, length-take, length-drop, length-map}
@@ -10,25 +9,24 @@ use Rattle.std.proofs.lemmas.List.FromFn.{get_or-map-range_with_len}
 use Rattle.std.proofs.lemmas.List.Sums.{sum_by-append}
 use Rattle.std.proofs.lemmas.Option.{slice_get_within}
 use Rattle.rvc_base.specs.declared.trap.Trap.{Trap as TrapName}
-use Rattle.rvc_base.specs.Behaviour.{Behaviour, Effect, Fires, TrapsInBody, Choice, Picks}
+use Rattle.rvc_base.specs.Behaviour.{Behaviour, Effect, Fires, TrapsInBody, Picks}
 use Rattle.rvc_base.specs.Lawful.{tokens_on, IsLawful}
-use Rattle.balanced_rates.specs.declared.link.RatedLink.{RatedLink}
-use Rattle.period_order.specs.Turns.{turns, given, taken, Finds, IsPeriod}
+use Rattle.period_order.specs.Turns.{turns, given, taken, Finds}
 use Rattle.period_order.proofs.Taking.{turns_of_it, turns_of_other}
 use Rattle.net_model.specs.declared.wiring.End.{End}
 use Rattle.net_model.specs.declared.wiring.End.TheVariants.{Leaf as AtLeaf, Net as AtNet}
 use Rattle.net_model.specs.declared.wiring.Link.{Link}
 use Rattle.net_model.specs.Network.{Leaf, Network, is_leaf_port, is_input, is_output}
 use Rattle.net_model.specs.State.{Flow, State, waiting, inbox, inboxes, effect_of, effect_at, choice_of, choice_at, need_of}
-use Rattle.net_model.specs.Event.{Event, Fire, Trap, each_flow, sent_on, taken_from, after_firing, number_of_trap, trap, happens, run}
+use Rattle.net_model.specs.Event.{Event, Fire, Trap, sent_on, taken_from, after_firing, number_of_trap, trap, happens, run}
 use Rattle.net_model.specs.Trace.{OnNext}
 use Rattle.net_model.specs.Wired.{IsWired, IsBefore, HasInput, HasOutput, ComesFromPort, LeadsToPort}
 use Rattle.net_model.specs.Laws.{AreLawful}
-use Rattle.net_model.proofs.Commuting.{chosen_else, fired, fires_so, by_test}
-use Rattle.law_period.specs.Static.{NetRates, HasNeeds, IsStatic, AreStatic, rated, inner_links, IsPeriodOf}
+use Rattle.net_model.proofs.Commuting.{chosen_else, fired, fires_so}
+use Rattle.law_period.specs.Static.{NetRates, HasNeeds, AreStatic, rated, inner_links, IsPeriodOf}
 use Rattle.law_period.specs.Runs.{IsEmpty, IsAtRest, given_at, taken_at, held, HasEnoughInput, all_arrive, IsTurn, IsWithinPeaks, Throughout}
-use Rattle.law_period.proofs.Deliveries.{same_get, set_cases, length_set, length_each, IsChanged, changed_from, arrivals_within, settled, MayArrive, arrivals_lead}
-use Rattle.law_period.proofs.Progress.{counts, IsMovedOn, WasMoved, IsBehind, AllHere, inner_there, behind_settled, all_here, within_behind}
+use Rattle.law_period.proofs.Deliveries.{same_get, set_cases, length_set, length_each, changed_from, arrivals_within, settled, MayArrive, arrivals_lead}
+use Rattle.law_period.proofs.Progress.{counts, WasMoved, IsBehind, AllHere, inner_there, behind_settled, all_here, within_behind}
 
 -- ---- lists
 pub get_there : {A : Type 0} (xs : List A) (i : ℕ) → i < length xs → (x : A) × (slice_get xs i ≡ Some x)

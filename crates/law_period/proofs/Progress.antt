@@ -1,18 +1,17 @@
 -- What lies on the links behind some turns of an order.
-use Rattle.std.proofs.Common.{◌≡◌, ◌⊎◌, ℕ, zero, suc, ◌+◌, ◌-◌, ◌*◌, ◌<◌, ◌≤◌, Bool, true, false, List, [], ◌∷◌, ◌++◌, length, get_or, take, refl, sym, ap, ◌∙◌, subst, inl, inr, ⊎_elim, arith, length-append}
-use Rattle.std.specs.Prelude.{Contains, Option, None, Some, slice_get, slice_set, if◌then◌else◌}
+use Rattle.std.proofs.Common.{◌≡◌, ℕ, zero, suc, ◌+◌, ◌≤◌, false, List, [], ◌∷◌, length, take, refl, sym, ap, ◌∙◌, subst, arith}
+use Rattle.std.specs.Prelude.{Contains, Option, None, Some, slice_get}
 use Rattle.balanced_rates.specs.declared.link.RatedLink.{RatedLink}
-use Rattle.period_order.specs.Turns.{turns, given, taken, waiting, IsPeak}
+use Rattle.period_order.specs.Turns.{turns, given, taken, waiting}
 use Rattle.net_model.specs.declared.wiring.End.{End}
 use Rattle.net_model.specs.declared.wiring.End.TheVariants.{Leaf as AtLeaf, Net as AtNet}
 use Rattle.net_model.specs.declared.wiring.Link.{Link}
-use Rattle.net_model.specs.Network.{Network, is_input, is_output}
+use Rattle.net_model.specs.Network.{Network, is_output}
 use Rattle.net_model.specs.State.{Flow, State}
-use Rattle.net_model.specs.Event.{each_flow}
 use Rattle.net_model.specs.Laws.{HasFlows}
 use Rattle.law_period.specs.Static.{NetRates, rated_between, rated, before_links, inner_links}
-use Rattle.law_period.specs.Runs.{IsEmpty, IsOn, IsAtRest, given_at, taken_at, held, IsWithinPeaks}
-use Rattle.law_period.proofs.Deliveries.{same_get, length_each, IsChanged, changed_from, rated_inside, arrive, settled, MayArrive}
+use Rattle.law_period.specs.Runs.{IsEmpty, IsAtRest, given_at, taken_at, IsWithinPeaks}
+use Rattle.law_period.proofs.Deliveries.{same_get, length_each, changed_from, rated_inside, arrive, settled, MayArrive}
 
 -- how often each leaf stands in an order
 abbrev pub counts : List ℕ → ℕ → ℕ

@@ -1,6 +1,6 @@
 -- The turns of a period one after another, from a state between periods to the next, or up to a trap.
-use Rattle.std.proofs.Common.{◌≡◌, ◌⊎◌, ℕ, zero, suc, ◌+◌, ◌-◌, ◌*◌, ◌<◌, ◌≤◌, true, false, List, [], ◌∷◌, ◌++◌, ℤ, length, map, take, refl, sym, ap, ◌∙◌, subst, inl, inr, ⊎_elim, arith, append-nil, append_assoc}
-use Rattle.std.specs.Prelude.{All, Option, None, Some, slice_get}
+use Rattle.std.proofs.Common.{◌≡◌, ◌⊎◌, ℕ, zero, suc, ◌+◌, ◌*◌, ◌<◌, true, false, List, [], ◌∷◌, ◌++◌, length, map, take, refl, sym, ap, ◌∙◌, subst, inl, inr, ⊎_elim, arith, append-nil, append_assoc}
+use Rattle.std.specs.Prelude.{Option, None, Some, slice_get}
 use Rattle.std.proofs.lemmas.List.{length-map}
 use Rattle.std.proofs.lemmas.List.Elements.{All-contains}
 use Rattle.std.proofs.lemmas.Option.{slice_get_within}
@@ -8,21 +8,20 @@ use Rattle.rvc_base.specs.declared.trap.Trap.{Trap as TrapName}
 use Rattle.rvc_base.specs.Behaviour.{Picks}
 use Rattle.balanced_rates.specs.declared.link.RatedLink.{RatedLink}
 use Rattle.balanced_rates.specs.Balance.{IsBalanced}
-use Rattle.period_order.specs.Turns.{turns}
 use Rattle.net_model.specs.declared.wiring.End.{End}
 use Rattle.net_model.specs.declared.wiring.End.TheVariants.{Leaf as AtLeaf, Net as AtNet}
 use Rattle.net_model.specs.declared.wiring.Link.{Link}
-use Rattle.net_model.specs.Network.{NetPort, Leaf, Network, is_outside, is_input, is_output}
+use Rattle.net_model.specs.Network.{NetPort, Leaf, Network, is_outside}
 use Rattle.net_model.specs.State.{Flow, State, fed_by, first_flow, start_of, choice_at}
 use Rattle.net_model.specs.Event.{Event, Trap, run}
 use Rattle.net_model.specs.Wired.{IsWired, HasInput, HasOutput, ComesFromPort, LeadsToPort}
-use Rattle.net_model.specs.Laws.{HasFlows, AreOrdered, AreLawful}
+use Rattle.net_model.specs.Laws.{AreOrdered, AreLawful}
 use Rattle.net_model.proofs.Bounds.{run_ordered}
 use Rattle.net_model.proofs.Lines.{run_then, starts_in_order}
-use Rattle.law_period.specs.Static.{NetRates, AreStatic, rated_between, rated, inner_links, IsPeriodOf}
-use Rattle.law_period.specs.Runs.{IsEmpty, IsAtRest, given_at, taken_at, HasEnoughInput, all_arrive, IsTurn, AreTurns, IsWithinPeaks, Throughout, IsMoved, Completes, TrapsOnTheWay}
+use Rattle.law_period.specs.Static.{NetRates, AreStatic, rated_between, inner_links, IsPeriodOf}
+use Rattle.law_period.specs.Runs.{IsEmpty, IsAtRest, given_at, taken_at, HasEnoughInput, all_arrive, AreTurns, IsWithinPeaks, Throughout, IsMoved, Completes, TrapsOnTheWay}
 use Rattle.law_period.proofs.Deliveries.{same_get, throughout_then, at_once, arrivals_within, settled, MayArrive, arrivals_lead}
-use Rattle.law_period.proofs.Progress.{counts, IsMovedOn, WasMoved, IsBehind, AllHere, inner_there, behind_none, behind_settled, all_here, within_behind}
+use Rattle.law_period.proofs.Progress.{counts, IsBehind, AllHere, inner_there, behind_none, behind_settled, all_here, within_behind}
 use Rattle.law_period.proofs.OneTurn.{Turned, Trapped, turn_or_trap, within_at}
 
 -- a leaf that an end is at is one of the network's

@@ -1,6 +1,6 @@
 -- What holds of periods of all networks of static actors, as statements.
 -- Trusted: part of what a promise means.
-use Rattle.std.specs.Prelude.{◌≡◌, ◌↔◌, ◌⊎◌, ℕ, ◌<◌, List, All, length}
+use Rattle.std.specs.Prelude.{◌↔◌, ◌⊎◌, ℕ, ◌<◌, List, All}
 use Rattle.balanced_rates.specs.declared.link.RatedLink.{RatedLink}
 use Rattle.balanced_rates.specs.Balance.{IsAmong, Balances, IsLeast, IsMultipleFrom}
 use Rattle.period_order.specs.Turns.{IsPeriod, IsBlocked}

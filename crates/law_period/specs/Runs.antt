@@ -1,6 +1,6 @@
 -- A period at work: the run of events in which the leaves of an order take their turns.
 -- Trusted: part of what a promise means.
-use Rattle.std.specs.Prelude.{◌≡◌, ℕ, suc, ◌+◌, ◌-◌, ◌*◌, ◌≤◌, false, true, List, [], ◌∷◌, ◌++◌, length, slice_get, None, Some}
+use Rattle.std.specs.Prelude.{◌≡◌, ℕ, suc, ◌+◌, ◌-◌, ◌*◌, ◌≤◌, false, true, List, [], ◌∷◌, ◌++◌, length, slice_get, Some}
 use Rattle.rvc_base.specs.declared.trap.Trap.{Trap as TrapName}
 use Rattle.rvc_base.specs.Behaviour.{Picks}
 use Rattle.balanced_rates.specs.declared.link.RatedLink.{RatedLink}
