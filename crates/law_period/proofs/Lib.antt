@@ -1,7 +1,8 @@
-mod Blocked
-mod Cycles
 mod Multiples
+mod Cycles
+mod Blocked
 mod Deliveries
 mod Progress
 mod OneTurn
-mod WholePeriod
+pub mod WholePeriod
+mod Worked

@@ -19,7 +19,7 @@ use Rattle.net_model.specs.Laws.{AreOrdered, AreLawful}
 use Rattle.net_model.proofs.Bounds.{run_ordered}
 use Rattle.net_model.proofs.Lines.{run_then, starts_in_order}
 use Rattle.law_period.specs.Static.{NetRates, AreStatic, rated_between, inner_links, IsPeriodOf}
-use Rattle.law_period.specs.Runs.{IsEmpty, IsAtRest, given_at, taken_at, HasEnoughInput, all_arrive, AreTurns, IsWithinPeaks, Throughout, IsMoved, Completes, TrapsOnTheWay}
+use Rattle.law_period.specs.Runs.{IsEmpty, IsAtRest, given_at, taken_at, HasEnoughInput, all_arrive, AreTurns, PlaysOrder, IsWithinPeaks, Throughout, IsMoved, Completes, TrapsOnTheWay}
 use Rattle.law_period.proofs.Deliveries.{same_get, throughout_then, at_once, arrivals_within, settled, MayArrive, arrivals_lead}
 use Rattle.law_period.proofs.Progress.{counts, IsBehind, AllHere, inner_there, behind_none, behind_settled, all_here, within_behind}
 use Rattle.law_period.proofs.OneTurn.{Turned, Trapped, turn_or_trap, within_at}
@@ -77,6 +77,15 @@ module _ {X : Type 0} (net : Network X) (kept : ℕ → X → Type 0) (rates : N
     leads : run net s (events ++ Trap leaf action cause ∷ []) ≡ Some last
     within : Throughout net (IsWithinPeaks net rates order) s (events ++ Trap leaf action cause ∷ [])
 
+  -- a run in three parts, of which the last two were joined
+  run_joined : (s t u : State X) (one two three : List Event) → run net s one ≡ Some t → run net t (two ++ three) ≡ Some u → run net s ((one ++ two) ++ three) ≡ Some u
+  run_joined s t u one two three first rest =
+      subst (λ es. run net s es ≡ Some u) (sym (append_assoc one two three)) (run_then net s t u one (two ++ three) first rest)
+
+  throughout_joined : (s t : State X) (one two three : List Event) → run net s one ≡ Some t → Throughout net (IsWithinPeaks net rates order) s one → Throughout net (IsWithinPeaks net rates order) t (two ++ three) → Throughout net (IsWithinPeaks net rates order) s ((one ++ two) ++ three)
+  throughout_joined s t one two three leads first rest =
+      subst (λ es. Throughout net (IsWithinPeaks net rates order) s es) (sym (append_assoc one two three)) (throughout_then net (IsWithinPeaks net rates order) one (two ++ three) s t leads first rest)
+
   traps_here : (leaf : ℕ) (after : List ℕ) (s : State X) → IsWithinPeaks net rates order s → Trapped net leaf s → Stopped (leaf ∷ after) s
   traps_here leaf after s within trapped = record {
     before = [];
@@ -108,7 +117,6 @@ module _ {X : Type 0} (net : Network X) (kept : ℕ → X → Type 0) (rates : N
   stops_on : (front : List ℕ) (leaf : ℕ) (left : List ℕ) (s : State X) (turn : Turned net kept rates order start.flows front leaf s) → Stopped left turn.next → Stopped (leaf ∷ left) s
   stops_on front leaf left s turn more =
       let trap : List Event = Trap more.leaf more.action more.cause ∷ [] in
-      let joined : (turn.events ++ more.events) ++ trap ≡ turn.events ++ (more.events ++ trap) = append_assoc turn.events more.events trap in
       record {
         before = leaf ∷ more.before;
         leaf = more.leaf;
@@ -121,10 +129,8 @@ module _ {X : Type 0} (net : Network X) (kept : ℕ → X → Type 0) (rates : N
         cause = more.cause;
         chosen = more.chosen;
         last = more.last;
-        leads = subst (λ es. run net s es ≡ Some more.last) (sym joined)
-            (run_then net s turn.next more.last turn.events (more.events ++ trap) turn.leads more.leads);
-        within = subst (λ es. Throughout net (IsWithinPeaks net rates order) s es) (sym joined)
-            (throughout_then net (IsWithinPeaks net rates order) turn.events (more.events ++ trap) s turn.next turn.leads turn.within more.within);
+        leads = run_joined s turn.next more.last turn.events more.events trap turn.leads more.leads;
+        within = throughout_joined s turn.next turn.events more.events trap turn.leads turn.within more.within;
       }
 
   played_from : (left front : List ℕ) (s : State X) → order ≡ front ++ left → IsBehind net kept rates start.flows front s → AllHere s.flows → PlayedOut left s ⊎ Stopped left s
@@ -211,6 +217,9 @@ module _ {X : Type 0} (net : Network X) (kept : ℕ → X → Type 0) (rates : N
   may_arrive : MayArrive start.flows
   may_arrive l flow at = (rest.ordered l flow at).1
 
+  plays_all : (ready last : State X) (turns_left : List ℕ) (turn_events : List Event) → run net start (all_arrive start) ≡ Some ready → AreTurns net ready turns_left turn_events last → PlaysOrder net start turns_left (all_arrive start ++ turn_events) last
+  plays_all ready last turns_left turn_events arrives taken = record { ready = ready; turns = turn_events; arrives = arrives; taken = taken; events_are = refl }
+
   pub period_runs : Completes net kept rates firings order start ⊎ TrapsOnTheWay net rates order start
   period_runs =
       let ready : State X = settled net start in
@@ -224,7 +233,7 @@ module _ {X : Type 0} (net : Network X) (kept : ℕ → X → Type 0) (rates : N
       inl (record {
         events = all_arrive start ++ played.events;
         last = played.last;
-        plays = record { ready = ready; turns = played.events; arrives = arrives; taken = played.turns_are; events_are = refl };
+        plays = plays_all ready played.last order played.events arrives played.turns_are;
         leads = leads;
         within = throughout_then net (IsWithinPeaks net rates order) (all_arrive start) played.events start ready arrives within_arrivals played.within;
         at_rest = rests_again played.last (run_ordered net (all_arrive start ++ played.events) start played.last wired lawful rest.ordered leads) played.behind played.here;
@@ -232,7 +241,6 @@ module _ {X : Type 0} (net : Network X) (kept : ℕ → X → Type 0) (rates : N
       }))
       (λ stopped.
       let trap : List Event = Trap stopped.leaf stopped.action stopped.cause ∷ [] in
-      let joined : (all_arrive start ++ stopped.events) ++ trap ≡ all_arrive start ++ (stopped.events ++ trap) = append_assoc (all_arrive start) stopped.events trap in
       inr (record {
         before = stopped.before;
         leaf = stopped.leaf;
@@ -240,15 +248,13 @@ module _ {X : Type 0} (net : Network X) (kept : ℕ → X → Type 0) (rates : N
         order_is = stopped.left_is;
         events = all_arrive start ++ stopped.events;
         reached = stopped.reached;
-        plays = record { ready = ready; turns = stopped.events; arrives = arrives; taken = stopped.turns_are; events_are = refl };
+        plays = plays_all ready stopped.reached stopped.before stopped.events arrives stopped.turns_are;
         action = stopped.action;
         cause = stopped.cause;
         chosen = stopped.chosen;
         last = stopped.last;
-        leads = subst (λ es. run net start es ≡ Some stopped.last) (sym joined)
-            (run_then net start ready stopped.last (all_arrive start) (stopped.events ++ trap) arrives stopped.leads);
-        within = subst (λ es. Throughout net (IsWithinPeaks net rates order) start es) (sym joined)
-            (throughout_then net (IsWithinPeaks net rates order) (all_arrive start) (stopped.events ++ trap) start ready arrives within_arrivals stopped.within);
+        leads = run_joined start ready stopped.last (all_arrive start) stopped.events trap arrives stopped.leads;
+        within = throughout_joined start ready (all_arrive start) stopped.events trap arrives within_arrivals stopped.within;
       }))
       (played_from order [] ready refl (behind_settled net kept rates start.flows [] start behind_start) (all_here net start may_arrive))
 
