@@ -132,23 +132,29 @@ module _ (n : ℕ) (links : List RatedLink) (firings : ℕ → ℕ) where
   period_or_blocked =
       let out = played_out (total (left_of []) n) [] (omega arith) (λ p inside. absurd (omega (arith, inside))) (λ k. omega arith) in
       ⊎_elim
-      (λ found. inr (found.0, record {
-        order = out.order;
-        least_first = out.least_first;
-        none = out.none;
-        among = found.1;
-        left = found.2;
-        first = λ other less.
-            ⊎_elim (λ (left : turns other out.order < firings other). absurd (found.3 other less left))
-            (λ (none : firings other ≤ turns other out.order). none) (cases_lt (turns other out.order) (firings other));
-      }))
-      (λ none. inl (out.order, record {
-        among = λ p d inside. subst (λ k. k < n) (get_or_default out.order p 0 d inside) (out.least_first p inside).may.among;
-        finds = λ p inside. (out.least_first p inside).may.finds;
-        counts = λ leaf inside.
-            ⊎_elim (λ (left : turns leaf out.order < firings leaf). absurd (none leaf inside left))
-            (λ (over : firings leaf ≤ turns leaf out.order). let within = out.within leaf in omega (arith, over, within)) (cases_lt (turns leaf out.order) (firings leaf));
-      }))
+      (λ found. inr (
+        found.0,
+        record {
+          order = out.order;
+          least_first = out.least_first;
+          none = out.none;
+          among = found.1;
+          left = found.2;
+          first = λ other less.
+              ⊎_elim (λ (left : turns other out.order < firings other). absurd (found.3 other less left))
+              (λ (none : firings other ≤ turns other out.order). none) (cases_lt (turns other out.order) (firings other));
+        },
+      ))
+      (λ none. inl (
+        out.order,
+        record {
+          among = λ p d inside. subst (λ k. k < n) (get_or_default out.order p 0 d inside) (out.least_first p inside).may.among;
+          finds = λ p inside. (out.least_first p inside).may.finds;
+          counts = λ leaf inside.
+              ⊎_elim (λ (left : turns leaf out.order < firings leaf). absurd (none leaf inside left))
+              (λ (over : firings leaf ≤ turns leaf out.order). let within = out.within leaf in omega (arith, over, within)) (cases_lt (turns leaf out.order) (firings leaf));
+        },
+      ))
       (first_or_none (HasLeft out.order) (left_decided out.order) n)
 
   pub blocked_has_none : All (IsAmong n) links → ((leaf : ℕ) × IsBlocked n links firings leaf) → (order : List ℕ) → ¬ IsPeriod n links firings order

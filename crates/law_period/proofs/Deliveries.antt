@@ -71,9 +71,11 @@ next_then (Some u) f P Q t h on p = p u h on
 pub throughout_then : {X : Type 0} (net : Network X) (P : State X → Type 0) (one two : List Event) (s t : State X) → run net s one ≡ Some t → Throughout net P s one → Throughout net P t two → Throughout net P s (one ++ two)
 throughout_then net P [] two s t leads first rest =
     let same : s ≡ t = cc in subst (λ u. Throughout net P u two) (sym same) rest
-throughout_then net P (event ∷ one) two s t leads first rest =
-    (first.0, next_then (happens net s event) (λ next. run net next one) (λ next. Throughout net P next one) (λ next. Throughout net P next (one ++ two)) t leads first.1
-    (λ u leads' along. throughout_then net P one two u t leads' along rest))
+throughout_then net P (event ∷ one) two s t leads first rest = (
+  first.0,
+  next_then (happens net s event) (λ next. run net next one) (λ next. Throughout net P next one) (λ next. Throughout net P next (one ++ two)) t leads first.1
+      (λ u leads' along. throughout_then net P one two u t leads' along rest),
+)
 
 pub at_once : {X : Type 0} (net : Network X) (P : State X → Type 0) (s t : State X) (event : Event) → happens net s event ≡ Some t → P s → P t → Throughout net P s (event ∷ [])
 at_once net P s t event h first last = (first, on_one (happens net s event) h)
@@ -113,9 +115,11 @@ module _ {X : Type 0} (net : Network X) (rates : NetRates) (order : List ℕ) wh
 
   pub arrivals_within : (flows : List Flow) (l : ℕ) (s t : State X) → run net s (arrivals l flows) ≡ Some t → IsWithinPeaks net rates order s → Throughout net (IsWithinPeaks net rates order) s (arrivals l flows)
   arrivals_within [] l s t leads within = within
-  arrivals_within (flow ∷ flows) l s t leads within =
-      (within, on_step (happens net s (Deliver l (length flow.sent - flow.arrived))) (λ next. run net next (arrivals (suc l) flows)) (λ next. Throughout net (IsWithinPeaks net rates order) next (arrivals (suc l) flows)) t leads
-      (λ u happened leads'. arrivals_within flows (suc l) u t leads' (arrival_within s u l (length flow.sent - flow.arrived) happened within)))
+  arrivals_within (flow ∷ flows) l s t leads within = (
+    within,
+    on_step (happens net s (Deliver l (length flow.sent - flow.arrived))) (λ next. run net next (arrivals (suc l) flows)) (λ next. Throughout net (IsWithinPeaks net rates order) next (arrivals (suc l) flows)) t leads
+        (λ u happened leads'. arrivals_within flows (suc l) u t leads' (arrival_within s u l (length flow.sent - flow.arrived) happened within)),
+  )
 
 -- ---- all arrives
 abbrev pub arrive : Link → Flow → Flow

@@ -1,14 +1,12 @@
 -- A worked case, computed by the definitions: it meets each premise of the law of periods. A leaf takes one token and
 -- gives one, and the next takes two and gives one, so they fire twice and once.
-use Rattle.std.proofs.Common.{◌≡◌, ◌⊎◌, ℕ, zero, suc, ◌+◌, ◌*◌, ◌<◌, ◌≤◌, true, false, List, [], ◌∷◌, ◌++◌, ℤ, pos, length, inl, refl, sym, subst, arith}
+use Rattle.std.proofs.Common.{◌≡◌, ◌⊎◌, ℕ, zero, suc, ◌+◌, ◌<◌, ◌≤◌, true, false, List, [], ◌∷◌, ◌++◌, ℤ, pos, inl, refl, sym, subst, arith}
 use Rattle.std.proofs.lemmas.Bool.{le-leb}
-use Rattle.std.specs.Prelude.{All, Some, None, slice_get, slice_index, take, codes}
-use Rattle.rvc_base.specs.declared.scalar.Scalar.TheVariants.{Uint}
-use Rattle.rvc_base.specs.Behaviour.{Behaviour, Picks}
+use Rattle.std.specs.Prelude.{All, Some, slice_get, slice_index, take, codes}
 use Rattle.rvc_base.specs.Lawful.{IsLawful}
 use Rattle.balanced_rates.specs.declared.link.RatedLink.{RatedLink}
 use Rattle.balanced_rates.specs.Balance.{IsBalanced}
-use Rattle.period_order.specs.Turns.{IsPeriod, IsPeak, Finds, turns, given, taken, waiting}
+use Rattle.period_order.specs.Turns.{IsPeak, Finds, turns, given, taken, waiting}
 use Rattle.net_model.specs.declared.wiring.End.TheVariants.{Net as AtNet}
 use Rattle.net_model.specs.declared.wiring.Link.{Link}
 use Rattle.net_model.specs.Network.{Leaf, Network, is_input}
@@ -20,7 +18,7 @@ use Rattle.net_model.specs.TableActor.{Row, Sends, table_actor, takes_of, gives_
 use Rattle.net_model.proofs.Rows.{link, byte_port, leaf_port}
 use Rattle.net_model.proofs.TableActor.{table_is_lawful}
 use Rattle.law_period.specs.Static.{NetRates, IsStatic, AreStatic, inner_links, IsReached, IsPeriodOf}
-use Rattle.law_period.specs.Runs.{IsOn, HasEnoughInput, all_arrive, taken_at, held, PlaysOrder, Completes, TrapsOnTheWay}
+use Rattle.law_period.specs.Runs.{HasEnoughInput, taken_at, held, PlaysOrder, Completes, TrapsOnTheWay}
 use Rattle.law_period.proofs.WholePeriod.{period_runs, starts_at_rest}
 
 abbrev taking : ℕ → List Row
@@ -125,33 +123,33 @@ joined : (l : ℕ) (that : Link) → slice_get net.links l ≡ Some that → IsJ
 joined zero that at =
     let is : link (AtNet 0) (leaf_port 0 0) 512 ≡ that = cc in
     subst (λ k. IsJoined net k) is (record {
-  from_port = omega arith;
-  to_port = omega arith;
-  inside = λ e. refl;
-  output_kind = tt;
-  holds_needs = λ a. (let few = few_needs 1 a 0 in omega (arith, few));
-  holds_gives = tt;
-})
+      from_port = omega arith;
+      to_port = omega arith;
+      inside = λ e. refl;
+      output_kind = tt;
+      holds_needs = λ a. (let few = few_needs 1 a 0 in omega (arith, few));
+      holds_gives = tt;
+    })
 joined (suc zero) that at =
     let is : link (leaf_port 0 0) (leaf_port 1 0) 512 ≡ that = cc in
     subst (λ k. IsJoined net k) is (record {
-  from_port = omega arith;
-  to_port = omega arith;
-  inside = λ e. cc;
-  output_kind = tt;
-  holds_needs = λ a. (let few = few_needs 2 a 0 in omega (arith, few));
-  holds_gives = λ a. (let few = few_gives 1 a 0 in omega (arith, few));
-})
+      from_port = omega arith;
+      to_port = omega arith;
+      inside = λ e. cc;
+      output_kind = tt;
+      holds_needs = λ a. (let few = few_needs 2 a 0 in omega (arith, few));
+      holds_gives = λ a. (let few = few_gives 1 a 0 in omega (arith, few));
+    })
 joined (suc (suc zero)) that at =
     let is : link (leaf_port 1 0) (AtNet 0) 512 ≡ that = cc in
     subst (λ k. IsJoined net k) is (record {
-  from_port = omega arith;
-  to_port = omega arith;
-  inside = λ e. cc;
-  output_kind = refl;
-  holds_needs = tt;
-  holds_gives = λ a. (let few = few_gives 2 a 0 in omega (arith, few));
-})
+      from_port = omega arith;
+      to_port = omega arith;
+      inside = λ e. cc;
+      output_kind = refl;
+      holds_needs = tt;
+      holds_gives = λ a. (let few = few_gives 2 a 0 in omega (arith, few));
+    })
 joined (suc (suc (suc l))) that at = cc
 
 both_are : (a b that other : Link) → Some a ≡ Some that → Some b ≡ Some other → IsBefore a.to b.to → IsBefore that.to other.to
@@ -243,7 +241,6 @@ has_input that flow on = input_at on.0 on.1 on.2
     input_at (suc zero) p q is = let one : link (leaf_port 0 0) (leaf_port 1 0) 512 ≡ that = cc in absurd (no_input _ that one refl is)
     input_at (suc (suc zero)) p q is = let one : link (leaf_port 1 0) (AtNet 0) 512 ≡ that = cc in absurd (no_input _ that one refl is)
     input_at (suc (suc (suc l))) p q is = cc
-
 
 worked : Completes net kept rates firings order start ⊎ TrapsOnTheWay net rates order start
 worked = period_runs net kept rates firings order start wired lawful static is_period (starts_at_rest net kept rates ((7 ∷ 8 ∷ []) ∷ []) static) has_input
