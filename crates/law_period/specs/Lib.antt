@@ -1,0 +1,4 @@
+pub mod Cycles
+pub mod Laws
+pub mod Runs
+pub mod Static
