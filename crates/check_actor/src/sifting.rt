@@ -55,7 +55,7 @@ fn check_head(names: &Names, f: DeclaredFun) -> Result<(), KindFault>
 }
 
 /// The head of a function, unless something isn't constant there.
-fn sift_head(names: &Names, f: DeclaredFun) -> Result<(), Front>
+pub(crate) fn sift_head(names: &Names, f: DeclaredFun) -> Result<(), Front>
     ensures { Sifts result (found_in f.entry.file
         (broken (head_judged (function_tree f.entry.decl.now) (names_view names.now)))) }
 {
