@@ -1,20 +1,23 @@
 -- What calls answer that seek what functions break of themselves.
 -- Not trusted: no promise is read with it.
-use Rattle.std.specs.Prelude.{◌≡◌, ◌⊎◌, Bool, false, ◌==◌, List, [], if◌then◌else◌}
+use Rattle.std.specs.Prelude.{◌≡◌, ◌⊎◌, Bool, true, false, ◌==◌, List, [], Contains, Option, None, Some, if◌then◌else◌}
 use Rattle.std.specs.declared.result.Result.{Result}
 use Rattle.std.specs.declared.result.Result.TheVariants.{Ok, Err}
 use Rattle.rvc_base.specs.Rules.{unknown_name}
 use Rattle.rvc_base.specs.declared.refusal.Front.{Front}
 use Rattle.rvc_base.specs.declared.refusal.Front.TheVariants as front
+use Rattle.rvc_base.specs.declared.refusal.Place.{Place}
+use Rattle.rvc_base.specs.declared.memory.Memory.{Memory}
 use Rattle.cal_model.specs.Kinding.{Names}
 use Rattle.cal_model.specs.View.{actor_of}
 use Rattle.cal_model.specs.declared.bound.Bound.{Bound}
-use Rattle.cal_check.specs.Actors.{IsSource, IsViolated, Source}
+use Rattle.cal_check.specs.Actors.{IsSource, IsViolated, Source, heads_broken}
 use Rattle.cal_check.specs.Routines.{FunDecl}
-use Rattle.cal_check.specs.Variables.{Given, Spot}
+use Rattle.cal_check.specs.Variables.{Found, Given, Spot}
+use Rattle.check_variable.specs.Causes.{inconstant}
 use Rattle.check_given.specs.Causes.{IsCause}
 use Rattle.check_actor.specs.Checked.{found_of}
-use Rattle.check_actor.specs.Functions.{fun_found, functions_found, lacks_kinds, of_themselves, settled_found}
+use Rattle.check_actor.specs.Functions.{IsCycleAt, fun_found, functions_found, lacking, lacks_kinds, of_themselves, others_found, settled_found}
 
 -- a name has no kind
 abbrev pub lacks_name : Front → Bool
@@ -44,6 +47,27 @@ TellsFunctions fs names (front.Refused r) told =
     ⊎ IsCause told (functions_found fs names)
 TellsFunctions fs names front.Memory told = told ≡ front.Memory
 
+-- ---- heads that aren't constant
+
+-- where the first of these is that something isn't constant
+abbrev pub LacksIn : Result (Option Place) Memory → List Found → Type 0
+LacksIn (Ok (Some p)) fs = Contains (lacking fs) (inconstant p)
+LacksIn (Ok None) fs = lacking fs ≡ []
+LacksIn (Err e) fs = Unit {0}
+
+-- of all that is broken this is left
+pub record IsHeadLeft (left all : List Found) : Type 0 where
+  pub none : lacking left ≡ [] → lacking all ≡ []
+  pub there : (f : Found) → Contains (lacking left) f → Contains (lacking all) f
+
+-- a refusal stays, unless a name has no kind there and some head isn't constant
+abbrev pub TellsHeads : List Found → (fault told : Front) → Type 0
+TellsHeads heads (front.Refused r) told =
+    ((told ≡ front.Refused r)
+    × (((r.rule.0 == unknown_name.0) ≡ false) ⊎ (lacking heads ≡ [])))
+    ⊎ (((r.rule.0 == unknown_name.0) ≡ true) × IsCause told (lacking heads))
+TellsHeads heads front.Memory told = told ≡ front.Memory
+
 -- ---- an actor whose functions break nothing of themselves
 
 -- a rule that it breaks
@@ -55,3 +79,14 @@ IsRefusedBehind front.Memory s gs owner = Unit {0}
 abbrev pub IsCheckedBehind : Result Bound Front → Source → List Given → Spot → Type 0
 IsCheckedBehind (Ok b) s gs owner = IsSource s gs owner (actor_of b)
 IsCheckedBehind (Err f) s gs owner = IsRefusedBehind f s gs owner
+
+-- the same, once a head is named that isn't constant
+abbrev pub IsNamedBehind : Front → Source → List Given → Spot → Type 0
+IsNamedBehind (front.Refused r) s gs owner =
+    Contains (others_found s gs owner) (found_of r) ⊎ IsCycleAt s gs owner (found_of r)
+IsNamedBehind front.Memory s gs owner = Unit {0}
+
+-- what is told of a fault behind the variables, over these functions and names
+abbrev pub TellsBehind : List FunDecl → Names → (fault told : Front) → Type 0
+TellsBehind fs names fault told =
+    (g : Front) × TellsHeads (heads_broken fs names) fault g × TellsFunctions fs names g told

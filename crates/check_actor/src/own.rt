@@ -1,17 +1,23 @@
 //! What functions break of themselves.
 
-ghost use Rattle.std.specs.Prelude.{◌≡◌};
+ghost use Rattle.std.specs.Prelude.{◌≡◌, true};
+ghost use Rattle.cal_ast.specs.View.{function_tree};
+ghost use Rattle.cal_check.specs.Actors.{heads_broken};
+ghost use Rattle.cal_check.specs.Routines.{head_judged};
+ghost use Rattle.cal_check.specs.Variables.{found_in};
+ghost use Rattle.cal_check.specs.Violations.{broken};
 ghost use Rattle.const_env.specs.Counting.{names_view};
 ghost use Rattle.check_functions.specs.Known.{fun_decl, fun_decls};
 ghost use Rattle.check_actor.specs.Functions.{fun_found};
-ghost use Rattle.check_actor.specs.Own.{FindsOwn, FindsOwnOf, TellsFunctions, lacks_name};
+ghost use Rattle.check_actor.specs.Own.{FindsOwn, FindsOwnOf, LacksIn, TellsBehind, TellsFunctions, TellsHeads, lacks_name};
 ghost use Rattle.check_actor.specs.Sifting.{Sifts};
 
 use crate::others::sift_body;
-use crate::sifting::sift_head;
+use crate::said::{inconstant, is_not_constant};
+use crate::sifting::{check_head, sift_head};
 use check_functions::DeclaredFun;
-use const_eval::Names;
-use rvc_base::{Front, Refusal, Rule};
+use const_eval::{KindFault, Names};
+use rvc_base::{Front, Memory, Place, Refusal, Rule};
 
 /// The head of a function and what is inside, unless something isn't constant there.
 fn sift_function(names: &Names, f: DeclaredFun) -> Result<(), Front>
@@ -75,4 +81,69 @@ pub(crate) fn functions_first(names: &Names, funs: &[DeclaredFun], fault: Front)
         Front::Refused(refusal) => first_of(names, funs, refusal),
         Front::Memory => Front::Memory,
     }
+}
+
+/// Where a head isn't constant.
+fn head_lacks(names: &Names, f: DeclaredFun) -> Result<Option<Place>, Memory>
+    ensures { LacksIn result (found_in f.entry.file
+        (broken (head_judged (function_tree f.entry.decl.now) (names_view names.now)))) }
+{
+    match check_head(names, f) {
+        Ok(()) => Ok(None),
+        Err(KindFault::Broken { rule, at }) => {
+            let place = Place {
+                file: f.file,
+                offset: at,
+            };
+            Ok(is_not_constant(rule).then_some(place))
+        }
+        Err(KindFault::Memory) => Err(Memory),
+    }
+}
+
+/// Where the first head of these functions isn't constant.
+fn first_head(names: &Names, funs: &[DeclaredFun]) -> Result<Option<Place>, Memory>
+    ensures { LacksIn result (heads_broken (fun_decls funs.now) (names_view names.now)) }
+{
+    for f in funs {
+        if let Some(place) = head_lacks(names, *f)? {
+            return Ok(Some(place));
+        }
+    }
+    Ok(None)
+}
+
+/// What is said where a name has no kind: that the first head isn't constant, if one isn't.
+fn unnamed(names: &Names, funs: &[DeclaredFun], refusal: Refusal) -> Front
+    requires { lacks_name (Front.Refused refusal) ≡ true }
+    ensures { TellsHeads (heads_broken (fun_decls funs.now) (names_view names.now)) (Front.Refused refusal) result }
+{
+    match first_head(names, funs) {
+        Ok(Some(place)) => inconstant(place),
+        Ok(None) => Front::Refused(refusal),
+        Err(Memory) => Front::Memory,
+    }
+}
+
+/// What is said of a fault of an actor with these functions. All names are declared, so if one has no kind, that follows from
+/// a head that isn't constant, which is said in its place.
+fn heads_first(names: &Names, funs: &[DeclaredFun], fault: Front) -> Front
+    ensures { TellsHeads (heads_broken (fun_decls funs.now) (names_view names.now)) fault result }
+{
+    match fault {
+        Front::Refused(refusal) => {
+            if lacks_name(Front::Refused(refusal)) {
+                return unnamed(names, funs, refusal);
+            }
+            Front::Refused(refusal)
+        }
+        Front::Memory => Front::Memory,
+    }
+}
+
+/// What is said of a fault behind the variables of an actor with these functions.
+pub(crate) fn said_behind(names: &Names, funs: &[DeclaredFun], fault: Front) -> Front
+    ensures { TellsBehind (fun_decls funs.now) (names_view names.now) fault result }
+{
+    functions_first(names, funs, heads_first(names, funs, fault))
 }

@@ -21,7 +21,7 @@ use crate::collect::declared_funs;
 use crate::early::{Early, check_given, early_values};
 use crate::heading::header_told;
 use crate::inside::actor_inside;
-use crate::own::functions_first;
+use crate::own::{functions_first, said_behind};
 use crate::routines::routines_of;
 use crate::said::{said_first, settled, untyped};
 use cal_imports::Scope;
@@ -118,7 +118,7 @@ fn check_early(told: Told<'_>, scope: &Scope, early: Early) -> Result<Bound, Fro
     let names = Names::outermost(told.alloc, &env);
     match check_valued(told, &names, scope, early) {
         Ok(found) => Ok(found),
-        Err(fault) => Err(functions_first(&names, told.funs, fault)),
+        Err(fault) => Err(said_behind(&names, told.funs, fault)),
     }
 }
 
