@@ -73,7 +73,7 @@ named_behind (front.Refused q) (front.Refused r) s gs owner (inr (lacks, cause))
   where
     go : IsViolated s gs owner (found_of q) → IsNamedBehind (front.Refused r) s gs owner
     go (inl c) = inl (said_of_heads (lacking (heads_broken (all_funs s) (around_of s gs owner).names)) (violations s gs owner) (found_of r) (found_of q) lacks c cause)
-    go (inr c) = absurd (clash (ap (λ x. x.0 == unknown_name.0) (sym c.2.0) ∙ lacks))
+    go (inr c) = absurd (clash (ap (λ x. x.0 == unknown_name.0) (sym c.2) ∙ lacks))
 named_behind front.Memory (front.Refused r) s gs owner same h = absurd (cc)
 named_behind fault front.Memory s gs owner t h = tt
 

@@ -91,11 +91,11 @@ fn head_lacks(names: &Names, f: DeclaredFun) -> Result<Option<Place>, Memory>
     match check_head(names, f) {
         Ok(()) => Ok(None),
         Err(KindFault::Broken { rule, at }) => {
-            let place = Place {
-                file: f.file,
-                offset: at,
-            };
-            Ok(is_not_constant(rule).then_some(place))
+            if is_not_constant(rule) {
+                let file = f.file;
+                return Ok(Some(Place { file, offset: at }));
+            }
+            Ok(None)
         }
         Err(KindFault::Memory) => Err(Memory),
     }
@@ -106,7 +106,8 @@ fn first_head(names: &Names, funs: &[DeclaredFun]) -> Result<Option<Place>, Memo
     ensures { LacksIn result (heads_broken (fun_decls funs.now) (names_view names.now)) }
 {
     for f in funs {
-        if let Some(place) = head_lacks(names, *f)? {
+        let lacks = head_lacks(names, *f)?;
+        if let Some(place) = lacks {
             return Ok(Some(place));
         }
     }

@@ -86,12 +86,7 @@ fn check_members(
 }
 
 /// The actor of variables that break no rule, but perhaps that something isn't constant.
-fn check_valued(
-    told: Told<'_>,
-    names: &Names,
-    scope: &Scope,
-    early: Early,
-) -> Result<Bound, Front>
+fn check_valued(told: Told<'_>, names: &Names, scope: &Scope, early: Early) -> Result<Bound, Front>
     requires funs { fun_decls told.funs.now ≡ all_funs (source_in scope.now) }
     requires names { names_view names.now
         ≡ (around_of (source_in scope.now) (all_given told.given.now) (spot_of told.owner)).names }
