@@ -10,4 +10,6 @@ mod Putting
 mod Ported
 mod SiftedInside
 mod Telling
+mod Owned
+mod Answering
 mod Naming

@@ -17,19 +17,20 @@ use Rattle.cal_model.specs.declared.bound.Bound.{Bound}
 use Rattle.cal_check.proofs.Lists.{at-head, each-append, in-none}
 use Rattle.cal_check.specs.Constants.{early_type}
 use Rattle.cal_check.specs.Routines.{FunDecl}
-use Rattle.cal_check.specs.Actors.{Conforms, IsViolated, Source, actor_given, all_said, all_valued, around_of, behind_variables, declared_vars, first_valueless, has_heads, header_found, heads_found, inside_found, is_empty, is_held, members_found, said_or_all, violations}
+use Rattle.cal_check.specs.Actors.{IsViolated, Source, actor_given, all_said, all_valued, around_of, behind_variables, declared_vars, first_valueless, has_heads, header_found, heads_found, inside_found, is_empty, is_held, members_found, said_or_all, violations}
 use Rattle.cal_check.specs.Variables.{Found, Given, Spot, VarDecl, Valued, none_yet, seen, valued, with_type, with_var}
 use Rattle.check_variable.specs.Causes.{inconstant}
 use Rattle.check_given.specs.Causes.{IsCause, SaysRule}
 use Rattle.check_variable.specs.Valuing.{AreAt, first_in, left_over, valueless}
-use Rattle.check_actor.specs.Checked.{IsChecked, IsComplete, IsRefused, found_of}
+use Rattle.check_actor.specs.Checked.{found_of}
 use Rattle.check_actor.specs.Early.{wrongly_given}
+use Rattle.check_actor.specs.Own.{IsCheckedBehind, IsRefusedBehind}
 use Rattle.check_actor.specs.Members.{AreMembers, FindsMembers, Settles, not_constant_at, place_left, said_first}
 use Rattle.check_actor.specs.Parts.{FindsInside, header_names}
 use Rattle.check_actor.specs.Phases.{header_over}
 use Rattle.check_actor.specs.Sifting.{IsFault, IsLack}
 use Rattle.check_actor.proofs.Behind.{behind_none, given_breaks, header_breaks, heads_break, inside_break, members_break, members_none}
-use Rattle.check_actor.proofs.Chain.{behind_break, first_said, variables_break}
+use Rattle.check_actor.proofs.Chain.{behind_break, first_said}
 
 -- ---- more variables break no less
 
@@ -68,7 +69,7 @@ all_are_said : (fs : List Found) → all_said false fs ≡ fs
 all_are_said [] = refl
 all_are_said (f ∷ fs) = ap (λ gs. f ∷ gs) (all_are_said fs)
 
-none_said : (fs : List Found) → Each IsLack fs → all_said true fs ≡ []
+pub none_said : (fs : List Found) → Each IsLack fs → all_said true fs ≡ []
 none_said [] h = refl
 none_said (f ∷ fs) h =
     ap (λ r. if r.0 == not_constant.0 then all_said true fs else f ∷ all_said true fs) h.0 ∙ none_said fs h.1
@@ -81,7 +82,7 @@ each_said hides (f ∷ fs) h = go (hides && (f.violation.rule.0 == not_constant.
     go true k = k
     go false k = (h.0, k)
 
-only_constants : (ps : List Place) (fs : List Found) → fs ≡ map inconstant ps → Each IsLack fs
+pub only_constants : (ps : List Place) (fs : List Found) → fs ≡ map inconstant ps → Each IsLack fs
 only_constants ps fs e = subst (Each IsLack) (sym e) (go ps)
   where
     go : (ps : List Place) → Each IsLack (map inconstant ps)
@@ -143,29 +144,24 @@ first_place p ps fs e = subst (λ gs. Contains gs (inconstant p)) (sym e) (at-he
 fault_told : (r : Refusal) (ps : List Place) (s : Source) (gs : List Given) (owner : Spot) → (all_valued s gs owner).breaks ≡ map inconstant ps
     → Contains (behind_variables s gs owner (around_of s gs owner)) (found_of r)
     → SaysRule (front.Refused r) ⊎ Each IsLack (behind_variables s gs owner (around_of s gs owner))
-    → IsRefused (said_first (first_in ps) (front.Refused r)) s gs owner
+    → IsRefusedBehind (said_first (first_in ps) (front.Refused r)) s gs owner
 fault_told r ps s gs owner e h (inl says) =
-    subst (λ f. IsRefused f s gs owner) (sym (says_first (first_in ps) r says)) (behind_said s gs owner (found_of r) says h)
+    subst (λ f. IsRefusedBehind f s gs owner) (sym (says_first (first_in ps) r says)) (behind_said s gs owner (found_of r) says h)
 fault_told r ps s gs owner e h (inr only) = go (r.rule.0 == not_constant.0) refl ps e
   where
     go : (b : Bool) → (r.rule.0 == not_constant.0) ≡ b → (ps : List Place) → (all_valued s gs owner).breaks ≡ map inconstant ps
-        → IsRefused (said_first (first_in ps) (front.Refused r)) s gs owner
+        → IsRefusedBehind (said_first (first_in ps) (front.Refused r)) s gs owner
     go false i ps e =
-        subst (λ f. IsRefused f s gs owner) (sym (says_first (first_in ps) r i)) (behind_said s gs owner (found_of r) i h)
+        subst (λ f. IsRefusedBehind f s gs owner) (sym (says_first (first_in ps) r i)) (behind_said s gs owner (found_of r) i h)
     go true i [] e = lacks_told s gs owner (found_of r) (only_constants [] (all_valued s gs owner).breaks e) only (inr (e, h))
     go true i (p ∷ ps) e =
-        subst (λ f. IsRefused f s gs owner) (sym (lacks_first p r i))
+        subst (λ f. IsRefusedBehind f s gs owner) (sym (lacks_first p r i))
         (lacks_told s gs owner (inconstant p) (only_constants (p ∷ ps) (all_valued s gs owner).breaks e) only
         (inl (first_place p ps (all_valued s gs owner).breaks e)))
 
 -- ---- of the variables, and of what they are given
 
-pub early_refuses : (f : Front) (s : Source) (gs : List Given) (owner : Spot) → IsCause f (all_valued s gs owner).breaks × SaysRule f → IsRefused f s gs owner
-early_refuses (front.Refused r) s gs owner h =
-    inl (variables_break s gs owner (around_of s gs owner) (found_of r) (other _ _ h.1) h.0)
-early_refuses front.Memory s gs owner h = tt
-
-pub given_refuses : (f : Front) (s : Source) (gs : List Given) (owner : Spot) → IsCause f (wrongly_given s gs) → SaysRule f → IsRefused f s gs owner
+pub given_refuses : (f : Front) (s : Source) (gs : List Given) (owner : Spot) → IsCause f (wrongly_given s gs) → SaysRule f → IsRefusedBehind f s gs owner
 given_refuses (front.Refused r) s gs owner h said =
     behind_said s gs owner (found_of r) said (given_breaks s gs owner (around_of s gs owner) (found_of r) h)
 given_refuses front.Memory s gs owner h said = tt
@@ -179,7 +175,7 @@ only_header [] (g ∷ hs) members f e c h = each-append IsLack (g ∷ hs) [] h t
 only_header (w ∷ wrong) hs members f e c h = absurd (cc)
 
 header_fault_told : (g : Front) (ps : List Place) (s : Source) (gs : List Given) (owner : Spot) → (all_valued s gs owner).breaks ≡ map inconstant ps
-    → wrongly_given s gs ≡ [] → IsFault g (header_over s (header_names s gs owner)) → IsRefused (said_first (first_in ps) g) s gs owner
+    → wrongly_given s gs ≡ [] → IsFault g (header_over s (header_names s gs owner)) → IsRefusedBehind (said_first (first_in ps) g) s gs owner
 header_fault_told (front.Refused r) ps s gs owner e given (cause, inl says) =
     fault_told r ps s gs owner e (header_breaks s gs owner (around_of s gs owner) (found_of r) cause) (inl says)
 header_fault_told (front.Refused r) ps s gs owner e given (cause, inr only) =
@@ -191,9 +187,9 @@ header_fault_told front.Memory (p ∷ ps) s gs owner e given h = tt
 
 pub header_refuses : (f g : Front) (noted : Option Place) (ps : List Place) (s : Source) (gs : List Given) (owner : Spot) → noted ≡ first_in ps
     → (all_valued s gs owner).breaks ≡ map inconstant ps → f ≡ said_first noted g → wrongly_given s gs ≡ []
-    → IsFault g (header_over s (header_names s gs owner)) → IsRefused f s gs owner
+    → IsFault g (header_over s (header_names s gs owner)) → IsRefusedBehind f s gs owner
 header_refuses f g noted ps s gs owner first e says given h =
-    subst (λ x. IsRefused x s gs owner) (sym (says ∙ ap (λ o. said_first o g) first)) (header_fault_told g ps s gs owner e given h)
+    subst (λ x. IsRefusedBehind x s gs owner) (sym (says ∙ ap (λ o. said_first o g) first)) (header_fault_told g ps s gs owner e given h)
 
 -- ---- heads
 
@@ -207,7 +203,7 @@ only_heads (g ∷ wrong) header hs inside whole f w h e c i = absurd (cc)
 
 heads_told : (f : Front) (ps : List Place) (s : Source) (gs : List Given) (owner : Spot) → (all_valued s gs owner).breaks ≡ map inconstant ps
     → wrongly_given s gs ≡ [] → header_over s (header_names s gs owner) ≡ [] → (all_valued s gs owner).whole ≡ true
-    → IsFault f (heads_found s (around_of s gs owner).names) → IsRefused (said_first (first_in ps) f) s gs owner
+    → IsFault f (heads_found s (around_of s gs owner).names) → IsRefusedBehind (said_first (first_in ps) f) s gs owner
 heads_told (front.Refused r) ps s gs owner e given header whole fault = fault_told r ps s gs owner e there (go fault.1)
   where
     there : Contains (behind_variables s gs owner (around_of s gs owner)) (found_of r)
@@ -235,7 +231,7 @@ only_inside (g ∷ wrong) header hs inside whole w h e c i = absurd (cc)
 -- an action above itself is said in any case
 inside_told : (f : Front) (ps : List Place) (s : Source) (gs : List Given) (owner : Spot) → (all_valued s gs owner).breaks ≡ map inconstant ps
     → wrongly_given s gs ≡ [] → header_over s (header_names s gs owner) ≡ [] → (all_valued s gs owner).whole ≡ true
-    → heads_found s (around_of s gs owner).names ≡ [] → FindsInside (Err f) s gs owner → IsRefused (said_first (first_in ps) f) s gs owner
+    → heads_found s (around_of s gs owner).names ≡ [] → FindsInside (Err f) s gs owner → IsRefusedBehind (said_first (first_in ps) f) s gs owner
 inside_told (front.Refused r) ps s gs owner e given header whole heads (inl h, only) = fault_told r ps s gs owner e there (go only)
   where
     there : Contains (behind_variables s gs owner (around_of s gs owner)) (found_of r)
@@ -248,17 +244,17 @@ inside_told (front.Refused r) ps s gs owner e given header whole heads (inl h, o
     go (inr lacks) = inr (only_inside (wrongly_given s gs) (header_found s gs owner) (heads_found s (around_of s gs owner).names)
         (inside_found s (around_of s gs owner) (actor_given s gs owner)) (all_valued s gs owner).whole given header whole heads lacks)
 inside_told (front.Refused r) ps s gs owner e given header whole heads (inr h, only) =
-    subst (λ f. IsRefused f s gs owner) (sym (says_first (first_in ps) r (ap (λ x. x.0 == not_constant.0) h.2))) (inr h)
+    subst (λ f. IsRefusedBehind f s gs owner) (sym (says_first (first_in ps) r (ap (λ x. x.0 == not_constant.0) h.2))) (inr h)
 inside_told front.Memory [] s gs owner e given header whole heads h = tt
 inside_told front.Memory (p ∷ ps) s gs owner e given header whole heads h = tt
 
 pub members_refuse : (f : Front) (noted : Option Place) (ps : List Place) (s : Source) (gs : List Given) (owner : Spot) → noted ≡ first_in ps
     → (all_valued s gs owner).breaks ≡ map inconstant ps → wrongly_given s gs ≡ [] → header_over s (header_names s gs owner) ≡ []
-    → (all_valued s gs owner).whole ≡ true → FindsMembers (Err f) s gs owner → IsRefused (said_first noted f) s gs owner
+    → (all_valued s gs owner).whole ≡ true → FindsMembers (Err f) s gs owner → IsRefusedBehind (said_first noted f) s gs owner
 members_refuse f noted ps s gs owner first e given header whole (inl h) =
-    subst (λ o. IsRefused (said_first o f) s gs owner) (sym first) (heads_told f ps s gs owner e given header whole h)
+    subst (λ o. IsRefusedBehind (said_first o f) s gs owner) (sym first) (heads_told f ps s gs owner e given header whole h)
 members_refuse f noted ps s gs owner first e given header whole (inr h) =
-    subst (λ o. IsRefused (said_first o f) s gs owner) (sym first) (inside_told f ps s gs owner e given header whole h.0 h.1)
+    subst (λ o. IsRefusedBehind (said_first o f) s gs owner) (sym first) (inside_told f ps s gs owner e given header whole h.0 h.1)
 
 -- ---- nothing behind the variables is broken
 
@@ -287,13 +283,13 @@ alone s gs owner none only =
 -- what is left of the variables is refused
 left_refuses : (p : Place) (s : Source) (gs : List Given) (owner : Spot) → behind_variables s gs owner (around_of s gs owner) ≡ []
     → Each IsLack (all_valued s gs owner).breaks
-    → Contains (left_over (declared_vars s) owner (all_valued s gs owner)) (inconstant p) → IsRefused (not_constant_at p) s gs owner
+    → Contains (left_over (declared_vars s) owner (all_valued s gs owner)) (inconstant p) → IsRefusedBehind (not_constant_at p) s gs owner
 left_refuses p s gs owner none only h = inl (subst (λ fs. Contains fs (inconstant p)) (sym (alone s gs owner none only)) h)
 
 pub members_settle : (found : Bound) (ps : List Place) (left : Option Place) (r : Result Bound Front) (s : Source) (gs : List Given) (owner : Spot)
     → (all_valued s gs owner).breaks ≡ map inconstant ps → AreAt left (left_over (declared_vars s) owner (all_valued s gs owner))
     → wrongly_given s gs ≡ [] → header_over s (header_names s gs owner) ≡ [] → AreMembers found s gs owner → Settles left found r
-    → IsChecked r s gs owner
+    → IsCheckedBehind r s gs owner
 members_settle found ps left r s gs owner broken leaves given header members settles = go left leaves settles
   where
     none : behind_variables s gs owner (around_of s gs owner) ≡ []
@@ -303,12 +299,12 @@ members_settle found ps left r s gs owner broken leaves given header members set
     only : Each IsLack (all_valued s gs owner).breaks
     only = only_constants ps (all_valued s gs owner).breaks broken
 
-    go : (left : Option Place) → AreAt left (left_over (declared_vars s) owner (all_valued s gs owner)) → Settles left found r → IsChecked r s gs owner
-    go None leaves settles = subst (λ x. IsChecked x s gs owner) (sym settles) (record {
+    go : (left : Option Place) → AreAt left (left_over (declared_vars s) owner (all_valued s gs owner)) → Settles left found r → IsCheckedBehind r s gs owner
+    go None leaves settles = subst (λ x. IsCheckedBehind x s gs owner) (sym settles) (record {
       conforms = record { nothing = alone s gs owner none only ∙ leaves; ordered = members.inside.ordered };
       is = members.inside.is;
     })
-    go (Some p) leaves settles = subst (λ x. IsChecked x s gs owner) (sym settles) (left_refuses p s gs owner none only leaves)
+    go (Some p) leaves settles = subst (λ x. IsCheckedBehind x s gs owner) (sym settles) (left_refuses p s gs owner none only leaves)
 
 -- ---- variables without types
 
@@ -333,7 +329,7 @@ never_left useless false (f ∷ breaks) others w k h = cc
 pub untyped_refuses : (ps : List Place) (left : Option Place) (place : Place) (s : Source) (gs : List Given) (owner : Spot)
     → (all_valued s gs owner).breaks ≡ map inconstant ps → AreAt left (left_over (declared_vars s) owner (all_valued s gs owner))
     → wrongly_given s gs ≡ [] → header_over s (header_names s gs owner) ≡ [] → (all_valued s gs owner).whole ≡ false
-    → IsRefused (not_constant_at (place_left left place)) s gs owner
+    → IsRefusedBehind (not_constant_at (place_left left place)) s gs owner
 untyped_refuses ps left place s gs owner broken leaves given header whole = go left leaves
   where
     none : behind_variables s gs owner (around_of s gs owner) ≡ []
@@ -343,7 +339,7 @@ untyped_refuses ps left place s gs owner broken leaves given header whole = go l
     only : Each IsLack (all_valued s gs owner).breaks
     only = only_constants ps (all_valued s gs owner).breaks broken
 
-    go : (left : Option Place) → AreAt left (left_over (declared_vars s) owner (all_valued s gs owner)) → IsRefused (not_constant_at (place_left left place)) s gs owner
+    go : (left : Option Place) → AreAt left (left_over (declared_vars s) owner (all_valued s gs owner)) → IsRefusedBehind (not_constant_at (place_left left place)) s gs owner
     go None leaves = absurd (never_left (all_valued s gs owner).useless (all_valued s gs owner).whole (all_valued s gs owner).breaks
         (first_valueless (declared_vars s) (all_valued s gs owner).held owner) whole (never_none (declared_vars s) (all_valued s gs owner).held owner) leaves)
     go (Some p) leaves = left_refuses p s gs owner none only leaves
@@ -355,12 +351,3 @@ pub before_keeps : (f : Front) (xs ys more : List VarDecl) (gs : List Given) (ow
 before_keeps f xs ys more gs owner fs hs e i h =
     cause_kept f more gs owner hs (valued ys gs owner hs none_yet)
     (subst (λ zs. IsCause f (valued zs gs owner hs none_yet).breaks) e (subst (λ zs. IsCause f (valued xs gs owner zs none_yet).breaks) i h))
-
--- ---- an actor that conforms
-
-violated_none : (f : Found) (s : Source) (gs : List Given) (owner : Spot) → IsViolated s gs owner f → Conforms s gs owner → ⊥
-violated_none f s gs owner (inl h) k = in-none f (subst (λ fs. Contains fs f) k.nothing h)
-violated_none f s gs owner (inr h) k = k.ordered h.0
-
-pub conforming_is_given : (result : Result Bound Front) (s : Source) (gs : List Given) (owner : Spot) → IsChecked result s gs owner → IsComplete result s gs owner
-conforming_is_given result s gs owner h r e k = violated_none (found_of r) s gs owner (subst (λ x. IsChecked x s gs owner) e h) k

@@ -8,8 +8,9 @@ use Rattle.rvc_base.specs.declared.refusal.Front.TheVariants as front
 use Rattle.rvc_base.specs.declared.refusal.Refusal.{Refusal}
 use Rattle.cal_model.specs.View.{actor_of}
 use Rattle.cal_model.specs.declared.bound.Bound.{Bound}
-use Rattle.cal_check.specs.Actors.{Conforms, IsSource, IsViolated, Source}
+use Rattle.cal_check.specs.Actors.{Conforms, IsSource, Source}
 use Rattle.cal_check.specs.Variables.{Found, Given, Spot}
+use Rattle.check_actor.specs.Functions.{IsBroken}
 
 abbrev pub found_of : Refusal → Found
 found_of r = record {
@@ -19,7 +20,7 @@ found_of r = record {
 
 -- a rule that the actor breaks, where it does
 abbrev pub IsRefused : Front → Source → List Given → Spot → Type 0
-IsRefused (front.Refused r) s gs owner = IsViolated s gs owner (found_of r)
+IsRefused (front.Refused r) s gs owner = IsBroken s gs owner (found_of r)
 IsRefused front.Memory s gs owner = Unit {0}
 
 -- exactly the source actor, or why there is none; running out of memory says nothing

@@ -5,4 +5,6 @@ pub mod Parts
 pub mod Early
 pub mod Sifting
 pub mod Members
+pub mod Functions
 pub mod Checked
+pub mod Own

@@ -10,6 +10,7 @@ mod heading;
 mod inside;
 mod keeping;
 mod others;
+mod own;
 mod routines;
 mod said;
 mod scalars;

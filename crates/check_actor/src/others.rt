@@ -25,7 +25,7 @@ use const_eval::Names;
 use rvc_base::Front;
 
 /// What is inside a function of a file, unless something isn't constant there.
-fn sift_body(names: &Names, f: DeclaredFun) -> Result<(), Front>
+pub(crate) fn sift_body(names: &Names, f: DeclaredFun) -> Result<(), Front>
     ensures { Sifts result (found_in f.entry.file
         (fun_broken (function_tree f.entry.decl.now) (names_view names.now))) }
 {

@@ -8,7 +8,7 @@ use cal_model::Bound;
 use rvc_base::{Front, Place, Refusal, Rule};
 
 /// Something at a place isn't constant.
-fn inconstant(place: Place) -> Front
+pub(crate) fn inconstant(place: Place) -> Front
     ensures { result ≡ not_constant_at place }
 {
     let rule = Rule::NOT_CONSTANT;
@@ -16,7 +16,7 @@ fn inconstant(place: Place) -> Front
 }
 
 /// Whether a rule is that of what isn't constant.
-fn is_not_constant(rule: Rule) -> bool
+pub(crate) fn is_not_constant(rule: Rule) -> bool
     ensures { result ≡ (rule.0 == not_constant.0) }
 {
     rule.0 == Rule::NOT_CONSTANT.0

@@ -47,7 +47,7 @@ fn passed(file: u32, fault: KindFault) -> Result<(), Front>
 
 /// The head of a function.
 #[tactic(auto, using(crate::proofs::Sifted::head_fine, crate::proofs::Heads::head_breaks))]
-fn check_head(names: &Names, f: DeclaredFun) -> Result<(), KindFault>
+pub(crate) fn check_head(names: &Names, f: DeclaredFun) -> Result<(), KindFault>
     ensures { Checks result (broken (head_judged (function_tree f.entry.decl.now) (names_view names.now))) }
 {
     let _fun = fun_of(names, f.name, f.decl)?;
@@ -55,7 +55,7 @@ fn check_head(names: &Names, f: DeclaredFun) -> Result<(), KindFault>
 }
 
 /// The head of a function, unless something isn't constant there.
-fn sift_head(names: &Names, f: DeclaredFun) -> Result<(), Front>
+pub(crate) fn sift_head(names: &Names, f: DeclaredFun) -> Result<(), Front>
     ensures { Sifts result (found_in f.entry.file
         (broken (head_judged (function_tree f.entry.decl.now) (names_view names.now)))) }
 {

@@ -144,8 +144,8 @@ rvc check T.xdf
 = refused N9 T.xdf 171/ |  | [] | 4 Refused
 rvc check T.xdf";
 
-/// Actors inside which something isn't constant. If that is all, it is reported; else another rule is, wherever it
-/// stands.
+/// Actors inside which something isn't constant, or would be but for a function that breaks a rule. If that something isn't
+/// constant is all, it is reported; else another rule is, wherever it stands.
 const NOT_CONSTANT: &str = "
 # B.cal actor B() int In ==> : int x := 1; action In:[y] repeat x ==> end end
 = refused T9 B.cal 56/ |  | [] | 4 Refused
@@ -179,7 +179,57 @@ rvc check B.cal
 rvc check B.cal
 # B.cal actor B() ==> : function g() --> int : 1 + true end function f() --> int var int(size=g()) t : 1 end int n = [f(), 8][1]; end
 = refused T1 B.cal 39/ |  | [] | 4 Refused
-rvc check B.cal";
+rvc check B.cal
+# B.cal actor B() ==> : function f() --> int : 1 + true end List(type:int, size=f()) l; end
+= refused T1 B.cal 39/ |  | [] | 4 Refused
+rvc check B.cal
+# B.cal actor B() uint(size=f()) In ==> : function f() --> int : 1 + true end end
+= refused T1 B.cal 57/ |  | [] | 4 Refused
+rvc check B.cal
+# B.cal actor B() ==> : function f() --> int : 1 + true end int n = f(); List(type:int, size=n) l; end
+= refused T1 B.cal 39/ |  | [] | 4 Refused
+rvc check B.cal
+# B.cal actor B(int p = f()) uint(size=p) In ==> : function f() --> int : 1 + true end end
+= refused T1 B.cal 66/ |  | [] | 4 Refused
+rvc check B.cal
+# B.cal actor B() uint(size=g(1)) In ==> : function g(int(size=65) x) --> int : 8 end end
+= refused T2 B.cal 46/ |  | [] | 4 Refused
+rvc check B.cal
+# B.cal actor B() ==> : function g(int(size=65) x) --> int : 8 end List(type:int, size=g(1)) l; end
+= refused T2 B.cal 27/ |  | [] | 4 Refused
+rvc check B.cal
+# B.cal actor B() ==> : function h(int(size=g(1)) y) --> int : y end function g(int(size=65) x) --> int : 8 end end
+= refused T2 B.cal 72/ |  | [] | 4 Refused
+rvc check B.cal
+# B.cal actor B() ==> : function f() --> bool : 1 = true end bool b = f(); bool c = b and 1 / 0 = 1; end
+= refused T1 B.cal 40/ |  | [] | 4 Refused
+rvc check B.cal
+# B.cal actor B() ==> : function f() --> int : true end List(type:int, size=f()) l = [1, 2]; end
+= refused T1 B.cal 39/ |  | [] | 4 Refused
+rvc check B.cal
+# B.cal actor B() int In ==> : function f() --> int : 1 + true end action In:[x] repeat f() ==> end end
+= refused T1 B.cal 46/ |  | [] | 4 Refused
+rvc check B.cal
+# B.cal actor B() ==> : function f() --> int : 1 + true end int n = [i : for int i in 0 .. f()][0]; end
+= refused T1 B.cal 39/ |  | [] | 4 Refused
+rvc check B.cal
+# B.cal actor B() ==> : function f() --> int : 1 + true end procedure q(int(size=f()) z) begin end end
+= refused T1 B.cal 39/ |  | [] | 4 Refused
+rvc check B.cal
+# B.cal actor B() ==> : int k = 8; function f() --> int : k + true end List(type:int, size=f()) l; end
+= refused T1 B.cal 50/ |  | [] | 4 Refused
+rvc check B.cal
+# B.cal actor B() ==> : function h(int(size=g(1)) y) --> int : y end function g(int(size=k) x) --> int : 8 end int k := 5; end
+= refused T9 B.cal 81/ |  | [] | 4 Refused
+rvc check B.cal
+# B.cal import U.*; actor B() uint(size=f()) In ==> : end
++ U.cal unit U : function f() --> int : 1 + true end end
+= refused T1 U.cal 32/ |  | [] | 4 Refused
+rvc check B.cal
+# T.xdf <XDF name=\"T\"><Instance id=\"b\"><Class name=\"B\"/><Parameter name=\"p\"><Expr kind=\"Literal\" literal-kind=\"Integer\" value=\"8\"/></Parameter></Instance></XDF>
++ B.cal actor B(int p) ==> : function f() --> int : 1 + true end List(type:int, size=p + f()) l; end
+= refused T1 B.cal 44/ |  | [] | 4 Refused
+rvc check T.xdf";
 
 /// Sources at their limits: what the check of each leaves, and the pieces that it is made of (`text_of`). An actor of 257
 /// actions; as many blanks as a file may have, behind the blank that ends its name, and one more; a name of 256 letters.

@@ -2,7 +2,7 @@ use Rattle.std.proofs.Common.{◌≡◌, subst, rules}
 use Rattle.check_given.specs.Given.{all_given, spot_of}
 use Rattle.check_actor.specs.Checked.{IsChecked}
 use Rattle.check_actor.specs.Sources.{source_in}
-use Rattle.check_actor.proofs.Telling.{conforming_is_given}
+use Rattle.check_actor.proofs.Answering.{conforming_is_given}
 use Rattle.check_actor.proofs.whole.check.Goals as goal
 
 pub returns-clause-complete : goal.returns-clause-complete

@@ -1,7 +1,7 @@
 use Rattle.std.proofs.Common.{◌≡◌, false, true, sym, subst, ◌∙◌, rules}
 use Rattle.cal_check.specs.Actors.{all_valued, declared_vars}
 use Rattle.check_given.specs.Given.{all_given, spot_of}
-use Rattle.check_actor.specs.Checked.{IsRefused}
+use Rattle.check_actor.specs.Own.{IsRefusedBehind}
 use Rattle.check_actor.specs.Sources.{source_in}
 use Rattle.check_actor.proofs.Telling.{members_refuse, members_settle, untyped_refuses}
 use Rattle.check_actor.proofs.whole.check_members.Goals as goal
@@ -12,7 +12,7 @@ returns-then-not-values c =
     let gs = all_given c.args.told.given.now in
     let owner = spot_of c.args.told.owner in
     let lacks : c.args.values.whole ≡ false = search rules in
-    subst (λ f. IsRefused f s gs owner) (sym c.untyped.ensures)
+    subst (λ f. IsRefusedBehind f s gs owner) (sym c.untyped.ensures)
     (untyped_refuses c.args.values.broken.items c.not_constant-rest.result c.args.told.owner s gs owner c.requires.values.breaks
     (c.not_constant-rest.ensures (declared_vars s) owner (all_valued s gs owner) c.requires.values c.requires.distinct)
     c.requires.given c.requires.header.fine (sym c.requires.values.whole ∙ lacks))
@@ -23,7 +23,7 @@ returns-in-Err c =
     let gs = all_given c.args.told.given.now in
     let owner = spot_of c.args.told.owner in
     let whole : c.args.values.whole ≡ true = search rules in
-    subst (λ f. IsRefused f s gs owner) (sym c.said_first.ensures)
+    subst (λ f. IsRefusedBehind f s gs owner) (sym c.said_first.ensures)
     (members_refuse c.in-Err.fault c.first_broken-noted.result c.args.values.broken.items s gs owner c.first_broken-noted.ensures c.requires.values.breaks
     c.requires.given c.requires.header.fine (sym c.requires.values.whole ∙ whole) c.in-Err.ensures)
 

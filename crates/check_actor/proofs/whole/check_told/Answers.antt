@@ -1,52 +1,23 @@
-use Rattle.std.proofs.Common.{◌≡◌, Err, sym, ap, subst, ◌∙◌, rules}
+use Rattle.std.proofs.Common.{ap, subst, ◌∙◌}
+use Rattle.std.specs.Prelude.{[]}
 use Rattle.check_functions.specs.Known.{names_differ}
+use Rattle.cal_check.specs.Variables.{seen}
 use Rattle.check_given.specs.Given.{all_given, spot_of}
-use Rattle.check_actor.specs.Checked.{IsChecked}
-use Rattle.check_actor.specs.Phases.{header_over}
-use Rattle.check_actor.specs.Sifting.{IsFault}
+use Rattle.check_actor.specs.Own.{TellsFunctions}
 use Rattle.check_actor.specs.Sources.{source_in}
-use Rattle.check_actor.proofs.Naming.{names_of_funs_differ, names_of_vars_differ}
-use Rattle.check_actor.proofs.Telling.{early_refuses, given_refuses, header_refuses}
+use Rattle.check_actor.proofs.Answering.{told_early}
+use Rattle.check_actor.proofs.Naming.{names_of_funs_differ}
 use Rattle.check_actor.proofs.whole.check_told.Goals as goal
 
 pub early_values-requires-clause-differ : goal.early_values-requires-clause-differ
 early_values-requires-clause-differ c =
     ap names_differ c.requires.funs ∙ names_of_funs_differ (source_in c.args.scope.now) c.requires.distinct
 
-pub check_members-requires-clause-differ : goal.check_members-requires-clause-differ
-check_members-requires-clause-differ c =
+pub early_fault-requires : goal.early_fault-requires
+early_fault-requires c =
     ap names_differ c.requires.funs ∙ names_of_funs_differ (source_in c.args.scope.now) c.requires.distinct
 
-pub check_members-requires-clause-distinct : goal.check_members-requires-clause-distinct
-check_members-requires-clause-distinct c = names_of_vars_differ (source_in c.args.scope.now) c.requires.distinct
-
-pub returns-in_err-early : goal.returns-in_err-early
-returns-in_err-early c =
-    let f = c.in_err-early.field-0.0 in
-    let s = source_in c.args.scope.now in
-    let gs = all_given c.args.told.given.now in
-    let owner = spot_of c.args.told.owner in
-    let same : c.from_residual.result ≡ Err f = search rules in
-    subst (λ r. IsChecked r s gs owner) (sym same) (early_refuses f s gs owner c.in_err-early.ensures)
-
-pub returns-in_err-check_given : goal.returns-in_err-check_given
-returns-in_err-check_given c =
-    let f = c.in_err-check_given.field-0.0 in
-    let s = source_in c.args.scope.now in
-    let gs = all_given c.args.told.given.now in
-    let owner = spot_of c.args.told.owner in
-    let same : c.from_residual-in_err-check_given.result ≡ Err f = search rules in
-    subst (λ r. IsChecked r s gs owner) (sym same)
-    (given_refuses f s gs owner c.in_err-check_given.ensures.found c.in_err-check_given.ensures.said)
-
-pub returns-in_err-header : goal.returns-in_err-header
-returns-in_err-header c =
-    let f = c.in_err-header.field-0.0 in
-    let s = source_in c.args.scope.now in
-    let gs = all_given c.args.told.given.now in
-    let owner = spot_of c.args.told.owner in
-    let same : c.from_residual-in_err-header.result ≡ Err f = search rules in
-    let told = c.in_err-header.ensures in
-    subst (λ r. IsChecked r s gs owner) (sym same)
-    (header_refuses f told.0 c.first_broken-noted.result c.in_ok-early.early.values.broken.items s gs owner c.first_broken-noted.ensures c.in_ok-early.ensures.values.breaks
-    told.1 c.in_ok-check_given.ensures.found (subst (λ n. IsFault told.0 (header_over s n)) c.in_ok-early.ensures.header told.2))
+pub returns-in-Err : goal.returns-in-Err
+returns-in-Err c =
+    told_early c.in-Err.fault c.early_fault.result (source_in c.args.scope.now) (all_given c.args.told.given.now) (spot_of c.args.told.owner)
+    (subst (λ fs. TellsFunctions fs (seen fs []) c.in-Err.fault c.early_fault.result) c.requires.funs c.early_fault.ensures) c.in-Err.ensures
