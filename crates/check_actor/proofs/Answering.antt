@@ -102,7 +102,7 @@ pub told_early : (fault told : Front) (s : Source) (gs : List Given) (owner : Sp
     → IsCause fault (all_valued s gs owner).breaks × SaysRule fault → IsRefused told s gs owner
 told_early (front.Refused q) (front.Refused r) s gs owner (inl (same, e)) h =
     let c : Contains (values_found s gs owner) (found_of r) =
-    subst (λ g. go g → Contains (values_found s gs owner) (found_of r)) (sym same) (λ i. i) (value_said q s gs owner h.0 h.1) in
+    subst (λ g. go g) (sym same) (value_said q s gs owner h.0 h.1) in
     inl (over_none s gs owner (found_of r) (found_of r) c (in_others (all_funs s) (seen (all_funs s) []) (values_found s gs owner) (found_of r) e c))
   where
     go : Front → Type 0

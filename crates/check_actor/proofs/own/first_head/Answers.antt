@@ -1,4 +1,5 @@
-use Rattle.std.proofs.Common.{◌≡◌, ◌+◌, [], ◌∷◌, Err, drop, refl, sym, subst, arith, rules}
+use Rattle.std.proofs.Common.{◌≡◌, ◌+◌, [], ◌∷◌, Ok, drop, refl, subst, arith}
+use Rattle.std.specs.Prelude.{None}
 use Rattle.std.proofs.Math.ListN.{drop_of_length-le}
 use Rattle.cal_ast.specs.View.{function_tree}
 use Rattle.cal_check.specs.Actors.{heads_broken}
@@ -9,7 +10,7 @@ use Rattle.const_env.specs.Counting.{names_view}
 use Rattle.check_functions.specs.Known.{fun_decls}
 use Rattle.check_actor.specs.Own.{IsHeadLeft, LacksIn}
 use Rattle.check_actor.proofs.Heads.{opened}
-use Rattle.check_actor.proofs.Owned.{head_found, head_left, head_more}
+use Rattle.check_actor.proofs.Owned.{head_left, head_more}
 use Rattle.check_actor.proofs.own.first_head.Goals as goal
 
 pub loop-f-init : goal.loop-f-init
@@ -22,7 +23,9 @@ loop-f-preserved c =
     let left = drop (c.loop-f.f-index + 1) c.args.funs.now in
     let all = heads_broken (fun_decls c.args.funs.now) names in
     let parts : drop c.loop-f.f-index c.args.funs.now ≡ f ∷ left = opened c.args.funs.now f c.loop-f.f-index c.loop-f-test.true c.f-item.is in
-    head_more (found_in f.file (broken (head_judged (function_tree f.decl.now) names))) (heads_broken (fun_decls left) names) all ?
+    let none : LacksIn (Ok None) (found_in f.file (broken (head_judged (function_tree f.decl.now) names))) =
+    subst (λ o. LacksIn (Ok o) (found_in f.file (broken (head_judged (function_tree f.decl.now) names)))) c.in_default.is c.in_ok-lacks.ensures in
+    head_more (found_in f.file (broken (head_judged (function_tree f.decl.now) names))) (heads_broken (fun_decls left) names) all none
     (subst (λ fs. IsHeadLeft (heads_broken (fun_decls fs) names) all) parts c.loop-f.invariant)
 
 pub returns : goal.returns

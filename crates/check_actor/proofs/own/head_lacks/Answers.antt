@@ -17,11 +17,11 @@ returns-in-Ok c = ap (λ vs. lacking (found_in c.args.f.file vs)) c.in-Ok.ensure
 pub returns-then-is_not_constant : goal.returns-then-is_not_constant
 returns-then-is_not_constant c =
     let judged = head_judged (function_tree c.args.f.decl.now) (names_view c.args.names.now) in
-    head_lacks c.args.f.file (broken judged) c.in-Err.rule c.in-Err.at (few_broken judged) c.in-Err.ensures
+    head_lacks c.args.f.file (broken judged) c.in-Err-Broken.rule c.in-Err-Broken.at (few_broken judged) (subst (λ f. Refuses f (broken judged)) c.in-Err-Broken.field-0-is c.in-Err-Broken.ensures)
     (sym c.is_not_constant.ensures ∙ c.if-is_not_constant.true)
 
 pub returns-else-is_not_constant : goal.returns-else-is_not_constant
 returns-else-is_not_constant c =
     let judged = head_judged (function_tree c.args.f.decl.now) (names_view c.args.names.now) in
-    head_breaks_other c.args.f.file (broken judged) c.in-Err.rule c.in-Err.at (few_broken judged) c.in-Err.ensures
+    head_breaks_other c.args.f.file (broken judged) c.in-Err-Broken.rule c.in-Err-Broken.at (few_broken judged) (subst (λ f. Refuses f (broken judged)) c.in-Err-Broken.field-0-is c.in-Err-Broken.ensures)
     (sym c.is_not_constant.ensures ∙ c.if-is_not_constant.false)
