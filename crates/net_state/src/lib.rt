@@ -2,6 +2,7 @@
 #![tactic(auto)]
 
 mod carrying;
+mod claiming;
 mod delivering;
 mod filling;
 mod growing;

@@ -17,6 +17,7 @@ ghost use Rattle.net_state.specs.Working.{CanHold, GrewTo, HasAction, IsAtRest, 
 ghost use Rattle.net_state.specs.Standing.{AreAllOut, IsTrueOfUnarrived, LeadInside, StandAtStart};
 
 use crate::carrying::{sent_along, token_along};
+use crate::claiming::burst_cells;
 use crate::delivering::{deliver_inside, lay_out};
 use crate::filling::{Filled, fill_link};
 use crate::growing::grow_link;
@@ -24,7 +25,7 @@ use crate::lacking::lowest_lacking;
 use crate::made::Bursts;
 use crate::outlook::{Outlook, Survey, with_look};
 use crate::reopening::open_again;
-use crate::sharing::{Crew, Part, Shares, burst_part};
+use crate::sharing::{Crew, Shares};
 use crate::tables::{first_capacities, room_table, zeros};
 use crate::taking_back::{put_back_along, take_back_along};
 use crate::waiting::waiting_before;
@@ -502,7 +503,8 @@ impl<A: Firing> NetState<A> {
 
 impl<A: Firing + Send> NetState<A> {
     /// Lets the marked cells fire, each its share of the firings that are left, on at most so many workers. `gate` is told
-    /// of each worker as it starts. No thread takes memory.
+    /// of each worker as it starts. Two workers and more claim the cells from a board, for which the round takes memory; if
+    /// it is refused, they share them by halves.
     ///
     /// Each cell fires by the rooms that were fixed at the last delivery, so what they leave is what they leave one after
     /// another (`work`).
@@ -524,20 +526,6 @@ impl<A: Firing + Send> NetState<A> {
         ensures few { result.fired ≤ 65536 * count_picked marks.now }
         ensures arrived { HaveArrived (G.arrived gate.now) crew }
     {
-        let part = Part {
-            cell: 0,
-            before: 0,
-            picks: shares.picks,
-        };
-        burst_part(
-            rt,
-            gate,
-            crew,
-            shares,
-            part,
-            &mut self.cells,
-            &self.rooms,
-            marks,
-        )
+        burst_cells(rt, gate, crew, shares, &mut self.cells, &self.rooms, marks)
     }
 }
