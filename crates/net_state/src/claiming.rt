@@ -7,7 +7,7 @@ ghost use Rattle.net_state.specs.Sharing.{AreShares, EachBursts, HaveArrived, Is
 ghost use Rattle.net_state.specs.Claiming.{IsTaken, Nexts, back, made_all, made_with, merged, rest_of, tasks_of, whole};
 
 use crate::made::{Bursts, joined, made_by, none_made};
-use crate::sharing::{Crew, Part, Shares, burst_part};
+use crate::sharing::{Crew, Part, Shares, burst_alone, burst_part};
 use claimed_bursts::{BurstTask, Crew as Claimers, burst_tasks};
 use net_model::Firing;
 use round_plan::split_budget;
@@ -17,12 +17,13 @@ use std::thread::Threads;
 
 /// Lets the marked cells fire, each its share. `gate` is told of each worker as it starts.
 ///
-/// Two workers and more claim the cells from a board, each as it comes free. Without memory for a board they share them by
-/// halves.
+/// Two workers and more that go on several threads claim the cells from a board, each as it comes free. Without memory for a
+/// board they share them by halves. Workers that share one thread come one after another, and the first finds all cells.
 pub(crate) fn burst_cells<R: Threads + Sync, A: Firing + Send, G: Gate>(
     rt: &R,
     gate: &G,
     crew: Crew,
+    threads: u32,
     shares: Shares,
     cells: &mut Vec<A>,
     rooms: &[Vec<u32>],
@@ -40,7 +41,10 @@ pub(crate) fn burst_cells<R: Threads + Sync, A: Firing + Send, G: Gate>(
     if crew.count < 2 {
         return burst_by_halves(rt, gate, crew, shares, cells, rooms, marks);
     }
-    match burst_claimed(rt, gate, crew, shares, cells, rooms, marks) {
+    if threads < 2 {
+        return burst_in_turn(gate, crew, shares, cells, rooms, marks);
+    }
+    match burst_claimed(rt, gate, crew, threads, shares, cells, rooms, marks) {
         Some(made) => made,
         None => burst_by_halves(rt, gate, crew, shares, cells, rooms, marks),
     }
@@ -71,6 +75,43 @@ fn burst_by_halves<R: Threads + Sync, A: Firing + Send, G: Gate>(
         picks: shares.picks,
     };
     burst_part(rt, gate, crew, shares, part, cells, rooms, marks)
+}
+
+/// Lets the marked cells fire, each its share, on workers that come one after another: the first finds all cells.
+fn burst_in_turn<A: Firing, G: Gate>(
+    gate: &G,
+    crew: Crew,
+    shares: Shares,
+    cells: &mut Vec<A>,
+    rooms: &[Vec<u32>],
+    marks: &[bool],
+) -> Bursts
+    requires numbers { crew.first + crew.count < 2 ^ 32 }
+    requires shares { AreShares shares }
+    requires part { IsPart shares (whole shares) marks.now (map vec_items rooms.now)
+        (map A.cell cells.old.items) }
+    ensures each { EachBursts (share_of shares) 0 0 marks.now (map vec_items rooms.now)
+        (map A.cell cells.old.items) result (map A.cell cells.new.items) }
+    ensures few { result.fired ≤ 65536 * count_picked marks.now }
+    ensures arrived { HaveArrived (G.arrived gate.now) crew }
+{
+    arrive_all(gate, crew);
+    let part = Part {
+        cell: 0,
+        before: 0,
+        picks: shares.picks,
+    };
+    burst_alone(shares, part, cells, rooms, marks)
+}
+
+/// Tells the gate of each worker of a crew, one after another.
+fn arrive_all<G: Gate>(gate: &G, crew: Crew)
+    requires numbers { crew.first + crew.count < 2 ^ 32 }
+    ensures arrived { HaveArrived (G.arrived gate.now) crew }
+{
+    for k in 0..crew.count {
+        gate.arrive(crew.round, crew.first + k);
+    }
 }
 
 /// Takes the cells out, the last one first: the marked ones as tasks, and the others.
@@ -179,6 +220,7 @@ fn burst_claimed<R: Threads + Sync, A: Firing + Send, G: Gate>(
     rt: &R,
     gate: &G,
     crew: Crew,
+    threads: u32,
     shares: Shares,
     cells: &mut Vec<A>,
     rooms: &[Vec<u32>],
@@ -208,7 +250,7 @@ fn burst_claimed<R: Threads + Sync, A: Firing + Send, G: Gate>(
         first: crew.first,
         count: crew.count,
     };
-    match burst_tasks(rt, gate, alloc, claimers, crew.count, tasks) {
+    match burst_tasks(rt, gate, alloc, claimers, threads, tasks) {
         Ok(done) => {
             let made = made_of(&done);
             put_back(cells, marks, done, rest);

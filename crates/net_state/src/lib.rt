@@ -8,6 +8,7 @@ mod filling;
 mod growing;
 mod lacking;
 mod laws;
+mod load;
 mod made;
 mod network;
 mod outlook;
