@@ -13,6 +13,7 @@ pub struct Cells {
     pub(crate) numbers: Vec<Num>,
     pub(crate) stack: Vec<Num>,
     pub(crate) frames: Vec<usize>,
+    pub(crate) turns: u32,
 }
 
 impl Model for Cells {
@@ -35,6 +36,13 @@ impl Cells {
         ensures { result ≡ length self.now.numbers }
     {
         self.numbers.len()
+    }
+
+    /// About how many turns the longest of the latest runs on these cells made. Nothing is promised of it but that it is a
+    /// number: it is for those who want to know where the time goes.
+    #[inline]
+    pub fn late_turns(&self) -> u32 {
+        self.turns
     }
 
     /// The number in a cell.

@@ -62,5 +62,6 @@ pub fn cells(alloc: Global, code: &Admitted) -> Result<Cells, Memory>
         numbers,
         stack,
         frames,
+        turns: 0,
     })
 }

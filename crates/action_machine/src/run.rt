@@ -43,18 +43,20 @@ impl Run for Admitted {
             &mut cells.stack,
             &mut cells.frames,
             &mut cells.numbers,
+            &mut cells.turns,
             tokens,
         )
     }
 }
 
-/// Runs the code from an entry, with these slices for its operands and its open calls.
+/// Runs the code from an entry, with these slices for its operands and its open calls. `turns` is told how many it made.
 fn run_in<T: Tokens>(
     code: &Admitted,
     entry: u32,
     stack: &mut [Num],
     frames: &mut [usize],
     cells: &mut [Num],
+    turns: &mut u32,
     tokens: &T,
 ) -> Outcome
     requires entry { is_among entry code.now.entries ≡ true }
@@ -74,8 +76,18 @@ fn run_in<T: Tokens>(
     };
     'steps: loop {
         match step(code, &mut at, stack, frames, cells, tokens) {
-            Some(outcome) => return outcome,
+            Some(outcome) => {
+                *turns = later_turns(*turns, at.left);
+                return outcome;
+            }
             None => {}
         }
     }
+}
+
+/// What is kept of turns after a run that left so many: its own, or what was kept before and loses a little with each run.
+#[inline]
+fn later_turns(before: u32, left: u32) -> u32 {
+    let faded = (before - before / 64).saturating_sub(1);
+    MAX_TURNS.saturating_sub(left).max(faded)
 }

@@ -17,5 +17,10 @@ impl FiringSlices for Cell {
     }
 }
 
-/// A firing counts as one, however long it is.
-impl Effort for Cell {}
+/// A firing counts as one and as the turns of the longest of the latest ones.
+impl Effort for Cell {
+    fn effort(&self) -> u64 {
+        let turns = u64::from(self.cells.late_turns());
+        (self.journal.len() as u64).saturating_mul(turns + 1)
+    }
+}

@@ -15,6 +15,7 @@ use crate::opening::start;
 use crate::outcome::{JobFault, Outcome};
 use crate::preparing::{Prepared, prepare};
 use crate::states::StatesOf;
+use firing_effort::Effort;
 use fnl_flatten::Flat;
 use net_model::{Firing, paced_lines_keep_the_budget};
 use network_runner::runs_are_paced;
@@ -26,7 +27,7 @@ use std::alloc::Global;
 use std::thread::Threads;
 
 /// The same by a policy of the job's kind.
-fn run_by<R: Threads + Sync, A: Firing + Send, P: Policy, F: Feeds, D: Drains, G: Gate>(
+fn run_by<R: Threads + Sync, A: Firing + Effort + Send, P: Policy, F: Feeds, D: Drains, G: Gate>(
     rt: &R,
     alloc: Global,
     cells: Vec<A>,
@@ -142,7 +143,7 @@ fn run_by<R: Threads + Sync, A: Firing + Send, P: Policy, F: Feeds, D: Drains, G
 ///   before the first event couldn't be written, of which it got a prefix: the failure was counted, and all feeds and the
 ///   channels before it are open (`unwritten`).
 #[tactic(auto, using(crate::proofs::Kept::report_kept))]
-pub fn run_network<R: Threads + Sync, A: Firing + Send, F: Feeds, D: Drains, G: Gate>(
+pub fn run_network<R: Threads + Sync, A: Firing + Effort + Send, F: Feeds, D: Drains, G: Gate>(
     rt: &R,
     alloc: Global,
     cells: Vec<A>,

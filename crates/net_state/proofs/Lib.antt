@@ -28,3 +28,8 @@ pub mod Noted
 pub mod Returned
 pub mod PutBack
 pub mod Stacked
+pub mod Backs
+pub mod Taking
+pub mod Putting
+pub mod Merging
+pub mod Claimed

@@ -10,3 +10,4 @@ pub mod Made
 pub mod Sharing
 pub mod Reopening
 pub mod TakingBack
+pub mod Claiming

@@ -2,11 +2,13 @@
 #![tactic(auto)]
 
 mod carrying;
+mod claiming;
 mod delivering;
 mod filling;
 mod growing;
 mod lacking;
 mod laws;
+mod load;
 mod made;
 mod network;
 mod outlook;

@@ -17,18 +17,21 @@ ghost use Rattle.net_state.specs.Working.{CanHold, GrewTo, HasAction, IsAtRest, 
 ghost use Rattle.net_state.specs.Standing.{AreAllOut, IsTrueOfUnarrived, LeadInside, StandAtStart};
 
 use crate::carrying::{sent_along, token_along};
+use crate::claiming::burst_cells;
 use crate::delivering::{deliver_inside, lay_out};
 use crate::filling::{Filled, fill_link};
 use crate::growing::grow_link;
 use crate::lacking::lowest_lacking;
+use crate::load::{Load, load_after, threads_for};
 use crate::made::Bursts;
 use crate::outlook::{Outlook, Survey, with_look};
 use crate::reopening::open_again;
-use crate::sharing::{Crew, Part, Shares, burst_part};
+use crate::sharing::{Crew, Shares};
 use crate::tables::{first_capacities, room_table, zeros};
 use crate::taking_back::{put_back_along, take_back_along};
 use crate::waiting::waiting_before;
 use crate::working::{burst_at, look_at, try_at};
+use firing_effort::Effort;
 use net_model::{BurstEnd, Firing, Link, Look, Tried};
 use port_files::TokenFeed;
 use rvc_base::{ActId, InstId, LinkId, Memory, Num};
@@ -51,6 +54,8 @@ pub struct NetState<A: Firing> {
     capacities: Vec<u32>,
     waited: Vec<u32>,
     rooms: Vec<Vec<u32>>,
+    /// The work of the last round that several workers shared. Nothing depends on it but how many threads the next one starts.
+    load: Option<Load>,
 }
 
 impl<A: Firing> Model for NetState<A> {
@@ -97,6 +102,7 @@ impl<A: Firing> NetState<A> {
             capacities,
             waited,
             rooms,
+            load: None,
         })
     }
 
@@ -500,9 +506,14 @@ impl<A: Firing> NetState<A> {
     }
 }
 
-impl<A: Firing + Send> NetState<A> {
+impl<A: Firing + Effort + Send> NetState<A> {
     /// Lets the marked cells fire, each its share of the firings that are left, on at most so many workers. `gate` is told
-    /// of each worker as it starts. No thread takes memory.
+    /// of each worker as it starts. Two workers and more claim the cells from a board, for which the round takes memory; if
+    /// it is refused, they share them by halves.
+    ///
+    /// The first round starts as many threads as there are workers, and each later one as many as pay, by the work that the
+    /// cells told of the last one: none if that was less than takes some 120 microseconds. Then the workers start one after
+    /// another, and the first finds all cells.
     ///
     /// Each cell fires by the rooms that were fixed at the last delivery, so what they leave is what they leave one after
     /// another (`work`).
@@ -524,20 +535,18 @@ impl<A: Firing + Send> NetState<A> {
         ensures few { result.fired ≤ 65536 * count_picked marks.now }
         ensures arrived { HaveArrived (G.arrived gate.now) crew }
     {
-        let part = Part {
-            cell: 0,
-            before: 0,
-            picks: shares.picks,
-        };
-        burst_part(
+        let threads = threads_for(self.load, crew.count, shares.picks);
+        let made = burst_cells(
             rt,
             gate,
             crew,
+            threads,
             shares,
-            part,
             &mut self.cells,
             &self.rooms,
             marks,
-        )
+        );
+        self.load = load_after(self.load, crew.count, &self.cells);
+        made
     }
 }

@@ -268,7 +268,7 @@ fn place_behind(marks: &[bool], picks: u32) -> usize
 }
 
 /// Lets the marked cells of a part fire, one after another.
-fn burst_alone<A: Firing>(
+pub(crate) fn burst_alone<A: Firing>(
     shares: Shares,
     part: Part,
     cells: &mut [A],

@@ -12,6 +12,7 @@ ghost use Rattle.network_runner.specs.Rounding.{CanGrow, ClosedBy, CountsTo, IfG
 
 use crate::closing::close_idle;
 use crate::spending::end_spent;
+use firing_effort::Effort;
 use net_model::Firing;
 use net_state::NetState;
 use round_plan::Policy;
@@ -44,7 +45,7 @@ pub struct RoundMade {
 
 /// A round once its delivery was made: nothing fires if the budget is spent or no instance is there, and else the
 /// instances that the policy picks, on so many workers. `gate` is told of each of them that works, as it starts.
-pub fn make_firings<R: Threads + Sync, A: Firing + Send, P: Policy, G: Gate>(
+pub fn make_firings<R: Threads + Sync, A: Firing + Effort + Send, P: Policy, G: Gate>(
     rt: &R,
     gate: &G,
     workers: u32,
@@ -99,7 +100,7 @@ pub fn make_firings<R: Threads + Sync, A: Firing + Send, P: Policy, G: Gate>(
 /// Lets the instances fire that the policy picks, on so many workers, and closes the round. Its delivery was made, and
 /// some firings are left of the budget. `marks` says then which instances were picked. `gate` is told of each worker that
 /// works, as it starts.
-pub fn fire_round<R: Threads + Sync, A: Firing + Send, P: Policy, G: Gate>(
+pub fn fire_round<R: Threads + Sync, A: Firing + Effort + Send, P: Policy, G: Gate>(
     rt: &R,
     gate: &G,
     workers: u32,

@@ -27,6 +27,7 @@ use crate::noting::note_round;
 use crate::putting::flush_all;
 use crate::sending::{Outlet, WriteFault, send_all};
 use channel_writer::ChannelWriter;
+use firing_effort::Effort;
 use net_model::{Counts, Firing, Link, Port, Wiring};
 use net_state::{Filled, NetState};
 use port_files::TokenFeed;
@@ -140,6 +141,15 @@ impl<A: Firing + Send, P: Policy> Runner<A, P> {
         })
     }
 
+    /// The numbers of the run so far.
+    pub fn counts(&self) -> &Counts
+        ensures { result.now ≡ self.now.counts }
+    {
+        &self.counts
+    }
+}
+
+impl<A: Firing + Effort + Send, P: Policy> Runner<A, P> {
     /// Makes one round, which an end may cut short, with at most `left` firings, and says what came of it. After an end
     /// each further call answers that end and touches nothing.
     ///
@@ -256,13 +266,6 @@ impl<A: Firing + Send, P: Policy> Runner<A, P> {
                 RoundEnd::End(end) => return end,
             }
         }
-    }
-
-    /// The numbers of the run so far.
-    pub fn counts(&self) -> &Counts
-        ensures { result.now ≡ self.now.counts }
-    {
-        &self.counts
     }
 
     /// A round but for what is put of what is buffered: what came of it, or the fault that cut it short.

@@ -8,6 +8,7 @@ ghost use Rattle.round_runner.specs.Bursting.{BurstedBy, IdleBy, at_work};
 
 use crate::choosing::count_marks;
 use crate::limits::limit_for;
+use firing_effort::Effort;
 use net_model::{BurstEnd, Firing};
 use net_state::{Bursts, Crew, NetState, Shares, joined, made_by};
 use rvc_base::InstId;
@@ -22,7 +23,7 @@ use std::thread::Threads;
 ///
 /// If all were marked and nothing fired, the answer says how the network stands, as ends judge (`idle`): quiet if no
 /// cell lacks room, else stalled at the lowest that does.
-pub fn burst_each<R: Threads + Sync, A: Firing + Send, G: Gate>(
+pub fn burst_each<R: Threads + Sync, A: Firing + Effort + Send, G: Gate>(
     rt: &R,
     gate: &G,
     crew: Crew,
@@ -57,7 +58,7 @@ pub fn burst_each<R: Threads + Sync, A: Firing + Send, G: Gate>(
 }
 
 /// Lets each marked cell fire on several workers, by shares that are known.
-fn burst_shared<R: Threads + Sync, A: Firing + Send, G: Gate>(
+fn burst_shared<R: Threads + Sync, A: Firing + Effort + Send, G: Gate>(
     rt: &R,
     gate: &G,
     crew: Crew,
