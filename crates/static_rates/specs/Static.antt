@@ -4,10 +4,10 @@ use Rattle.std.specs.Prelude.{◌≡◌, ℕ, ◌<◌, Bool, true, false, not, �
 use Rattle.cal_model.specs.Actor.{Action, Actor}
 use Rattle.cal_model.specs.Eligible.{has_initialize, is_empty, IsStateOf, eligible}
 use Rattle.cal_model.specs.Rates.{need, give}
-use Rattle.static_rates.specs.declared.rates.StaticRule.{StaticRule}
-use Rattle.static_rates.specs.declared.rates.StaticRule.TheVariants.{S1, S2, S3, S4}
-use Rattle.static_rates.specs.declared.rates.StaticFault.{StaticFault}
-use Rattle.static_rates.specs.declared.rates.StaticFault.TheVariants.{NotStatic, Memory}
+use Rattle.static_rates.specs.declared.static_actor.StaticRule.{StaticRule}
+use Rattle.static_rates.specs.declared.static_actor.StaticRule.TheVariants.{S1, S2, S3, S4}
+use Rattle.static_rates.specs.declared.static_actor.StaticFault.{StaticFault}
+use Rattle.static_rates.specs.declared.static_actor.StaticFault.TheVariants.{NotStatic, Memory}
 
 -- whether an action has a guard
 abbrev pub has_guard : List Action → Bool

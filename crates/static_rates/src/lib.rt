@@ -6,8 +6,10 @@
 #![tactic(auto)]
 
 mod actions;
-mod rates;
+mod laws;
 mod same;
 mod schedule;
+mod static_actor;
 
-pub use rates::{Rates, StaticFault, StaticRule, rates_of};
+pub use laws::static_actors_keep_their_rates;
+pub use static_actor::{Rates, StaticFault, StaticRule, rates_of};

@@ -1,7 +1,7 @@
 use Rattle.std.proofs.Common.{◌≡◌, ◌<◌, length, map, sym, ◌∙◌, arith}
 use Rattle.std.proofs.lemmas.List.{length-map}
 use Rattle.cal_model.specs.View.{actor_of, action_view, port_view}
-use Rattle.static_rates.proofs.rates.needs_of.Goals as goal
+use Rattle.static_rates.proofs.static_actor.needs_of.Goals as goal
 
 pub returns : goal.returns
 returns c =

@@ -42,7 +42,7 @@ pub enum StaticFault {
 
 impl From<AllocError> for StaticFault {
     ghost use Rattle.std.specs.Prelude.{◌≡◌};
-    ghost use Rattle.static_rates.specs.declared.rates.StaticFault.TheVariants.{Memory};
+    ghost use Rattle.static_rates.specs.declared.static_actor.StaticFault.TheVariants.{Memory};
 
     ghost from_gives = { λ _ fault. fault ≡ Memory };
 
