@@ -131,6 +131,13 @@ pub first_from_length : {A : Type 0} (xs : List A) → 0 < length xs → (x : A)
 first_from_length [] some = absurd (omega arith)
 first_from_length (x ∷ xs) some = (x, refl)
 
+pub is_zero : (n : ℕ) → (n == 0) ≡ true → n ≡ 0
+is_zero n e = eqb-true n 0 e
+
+pub is_some_number : (n : ℕ) → (n == 0) ≡ false → 0 < n
+is_some_number zero e = absurd (false≢true (sym e))
+is_some_number (suc n) e = omega arith
+
 -- ---- rates
 pub same_through : (actor : Actor) (a b c : ℕ) → HaveSameRates actor a c → HaveSameRates actor b c → HaveSameRates actor a b
 same_through actor a b c one other = record {
