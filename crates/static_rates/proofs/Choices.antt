@@ -1,6 +1,6 @@
 -- A static actor is to fire exactly if it finds its tokens.
 use Rattle.std.proofs.Common.{◌≡◌, ◌≢◌, ℕ, zero, suc, ◌+◌, ◌<◌, ◌≤◌, ◌⊎◌, inl, inr, ℤ, Bool, true, false, not, ◌&&◌, ◌||◌, List, [], ◌∷◌, length, refl, sym, ap, ◌∙◌, subst, ⊎_elim, arith}
-use Rattle.std.specs.Prelude.{if◌then◌else◌, nat_le, slice_get, slice_index, slice_index_or, Option, None, Some}
+use Rattle.std.specs.Prelude.{if◌then◌else◌, is_some, nat_le, slice_get, slice_index, slice_index_or, Option, None, Some}
 use Rattle.std.specs.List.{range_with_len}
 use Rattle.std.proofs.lemmas.Bool.{false≢true, cases_Bool, or_parts, le-leb}
 use Rattle.cal_ast.specs.Tree.{Tree}
@@ -10,7 +10,7 @@ use Rattle.rvc_base.specs.Lawful.{IsLawful}
 use Rattle.cal_model.specs.Actor.{Action, Actor}
 use Rattle.cal_model.specs.ActorState.{IsActorState, is_actor_state, kept_tokens}
 use Rattle.cal_model.specs.Call.{calls_of}
-use Rattle.cal_model.specs.Eligible.{is_empty, eligible}
+use Rattle.cal_model.specs.Eligible.{is_empty, leads, eligible}
 use Rattle.cal_model.specs.Firing.{behaviour}
 use Rattle.cal_model.specs.Laws.{AsManyAreKept, BehaviourIsLawful, ChosenIsEnabled, ChosenTraps, StatesAreTested, WaitingIsIdle}
 use Rattle.cal_model.specs.Rates.{need, give}
@@ -43,9 +43,6 @@ true_if_never_traps true cause e = absurd (cc)
 true_if_never_traps false cause e = absurd (cc)
 
 module _ (actor : Actor) (plain : has_guard actor.actions ≡ false) (x : State) (u : List (List ℤ)) where
-  can : ℕ → Bool
-  can a = eligible actor x.at a && has_its_tokens actor u a
-
   ready_at : (a : ℕ) (act : Action) → slice_get actor.actions a ≡ Some act → readiness actor x u a ≡ true_if (eligible actor x.at a && has_its_tokens actor u a)
   ready_at a act e =
       ap (λ o. ready_by o (eligible actor x.at a && has_its_tokens actor u a) (λ y. guards_say y.guards (calls_of actor.funs) (seen_by actor x u y))) e
@@ -121,10 +118,10 @@ module _ (fires : ChosenIsEnabled) (traps : ChosenTraps) (waits : WaitingIsIdle)
       absurd (lacks b (eligible-within actor x.at b exposed.is_eligible) exposed.has_tokens)
 
 act_at : (actor : Actor) (s a : ℕ) → eligible actor s a ≡ true → (o : Option Action) → slice_get actor.actions a ≡ o → (act : Action) × (slice_get actor.actions a ≡ Some act)
-act_at actor s a can None e =
-    let none : eligible actor s a ≡ false = ap (λ (o : Option Action). elim o as (λ _. Bool) [ None ↦ false | Some act ↦ eligible actor s a ]) e in
-    absurd (false≢true (sym none ∙ can))
-act_at actor s a can (Some act) e = (act, e)
+act_at actor s a leads_on None e =
+    let none : eligible actor s a ≡ false = ap (λ (o : Option Action). is_some (elim o as (λ _. Option ℕ) [ None ↦ None | Some x ↦ leads actor s a x ])) e in
+    absurd (false≢true (sym none ∙ leads_on))
+act_at actor s a leads_on (Some act) e = (act, e)
 
 pub actors_fire : ChosenIsEnabled → ChosenTraps → WaitingIsIdle → StatesAreTested → AsManyAreKept → StaticActorsFire
 actors_fire fires traps waits tested kept actor p x u needs static are state finds =
