@@ -1,24 +1,23 @@
 -- A static actor is to fire exactly if it finds its tokens.
-use Rattle.std.proofs.Common.{◌≡◌, ◌≢◌, ℕ, zero, suc, ◌+◌, ◌<◌, ◌≤◌, ◌⊎◌, inl, inr, ℤ, Bool, true, false, not, ◌&&◌, ◌||◌, List, [], ◌∷◌, length, refl, sym, ap, ◌∙◌, subst, ⊎_elim, arith}
-use Rattle.std.specs.Prelude.{if◌then◌else◌, is_some, nat_le, slice_get, slice_index, slice_index_or, Option, None, Some}
+use Rattle.std.proofs.Common.{◌≡◌, ◌≢◌, ℕ, zero, suc, ◌+◌, ◌<◌, ◌≤◌, ◌⊎◌, ℤ, Bool, true, false, not, ◌&&◌, List, [], ◌∷◌, length, refl, sym, ap, ◌∙◌, subst, ⊎_elim, arith}
+use Rattle.std.specs.Prelude.{if◌then◌else◌, is_some, nat_le, slice_get, slice_index, Option, None, Some}
 use Rattle.std.specs.List.{range_with_len}
-use Rattle.std.proofs.lemmas.Bool.{false≢true, cases_Bool, or_parts, le-leb}
+use Rattle.std.proofs.lemmas.Bool.{false≢true, or_parts, le-leb}
 use Rattle.cal_ast.specs.Tree.{Tree}
 use Rattle.rvc_base.specs.declared.trap.Trap.{Trap}
-use Rattle.rvc_base.specs.Behaviour.{Choice, Waits, Picks, Faults, Fires}
+use Rattle.rvc_base.specs.Behaviour.{Choice, Waits, Picks, Faults}
 use Rattle.rvc_base.specs.Lawful.{IsLawful}
 use Rattle.cal_model.specs.Actor.{Action, Actor}
-use Rattle.cal_model.specs.ActorState.{IsActorState, is_actor_state, kept_tokens}
+use Rattle.cal_model.specs.ActorState.{is_actor_state, kept_tokens}
 use Rattle.cal_model.specs.Call.{calls_of}
 use Rattle.cal_model.specs.Eligible.{is_empty, leads, eligible}
 use Rattle.cal_model.specs.Firing.{behaviour}
 use Rattle.cal_model.specs.Laws.{AsManyAreKept, BehaviourIsLawful, ChosenIsEnabled, ChosenTraps, StatesAreTested, WaitingIsIdle}
-use Rattle.cal_model.specs.Rates.{need, give}
+use Rattle.cal_model.specs.Rates.{need}
 use Rattle.cal_model.specs.Selection.{State, Priorities, Guards, AreTrue, AreFalse, AreTrapping, tokens_on, has_its_tokens, has_its_tokens_on, guards_say, readiness, seen_by, choice}
-use Rattle.cal_model.specs.Sound.{IsSound}
 use Rattle.cal_model.proofs.Choosing.{eligible-within}
 use Rattle.static_rates.specs.Laws.{FindsTokens, IsToFire, StaticActorsFire, StaticActorsSendAsMany, StaticActorsTakeAsMany, StaticActorsWait}
-use Rattle.static_rates.specs.Static.{has_guard, AlwaysEligible, IsStatic, AreNeeds, AreGives}
+use Rattle.static_rates.specs.Static.{has_guard, IsStatic, AreNeeds}
 
 -- ---- guards
 no_guards : (guards : List Tree) → not (is_empty guards) ≡ false → guards ≡ []

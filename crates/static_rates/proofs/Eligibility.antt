@@ -1,10 +1,10 @@
 -- Which actions are eligible in a state of an actor without `initialize`.
-use Rattle.std.proofs.Common.{◌≡◌, ◌≢◌, ◌⊎◌, ℕ, zero, suc, ◌<◌, ◌≤◌, max, Bool, true, false, ◌&&◌, ◌||◌, List, [], ◌∷◌, map, length, refl, sym, ap, ◌∙◌, subst, inl, ⊎_elim, arith, eq-eqb, ne_eqb, eqb-true}
+use Rattle.std.proofs.Common.{◌≡◌, ◌≢◌, ℕ, zero, suc, ◌<◌, true, false, List, [], ◌∷◌, length, refl, sym, ap, ◌∙◌, inl, ⊎_elim, arith, eq-eqb, ne_eqb, eqb-true}
 use Rattle.std.specs.Prelude.{None, Some, Option, is_some, slice_get, ◌==◌, if◌then◌else◌}
-use Rattle.std.proofs.lemmas.Bool.{false≢true, cases_Bool, cases_eq, or_cases, or_parts}
-use Rattle.std.proofs.lemmas.Option.{slice_get_within, slice_get_past}
+use Rattle.std.proofs.lemmas.Bool.{false≢true, cases_Bool, or_cases, or_parts}
+use Rattle.std.proofs.lemmas.Option.{slice_get_within}
 use Rattle.cal_model.specs.Actor.{Action, Move, Actor}
-use Rattle.cal_model.specs.Eligible.{states_of, fresh, has_initialize, IsStateOf, is_empty, target, leads, next, eligible}
+use Rattle.cal_model.specs.Eligible.{states_of, fresh, has_initialize, IsStateOf, is_empty, target, leads, eligible}
 use Rattle.cal_model.specs.Sound.{Each, IsTagged, IsMove}
 use Rattle.static_rates.specs.Moves.{has_untagged, leads_on}
 use Rattle.static_rates.specs.Static.{HaveSameRates, AlwaysEligible, HasDeadState}

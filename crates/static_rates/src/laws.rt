@@ -4,7 +4,9 @@
 
 ghost use Rattle.static_rates.specs.Laws.{StaticActorsFire, StaticActorsSendAsMany, StaticActorsTakeAsMany, StaticActorsWait};
 
-use cal_model::{actors_stay_in_their_states, ports_keep_tokens, selection, sound_actors_are_lawful};
+use cal_model::{
+    actors_stay_in_their_states, ports_keep_tokens, selection, sound_actors_are_lawful,
+};
 
 /// In each of its states a static actor fires if it finds its tokens (`fire`), and else waits (`wait`): its choice never
 /// depends on the state, nor on what the tokens are. Each of its actions takes as many tokens (`take`), and each of its

@@ -1,4 +1,4 @@
-use Rattle.std.proofs.Common.{◌≡◌, ℕ, length, map, refl, arith, below_more}
+use Rattle.std.proofs.Common.{◌≡◌, length, refl, arith, below_more}
 use Rattle.std.proofs.lemmas.List.{length-map}
 use Rattle.cal_model.specs.View.{actor_of, action_view}
 use Rattle.static_rates.specs.Static.{HaveSameRates}

@@ -1,11 +1,9 @@
-use Rattle.std.proofs.Common.{◌≡◌, ℕ, ◌<◌, true, false, length, map, sym, ap, ◌∙◌, subst, max, arith, eqb-true, ne_eqb}
+use Rattle.std.proofs.Common.{◌≡◌, ◌<◌, true, false, length, map, sym, ap, ◌∙◌, arith}
 use Rattle.std.specs.Prelude.{string_bytes}
-use Rattle.std.proofs.lemmas.Bool.{false≢true}
 use Rattle.std.proofs.lemmas.List.{length-map}
 use Rattle.cal_model.specs.Eligible.{is_empty, states_of}
 use Rattle.cal_model.specs.View.{actor_of, action_view, move_view}
 use Rattle.static_rates.specs.Moves.{has_untagged, leads_on}
-use Rattle.static_rates.specs.Static.{AlwaysEligible}
 use Rattle.static_rates.proofs.Eligibility.{always_untagged, always_stateless, dead_without_actions, always_by_moves, dead_by_moves, empty_from_length, filled_from_length, nil_from_length, first_from_length, is_zero, is_some_number}
 use Rattle.static_rates.proofs.schedule.has_dead_state.Goals as goal
 

@@ -1,6 +1,6 @@
-use Rattle.std.proofs.Common.{◌≡◌, ◌<◌, length, map, sym, ◌∙◌, arith}
+use Rattle.std.proofs.Common.{◌≡◌, length, sym, ◌∙◌, arith}
 use Rattle.std.proofs.lemmas.List.{length-map}
-use Rattle.cal_model.specs.View.{actor_of, action_view, port_view}
+use Rattle.cal_model.specs.View.{action_view, port_view}
 use Rattle.static_rates.proofs.static_actor.gives_of.Goals as goal
 
 pub returns : goal.returns
