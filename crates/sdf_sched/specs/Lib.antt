@@ -1,4 +1,0 @@
-pub mod Balance
-pub mod Fault
-pub mod Inner
-pub mod Periods
