@@ -1,5 +1,5 @@
 -- What the check of an actor says, once functions are asked what they break of themselves.
-use Rattle.std.proofs.Common.{◌≡◌, ◌⊎◌, inl, inr, Err, Ok, Bool, true, false, List, [], ◌∷◌, ◌++◌, map, refl, sym, ap, subst, ◌∙◌}
+use Rattle.std.proofs.Common.{◌≡◌, ◌⊎◌, inl, inr, true, false, List, [], ◌∷◌, ◌++◌, map, refl, sym, ap, subst, ◌∙◌}
 use Rattle.std.specs.Prelude.{Contains, if◌then◌else◌, not, ◌==◌}
 use Rattle.rvc_base.specs.Rules.{unknown_name}
 use Rattle.std.specs.declared.result.Result.{Result}

@@ -1,6 +1,6 @@
 -- What functions break of themselves.
 use Rattle.std.proofs.Common.{◌≡◌, ◌≤◌, ◌⊎◌, inl, inr, ℕ, length, arith, Bool, true, false, List, [], ◌∷◌, ◌++◌, refl, sym, ap, subst, ◌∙◌, Ok, Err}
-use Rattle.std.specs.Prelude.{Contains, if◌then◌else◌, not, ◌&&◌, ◌||◌, ◌==◌, Option, None, Some}
+use Rattle.std.specs.Prelude.{Contains, if◌then◌else◌, not, ◌&&◌, ◌||◌, ◌==◌}
 use Rattle.std.proofs.lemmas.Bool.Decides.{nat_tests}
 use Rattle.std.proofs.lemmas.List.Elements.{Contains-append_left, Contains-append_right}
 use Rattle.rvc_base.specs.Rules.{not_constant, unknown_name}
@@ -18,7 +18,7 @@ use Rattle.cal_check.specs.Violations.{Violation, broken}
 use Rattle.check_given.specs.Causes.{IsCause, SaysRule}
 use Rattle.check_variable.specs.Causes.{inconstant}
 use Rattle.check_actor.specs.Functions.{fun_found, functions_first, functions_found, heads_first, lacking, lacks_kinds, may_follow, named, of_themselves, settled_found}
-use Rattle.check_actor.specs.Own.{AreLeft, FindsOwn, FindsOwnOf, IsHeadLeft, LacksIn, lacks_name}
+use Rattle.check_actor.specs.Own.{AreLeft, FindsOwn, FindsOwnOf, IsHeadLeft, lacks_name}
 use Rattle.check_actor.specs.Sifting.{IsLack}
 use Rattle.check_actor.proofs.Causes.{cause_in_first, cause_in_others}
 

@@ -1,10 +1,9 @@
-use Rattle.std.proofs.Common.{◌≡◌, Err, ap, sym, subst, ◌∙◌, rules}
+use Rattle.std.proofs.Common.{ap, sym, subst, ◌∙◌}
 use Rattle.cal_ast.specs.View.{function_tree}
 use Rattle.cal_check.specs.Routines.{head_judged}
 use Rattle.cal_check.specs.Variables.{found_in}
 use Rattle.cal_check.specs.Violations.{broken}
 use Rattle.const_env.specs.Counting.{names_view}
-use Rattle.const_env.specs.declared.fault.KindFault.TheVariants as fault
 use Rattle.check_stmt.specs.Judging.{Refuses}
 use Rattle.check_actor.specs.Functions.{lacking}
 use Rattle.check_actor.proofs.Owned.{head_breaks_other, head_lacks}
