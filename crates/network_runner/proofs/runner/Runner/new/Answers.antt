@@ -1,4 +1,4 @@
-use Rattle.std.proofs.Common.{rules, ◌≡◌, length, map, sym, subst}
+use Rattle.std.proofs.Common.{rules, ◌≡◌, ◌∙◌, length, map, sym, subst}
 use Rattle.net_state.specs.Held.{HoldFew, capacity_of}
 use Rattle.network_runner.specs.Making.{AreOutletsOf, AreReadersOf, CountNothing}
 use Rattle.network_runner.proofs.Begun.{begins, can_work, goes, parts_fit}
@@ -17,7 +17,8 @@ invariant_of-result g c =
     let count_is : c.len-count.result ≡ length c.args.cells.items = search rules in
     let marks_are : length c.in_ok-marks.marks.items ≡ length c.args.cells.items = search rules in
     let copied : c.in_ok-copy.copy.items ≡ c.args.wiring.links.items = search rules in
-    let few : HoldFew (map capacity_of c.args.wiring.links.items) = search rules in (
+    let few : HoldFew (map capacity_of c.args.wiring.links.items) =
+    subst (λ ls. HoldFew (map capacity_of ls)) (sym c.in_ok-copy.ensures.same ∙ copied) c.in_ok-copy.ensures.few in (
       parts_fit g.A.Firing.cell c.args.cells.items c.args.wiring c.args.plan c.requires.can_run c.in_ok-net.net c.in_ok-outlets.outlets.items c.in_ok-readers.readers.items (g.P.Policy.kind c.args.policy) c.in_ok-trace.trace c.in_ok-writers.writers.items c.in_ok-counts.counts
           c.in_ok-net.ensures.cells c.in_ok-net.ensures.links c.in_ok-net.ensures.capacities outlets_are readers_are counts_are
           (length c.in_ok-came.came.items) (length c.in_ok-writers.writers.items) c.len-count.result came_is writers_are count_is c.in_ok-copy.copy.items copied,
