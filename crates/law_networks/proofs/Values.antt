@@ -108,10 +108,11 @@ one_given file (a_parameter name value at) names g h = go (value_in (parameter_j
 
 pub values_given : (file : ℕ) (ps : List Parameter) (names : Names) (gs : List Given) → all_given file ps names ≡ Some gs → AreValuesOf file names ps gs
 values_given file [] names gs h = subst (AreValuesOf file names []) (some_same [] gs h) tt
-values_given file (p ∷ ps) names gs h = go (given_as file p (value_in (parameter_judged p names))) (all_given file ps names) refl refl h
+values_given file (p ∷ ps) names gs h =
+    go (given_as file p (value_in (parameter_judged p names))) (all_given file ps names) refl (λ xs e. values_given file ps names xs e) h
   where
-    go : (o : Option Given) (r : Option (List Given)) → given_as file p (value_in (parameter_judged p names)) ≡ o → all_given file ps names ≡ r → and_all o r ≡ Some gs
-        → AreValuesOf file names (p ∷ ps) gs
-    go (Some x) (Some xs) e f i = subst (AreValuesOf file names (p ∷ ps)) (some_same (x ∷ xs) gs i) (one_given file p names x e, values_given file ps names xs f)
-    go (Some x) None e f i = absurd cc
-    go None r e f i = absurd cc
+    go : (o : Option Given) (r : Option (List Given)) → given_as file p (value_in (parameter_judged p names)) ≡ o
+        → ((xs : List Given) → r ≡ Some xs → AreValuesOf file names ps xs) → and_all o r ≡ Some gs → AreValuesOf file names (p ∷ ps) gs
+    go (Some x) (Some xs) e rest i = subst (AreValuesOf file names (p ∷ ps)) (some_same (x ∷ xs) gs i) (one_given file p names x e, rest xs refl)
+    go (Some x) None e rest i = absurd cc
+    go None r e rest i = absurd cc
