@@ -25,7 +25,8 @@ pub data LeadTo (files : List Source) (from : Source) : Source → Type 0 where
       → Imports source class at → source_named class files ≡ Some target → LeadTo files from target
 
 -- an import at a place of a file, to which imports lead from the top
-pub record ImportsAt (files : List Source) (top : Source) (file at : ℕ) (class : List ℕ) : Type 0 where
+pub record ImportsAt (files : List Source) (top : Source) (file at : ℕ) (class : List ℕ) :
+    Type 0 where
   pub source : Source
   pub is_led_to : LeadTo files top source
   pub is_file : source.file ≡ file

@@ -44,7 +44,8 @@ GivesValues network given i values =
 
 -- At the end of a chain of instances, told by their ids, stands a network, with the values that its parameters are given:
 -- the top stands at the end of the empty chain, and an instance of a network leads one further.
-pub data StandsAt (library : List Entry) (top : Entry) : List (List ℕ) → Entry → List Given → Type 0 where
+pub data StandsAt (library : List Entry) (top : Entry)
+    : List (List ℕ) → Entry → List Given → Type 0 where
   at_top : StandsAt library top [] top []
   further : (ids : List (List ℕ)) (outer inner : Entry) (given values : List Given) (i : Instance)
       → StandsAt library top ids outer given → Contains outer.net.instances i
