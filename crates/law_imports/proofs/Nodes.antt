@@ -1,5 +1,5 @@
 -- Nodes are files and imports, or routines and calls.
-use Rattle.std.proofs.Common.{◌≡◌, ◌≢◌, ◌⊎◌, inl, inr, ℕ, zero, suc, ◌<◌, Bool, true, false, List, [], ◌∷◌, ◌++◌, map, refl, sym, ap, subst, ◌∙◌, arith}
+use Rattle.std.proofs.Common.{◌≡◌, inl, inr, ℕ, zero, suc, ◌<◌, Bool, true, false, List, [], ◌∷◌, ◌++◌, refl, sym, ap, subst, ◌∙◌, arith}
 use Rattle.std.proofs.lemmas.Slice.Eq.{bytes_eq-Decides}
 use Rattle.std.specs.Prelude.{Option, None, Some, Contains, is_some, option_map, if◌then◌else◌}
 use Rattle.std.specs.Str.{bytes_eq}
@@ -7,7 +7,7 @@ use Rattle.cal_ast.specs.Tree as tree
 use Rattle.cal_ast.specs.Tree.{Tree}
 use Rattle.cal_model.specs.Sound.{Each}
 use Rattle.cal_imports.specs.Calls.{with_calls}
-use Rattle.cal_imports.specs.Recursion.{edge_to, routine_node, routines, with_outer_routines, with_routine, with_routines}
+use Rattle.cal_imports.specs.Recursion.{routine_node, routines, with_outer_routines, with_routine, with_routines}
 use Rattle.cal_imports.specs.Sources.{Source, dotted, imports_of, source_named}
 use Rattle.cal_imports.specs.Walk.{Edge, Node, node_named, with_node}
 use Rattle.cal_imports.specs.Whole.{Outer, Scope, file_graph, file_node, import_edges, members_of, with_file_nodes}

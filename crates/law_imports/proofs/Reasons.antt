@@ -1,10 +1,10 @@
 -- Why there is no actor of a class in some files.
-use Rattle.std.proofs.Common.{◌≡◌, ◌≢◌, ◌⊎◌, inl, inr, ℕ, zero, suc, ◌<◌, Bool, true, false, ◌||◌, List, [], ◌∷◌, ◌++◌, map, refl, sym, ap, subst, ◌∙◌, arith}
+use Rattle.std.proofs.Common.{◌≡◌, ◌⊎◌, inl, inr, ℕ, zero, suc, ◌<◌, Bool, true, false, ◌||◌, List, [], ◌∷◌, ◌++◌, map, refl, sym, ap, subst, ◌∙◌, arith}
 use Rattle.std.proofs.lemmas.Slice.Eq.{bytes_eq-Decides}
 use Rattle.std.specs.Prelude.{Option, None, Some, Contains, option_map, if◌then◌else◌}
 use Rattle.std.specs.Str.{bytes_eq}
 use Rattle.rvc_base.specs.declared.refusal.Rule.{Rule}
-use Rattle.rvc_base.specs.Rules.{declared_twice, import_cycle, import_not_found, not_as_asked, recursion, unknown_name}
+use Rattle.rvc_base.specs.Rules.{import_cycle, import_not_found, not_as_asked, recursion, unknown_name}
 use Rattle.cal_ast.specs.Tree as tree
 use Rattle.cal_ast.specs.Tree.{Tree, listed}
 use Rattle.cal_model.specs.Kinding.{Judged, Fine, Broken, and_so}
@@ -16,9 +16,9 @@ use Rattle.cal_imports.specs.Answer.{Answer, Gives, Refuses, and_then, in_file}
 use Rattle.cal_imports.specs.Brought.{asked_brought, brought_beside, import_brought, imports_brought, names_declared, names_seen, same_brought, unit_brought, with_all_brought, with_brought, with_last_brought, with_seen}
 use Rattle.cal_imports.specs.OneFile.{body_resolved, header_resolved, param_resolved, params_resolved, port_resolved, source_resolved}
 use Rattle.cal_imports.specs.Recursion.{above_all, call_graph, call_order, edge_to, routines, without_recursion}
-use Rattle.cal_imports.specs.Resolved.{resolved, resolved_source, source_linked}
+use Rattle.cal_imports.specs.Resolved.{resolved, resolved_source}
 use Rattle.cal_imports.specs.Sources.{Source, as_asked, body_of, dot, dotted, imports_of, is_as_asked, source_named}
-use Rattle.cal_imports.specs.Walk.{Edge, Node, entering, node_named, order_from}
+use Rattle.cal_imports.specs.Walk.{Edge, Node}
 use Rattle.cal_imports.specs.Whole.{Gathered, Scope, actor_gathered, file_graph, file_node, import_order, members_of, scope_of, source_gathered, unit_gathered, units_gathered, with_declarations}
 use Rattle.law_imports.specs.Calling.{AreNamed, Calls, CallsInCircle}
 use Rattle.law_imports.specs.Leading.{Imports, ImportsAt, ImportsInCircle, ImportsNoFile, LeadTo, listed_in}
@@ -26,7 +26,7 @@ use Rattle.law_imports.specs.Leading as leading
 use Rattle.law_imports.specs.Refusing.{CircleOfCallsIsOne, CircleOfImportsIsOne, MissingIsMissing}
 use Rattle.law_imports.proofs.ByNames.{ByNames, IsOfNames, actor_names_by, all_declared_by, is_other, is_twice, is_unknown, members_by, optional_by, shape_by, so_by}
 use Rattle.law_imports.proofs.CalledIn.{first, later}
-use Rattle.law_imports.proofs.Nodes.{IsLedTo, IsRoutineNode, calls_by, called_from, file_found, file_named, first_of_name, imports_by, led_to, no_file, routine_at, routine_found}
+use Rattle.law_imports.proofs.Nodes.{IsLedTo, calls_by, called_from, file_found, file_named, first_of_name, imports_by, led_to, no_file, routine_at, routine_found}
 use Rattle.law_imports.proofs.Stopping.{IsBack, IsMissing, IsStop, LeadsToFirst, Reached, is_back, is_missing, at_start, named_is, one_on, order_reached, order_rule, order_stops}
 
 -- ---- answers

@@ -1,8 +1,8 @@
 -- Which imports and calls are wrong where an actor of some files is refused.
 -- Trusted: part of what a promise means.
-use Rattle.std.specs.Prelude.{◌≡◌, ◌⊎◌, ℕ, List, Option, None, Some}
+use Rattle.std.specs.Prelude.{◌≡◌, ◌⊎◌, ℕ, List, None, Some}
 use Rattle.rvc_base.specs.Rules.{import_not_found, import_cycle, recursion}
-use Rattle.cal_imports.specs.Answer.{Answer, Gives, Refuses}
+use Rattle.cal_imports.specs.Answer.{Gives, Refuses}
 use Rattle.cal_imports.specs.Resolved.{resolved}
 use Rattle.cal_imports.specs.Sources.{Source, source_named}
 use Rattle.cal_imports.specs.Whole.{Scope, actor_gathered}
