@@ -1,6 +1,6 @@
 -- No two actors have one path.
-use Rattle.std.proofs.Common.{◌≡◌, ◌≢◌, ℕ, zero, suc, ◌+◌, Bool, true, false, List, [], ◌∷◌, ◌++◌, length, map, refl, sym, ap, subst, ◌∙◌, arith}
-use Rattle.std.specs.Prelude.{Option, None, Some, Contains, slice_get, if◌then◌else◌}
+use Rattle.std.proofs.Common.{◌≡◌, ◌≢◌, ℕ, zero, suc, ◌+◌, List, [], ◌∷◌, ◌++◌, length, map, refl, sym, ap, subst, ◌∙◌}
+use Rattle.std.specs.Prelude.{Option, None, Some, Contains, slice_get}
 use Rattle.std.proofs.lemmas.List.{append_assoc, map-append}
 use Rattle.rvc_base.specs.Rules.{network_name_twice}
 use Rattle.cal_model.specs.Sound.{Each}
@@ -11,8 +11,8 @@ use Rattle.fnl_read.specs.Net.{Instance, Net, an_instance}
 use Rattle.fnl_tree.specs.Tree.{Leaf}
 use Rattle.fnl_bind.specs.Library.{Entry, instance_class, instance_id, instance_parameters, network_of}
 use Rattle.fnl_bind.specs.Networks.{Place, Standing, StandsLeaf, StandsNet, StandsNot, found_behind, names_at, net_under, own_found, path_under, standing, standing_as}
-use Rattle.fnl_bind.specs.Scopes.{circles, keyed_decls, keyed_instances, keyed_ports, name_broken, named_twice, ports_broken, scope_broken, unknown_names}
-use Rattle.fnl_bind.specs.Trees.{Filled, filled, filled_by, found_at, found_inside, found_or_inside, found_standing, grown_at, passing, top_place, tree_of, violations, violations_of}
+use Rattle.fnl_bind.specs.Scopes.{keyed_decls, keyed_instances, keyed_ports, name_broken, named_twice, scope_broken}
+use Rattle.fnl_bind.specs.Trees.{Filled, filled, filled_by, found_at, found_inside, found_or_inside, found_standing, grown_at, top_place, tree_of, violations_of}
 use Rattle.fnl_bind.specs.Values.{all_given}
 use Rattle.fnl_bind.proofs.Told.{AreTold, IsNew, told_once}
 use Rattle.law_networks.specs.Chains.{HaveIds, IsId, path_of}

@@ -1,5 +1,5 @@
 -- Each actor stands at the end of a chain of instances.
-use Rattle.std.proofs.Common.{◌≡◌, ◌≢◌, ℕ, zero, suc, ◌+◌, Bool, true, false, List, [], ◌∷◌, ◌++◌, length, map, refl, sym, ap, subst, ◌∙◌, arith}
+use Rattle.std.proofs.Common.{◌≡◌, ℕ, zero, suc, ◌+◌, Bool, true, false, List, [], ◌∷◌, ◌++◌, length, refl, ap, subst, ◌∙◌, arith}
 use Rattle.std.specs.Prelude.{Option, None, Some, Contains, if◌then◌else◌}
 use Rattle.std.specs.Str.{bytes_eq}
 use Rattle.cal_model.specs.Sound.{Each}
@@ -8,8 +8,8 @@ use Rattle.cal_check.proofs.Lists.{at-head, each-append, in-none, in-rest}
 use Rattle.fnl_read.specs.Net.{Instance}
 use Rattle.fnl_tree.specs.Tree.{Leaf}
 use Rattle.fnl_bind.specs.Library.{Entry, instance_class, instance_id, instance_parameters, network_of}
-use Rattle.fnl_bind.specs.Networks.{Place, leaf_under, names_at, net_under, path_under, standing, standing_as}
-use Rattle.fnl_bind.specs.Trees.{Filled, bound, filled, filled_by, grown_at, top_place, tree_of}
+use Rattle.fnl_bind.specs.Networks.{Place, leaf_under, names_at, net_under, path_under, standing_as}
+use Rattle.fnl_bind.specs.Trees.{Filled, filled, filled_by, grown_at, top_place, tree_of}
 use Rattle.fnl_bind.specs.Values.{all_given}
 use Rattle.law_networks.specs.Chains.{AreValuesOf, GivesValues, HaveIds, IsId, StandsAt, at_top, further, path_of}
 use Rattle.law_networks.specs.Leaves.{LeavesStandInChains, StandsInChain}

@@ -1,9 +1,9 @@
 -- The values that an instance gives, over what its network declares.
-use Rattle.std.proofs.Common.{◌≡◌, ℕ, Bool, true, false, List, [], ◌∷◌, ◌++◌, refl, sym, ap, subst, ◌∙◌}
+use Rattle.std.proofs.Common.{◌≡◌, ℕ, Bool, true, false, List, [], ◌∷◌, refl, sym, ap, subst, ◌∙◌}
 use Rattle.std.specs.Prelude.{Option, None, Some, if◌then◌else◌}
 use Rattle.cal_ast.specs.Places.{begins}
 use Rattle.cal_ast.specs.Tree.{Tree}
-use Rattle.cal_model.specs.Kinding.{Judged, Fine, Broken, Known, Names, and_so, constant, kind}
+use Rattle.cal_model.specs.Kinding.{Judged, Fine, Broken, Names, and_so, constant, kind}
 use Rattle.cal_model.specs.Outcome.{Out, Gives, Traps, Lacks, Clashes}
 use Rattle.cal_model.specs.Value.{Kind, Shape, Value, kind_of_type}
 use Rattle.cal_check.specs.Constants.{early_type, has_kind}

@@ -1,6 +1,6 @@
 -- Chains of instances from the top network down: which network stands at their ends, and with which values.
 -- Trusted: part of what a promise means.
-use Rattle.std.specs.Prelude.{◌≡◌, ◌≢◌, ℕ, List, [], ◌∷◌, ◌++◌, Option, None, Some, Contains, codes}
+use Rattle.std.specs.Prelude.{◌≡◌, ◌≢◌, ℕ, List, [], ◌∷◌, ◌++◌, Some, Contains, codes}
 use Rattle.cal_ast.specs.Tree.{Tree}
 use Rattle.cal_model.specs.Kinding.{Names, constant}
 use Rattle.cal_model.specs.Outcome.{Gives}

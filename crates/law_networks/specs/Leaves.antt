@@ -1,6 +1,6 @@
 -- The actors of a bound network: where each stands, its path, and the values of its parameters.
 -- Trusted: part of what a promise means.
-use Rattle.std.specs.Prelude.{◌≡◌, ℕ, List, [], ◌∷◌, ◌++◌, map, Option, None, Some, Contains, slice_get}
+use Rattle.std.specs.Prelude.{◌≡◌, ℕ, List, [], ◌∷◌, ◌++◌, map, None, Some, Contains, slice_get}
 use Rattle.cal_check.specs.Variables.{Given}
 use Rattle.fnl_read.specs.Net.{Instance}
 use Rattle.fnl_tree.specs.Tree.{Binding, Leaf}
