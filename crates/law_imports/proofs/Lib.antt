@@ -1,0 +1,5 @@
+mod Stopping
+mod Nodes
+mod CalledIn
+mod ByNames
+mod Reasons

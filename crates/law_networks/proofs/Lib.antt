@@ -1,0 +1,4 @@
+mod Values
+mod Paths
+mod Placed
+mod Apart
