@@ -1,5 +1,5 @@
 -- Sizes and bounds of what has a kind give numbers.
-use Rattle.std.proofs.Common.{◌≡◌, ◌*◌, ℕ, ℤ, Bool, true, false, List, [], ◌∷◌, refl, sym, ap, subst}
+use Rattle.std.proofs.Common.{◌≡◌, ◌*◌, ℕ, ℤ, Bool, true, false, List, [], ◌∷◌, refl}
 use Rattle.std.specs.Prelude.{Option, None, Some, if◌then◌else◌}
 use Rattle.cal_ast.specs.Places.{begins}
 use Rattle.cal_ast.specs.Tree as tree
@@ -142,8 +142,7 @@ mutual
       let d = and_fine (constant_number (kind to names) to names) (λ b. and_so (elements_in gens (with_known (counter name) names)) (λ n. Fine (span c.part b * n))) n c.rest in
       let e = and_fine (elements_in gens (with_known (counter name) names)) (λ n. Fine (span c.part d.part * n)) n d.rest in
       let f = a_number from names c.part c.first in
-      let g = a_number to names d.part d.first in
-      (
+      let g = a_number to names d.part d.first in (
         type_numbers shape names a.part a.first,
         f.gives,
         kind_numbers from names NumKind f.is_number,

@@ -2,7 +2,6 @@
 use Rattle.std.proofs.Common.{◌≡◌, ℕ, Bool, true, false, ◌||◌, List, [], ◌∷◌, ◌++◌, refl, sym, ap, subst, ◌∙◌}
 use Rattle.std.specs.Prelude.{Option, None, Some, if◌then◌else◌, ◌==◌}
 use Rattle.std.proofs.lemmas.List.{append_assoc}
-use Rattle.rvc_base.specs.declared.refusal.Rule.{Rule}
 use Rattle.rvc_base.specs.Rules.{not_constant, unknown_name, wrong_parameter}
 use Rattle.cal_ast.specs.Places.{begins}
 use Rattle.cal_ast.specs.Tree as tree
@@ -10,11 +9,11 @@ use Rattle.cal_ast.specs.Tree.{Tree}
 use Rattle.cal_model.specs.Kinding.{Judged, Fine, Broken, Known, Names, and_so, constant, kind, one_kind, type_judged}
 use Rattle.cal_model.specs.Outcome.{Out, Gives, Traps, Lacks, Clashes}
 use Rattle.cal_model.specs.Value.{Kind, Shape, Value, kind_of_type, stored, zero_of}
-use Rattle.cal_check.specs.Actors.{Source, all_found, all_funs, all_said, all_valued, around_of, before_members, behind_variables, declared_vars, has_heads, members_of, params_in, params_of, said_or_all, valueless_found, vars_in, violations}
-use Rattle.cal_check.specs.Constants.{constant_place, early_kind, early_type, has_kind, not_yet, start_value, stored_kind, value_given}
+use Rattle.cal_check.specs.Actors.{Source, all_found, all_funs, all_valued, around_of, behind_variables, declared_vars, members_of, params_in, params_of, said_or_all, valueless_found, vars_in, violations}
+use Rattle.cal_check.specs.Constants.{constant_place, early_kind, early_type, has_kind, not_yet, stored_kind, value_given}
 use Rattle.cal_check.specs.Routines.{FunDecl}
-use Rattle.cal_check.specs.Variables.{Come, Found, Given, Spot, VarDecl, Valued, come, come_if, come_of, found_in, given_broken, given_to, given_value, is_bare, is_none, none_yet, param_broken, seen, value_of, value_or, valued, with_come, with_type, with_var}
-use Rattle.cal_check.specs.Violations.{Violation, said, violation}
+use Rattle.cal_check.specs.Variables.{Found, Given, Spot, VarDecl, Valued, come, come_if, come_of, found_in, given_broken, given_to, given_value, is_bare, is_none, none_yet, param_broken, seen, value_of, value_or, valued, with_type, with_var}
+use Rattle.cal_check.specs.Violations.{said, violation}
 use Rattle.cal_check.proofs.NoneBroken.{nothing-broken}
 use Rattle.law_violations.specs.Numbers.{HasNumbers}
 use Rattle.law_violations.specs.Values.{HasValue, HaveValues, VariablesHaveValues, begins_empty, has_start, is_given, known_with, none, one}

@@ -1,6 +1,6 @@
 -- Sizes and bounds that give numbers: what must be constant inside an expression or a type, and is.
 -- Trusted: part of what a promise means.
-use Rattle.std.specs.Prelude.{◌≡◌, ℕ, ℤ, List}
+use Rattle.std.specs.Prelude.{◌≡◌, ℕ, ℤ}
 use Rattle.cal_ast.specs.Tree as tree
 use Rattle.cal_ast.specs.Tree.{Tree}
 use Rattle.cal_model.specs.Kinding.{Fine, Names, constant, counter, kind, type_judged, with_counters, with_known}
