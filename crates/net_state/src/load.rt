@@ -70,11 +70,7 @@ fn pays(load: Load, picks: u32, threads: u32) -> bool
 
 /// The work of a round whose bursts these cells made, and half of the last one's if that is more: so one round with little
 /// to do between others changes nothing. One worker alone needn't know it.
-pub(crate) fn load_after<A: Effort>(
-    last: Option<Load>,
-    workers: u32,
-    cells: &[A],
-) -> Option<Load> {
+pub(crate) fn load_after<A: Effort>(last: Option<Load>, workers: u32, cells: &[A]) -> Option<Load> {
     if workers < 2 {
         return last;
     }
