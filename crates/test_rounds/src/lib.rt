@@ -8,8 +8,6 @@
 #![tactic(auto)]
 
 #[cfg(test)]
-mod claims;
-#[cfg(test)]
 mod crews;
 #[cfg(test)]
 mod faults;
