@@ -1,4 +1,5 @@
 -- Leaves split into parts that links join.
+-- Trusted is `at` alone, as part of what a promise means: the rest is of the steps.
 use Rattle.std.specs.Prelude.{◌≡◌, ◌≢◌, ℕ, ◌*◌, ◌<◌, ◌≤◌, List, All, slice_index, if◌then◌else◌, nat_eq}
 use Rattle.balanced_rates.specs.declared.link.RatedLink.{RatedLink}
 use Rattle.balanced_rates.specs.declared.split.Outcome.{Outcome}

@@ -1,4 +1,5 @@
 -- What is kept while turns are taken.
+-- Trusted is `link_at` alone, as part of what a promise means: the rest is of the steps.
 use Rattle.std.specs.Prelude.{◌≡◌, ◌⊎◌, ℕ, ◌+◌, ◌-◌, ◌<◌, List, length, All, AllPairs, Contains, ◌≢◌, [], slice_index_or, if◌then◌else◌, nat_eq, nat_lt}
 use Rattle.balanced_rates.specs.declared.link.RatedLink.{RatedLink}
 use Rattle.balanced_rates.specs.Balance.{total}

@@ -1,0 +1,4 @@
+pub mod Balance
+pub mod Fault
+pub mod Inner
+pub mod Periods
