@@ -1,5 +1,5 @@
 -- The behaviours of static actors are static in the states of the actors.
-use Rattle.std.proofs.Common.{◌≡◌, ◌⊎◌, ℕ, List, sym, subst}
+use Rattle.std.proofs.Common.{◌⊎◌, ℕ, List, sym, subst}
 use Rattle.std.specs.Prelude.{slice_index}
 use Rattle.cal_model.specs.Actor.{Actor}
 use Rattle.cal_model.specs.ActorState.{IsActorState}
