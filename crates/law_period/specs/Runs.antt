@@ -108,7 +108,7 @@ Throughout net P s [] = P s
 Throughout net P s (event ∷ events) =
     P s × OnNext (happens net s event) (λ next. Throughout net P next events)
 
--- what lies behind firings of the leaves: each link got what its writer gave, and lost what its reader took
+-- behind firings of the leaves each link got what its writer gave, and lost what its reader took
 pub record IsMoved {X : Type 0} (net : Network X) (rates : NetRates) (firings : ℕ → ℕ)
     (s last : State X) : Type 0 where
   pub given : (l : ℕ) (link : Link) (before after : Flow) → slice_get net.links l ≡ Some link

@@ -20,8 +20,8 @@ pub record NetRates : Type 0 where
 abbrev pub HasNeeds : {X : Type 0} → Behaviour X → (ℕ → ℕ) → List (List ℤ) → Type 0
 HasNeeds actor need tokens = (p : ℕ) → p < actor.ins → need p ≤ length (tokens_on tokens p)
 
--- An actor is static: in each of its states, the `kept` ones, its choice is to fire if it has its tokens, and each
--- action takes and gives the same.
+-- An actor is static: in each of its states, the `kept` ones, its choice is to fire if it has its
+-- tokens, and each action takes and gives the same.
 pub record IsStatic {X : Type 0} (actor : Behaviour X) (kept : X → Type 0) (need give : ℕ → ℕ) :
     Type 0 where
   pub start : kept actor.start
@@ -65,9 +65,9 @@ abbrev pub IsReached : {X : Type 0} → Network X → (i p : ℕ) → Type 0
 IsReached net i p = (l : ℕ) × (link : Link) × (slice_get net.links l ≡ Some link)
     × (is_leaf_port i p link.to ≡ true)
 
--- An order of turns is a period of a network, in which each leaf fires so often: over all turns each inner link gets as
--- many tokens as are taken from it, each leaf finds its tokens on the inner links at each of its turns, and none needs
--- tokens on a port to which no link leads.
+-- An order of turns is a period of a network, in which each leaf fires so often: over all turns
+-- each inner link gets as many tokens as are taken from it, each leaf finds its tokens on the inner
+-- links at each of its turns, and none needs tokens on a port to which no link leads.
 pub record IsPeriodOf {X : Type 0} (net : Network X) (rates : NetRates) (firings : ℕ → ℕ)
     (order : List ℕ) : Type 0 where
   pub balanced : All (IsBalanced firings) (inner_links rates net.links)

@@ -10,8 +10,8 @@ pub fn vectors_are_multiples()
 {}
 
 /// A leaf is blocked, as the least with turns left where none may fire, exactly if no order of the turns is a period.
-/// So it is if a leaf that fires is on a cycle of links on which tokens are needed: nothing lies on a link at first, and
-/// no leaf of the cycle can be the first of it to fire.
+/// So it is if a leaf that fires is on a cycle of links on which tokens are needed: nothing lies on a link at first,
+/// and no leaf of the cycle can be the first of it to fire.
 pub fn blocked_has_no_period()
     ensures exact { BlockedHasNoPeriod }
     ensures cycles { CyclesHaveNoPeriod }

@@ -12,10 +12,10 @@ pub trait StaticStates {
     ghost kept: { ℕ → State → Type 0 };
 }
 
-/// From a state between periods, with as much input as a period takes, the turns of a period are a run: all arrives, and
-/// then the leaves of the order fire in turn, each the action that selection gives, with all arriving behind each. It
-/// ends between periods again, with the inner links empty, or an action traps on the way. No inner link ever holds more
-/// tokens than its peak (`runs`). The start of a run over files is such a state (`start`).
+/// From a state between periods, with as much input as a period takes, the turns of a period are a run: all arrives,
+/// and then the leaves of the order fire in turn, each the action that selection gives, with all arriving behind each.
+/// It ends between periods again, with the inner links empty, or an action traps on the way. No inner link ever holds
+/// more tokens than its peak (`runs`). The start of a run over files is such a state (`start`).
 pub fn periods_are_runs<N: StaticStates>()
     ensures start { StartsAtRest N.State N.kept }
     ensures runs { PeriodsAreRuns N.State N.kept }
