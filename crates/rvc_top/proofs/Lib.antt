@@ -1,3 +1,4 @@
-mod Printed
+mod Alone
+mod Kept
 mod Said
 mod SameJob

@@ -6,7 +6,7 @@ use Rattle.rvc_words.specs.declared.fault.UsageCause.{UsageCause}
 use Rattle.cal_model.specs.Selection.{State}
 use Rattle.net_model.specs.Network.{Network}
 use Rattle.cmd_network.specs.Answers.{IsAnswered, is_reported, is_unreported}
-use Rattle.cmd_network.specs.Commands.{Command}
+use Rattle.cmd_network.specs.Commands.{Command, command}
 use Rattle.cmd_certify.specs.Ends as certify
 use Rattle.cmd_check.specs.Ends as check
 use Rattle.law_determinate.specs.QuietRuns.{ComesDeterminate, RunsTellQuietRuns}
@@ -20,25 +20,24 @@ use Rattle.cmd_report.specs.declared.status.ReadAt.TheVariants.{File, Feed}
 use Rattle.cmd_report.specs.declared.status.Status.{Status}
 use Rattle.cmd_report.specs.declared.status.Status.TheVariants.{Quiet, Done, Usage, ReadFault, WriteFault, Refused, Trapped, Stalled, Budget, OutOfMemory, NotRun, Uncertified}
 use Rattle.rvc_top.specs.Generated.{GenComesDeterminate}
-use Rattle.rvc_top.specs.Steps.{IsNoUsage, IsSaid}
+use Rattle.rvc_top.specs.Status.{SaysOfWorld}
+use Rattle.rvc_top.specs.Steps.{IsNoUsage}
+use Rattle.rvc_top.specs.World.{World}
+use Rattle.rvc_words.specs.declared.job.Job.{Job}
 
 -- ---- any verb
-
--- what an answer says of the outside
-abbrev pub CommandSaid : Command → Status → Type 0
-CommandSaid cmd answer = IsSaid cmd.faults.old cmd.faults.new cmd.feeds.faults cmd.feeds_after.faults cmd.channels cmd.channels_after answer
 
 -- the report was put, if that is told
 abbrev Put : Command → List ℕ → Type 0
 Put cmd text = cmd.channels.tells ≡ true → cmd.channels_after.held 0 ≡ cmd.channels.held 0 ++ text
 
-module _ (Comes : Command → Status → List ℕ → About → Type 0) (cmd : Command) where
-  said_of : ((said : Status) (lines : List ℕ) (about : About) → Comes cmd said lines about → Put cmd (report lines about said) → CommandSaid cmd said)
-      → (answer : Status) → IsAnswered Comes cmd answer → CommandSaid cmd answer
+module _ (Comes : Command → Status → List ℕ → About → Type 0) (world : World) (job : Job) where
+  said_of : ((said : Status) (lines : List ℕ) (about : About) → Comes (command world.met job) said lines about → Put (command world.met job) (report lines about said) → SaysOfWorld world said)
+      → (answer : Status) → IsAnswered Comes (command world.met job) answer → SaysOfWorld world answer
   said_of each _ (is_reported {said = said} lines about comes put) = each said lines about comes put
   said_of each _ (is_unreported said lines about comes put risen) = record { caused = risen; alone = λ b. absurd b; plain = λ t. tt }
 
-  no_usage_of : ((cause : UsageCause) (lines : List ℕ) (about : About) → Comes cmd (Usage cause) lines about → ⊥) → (answer : Status) → IsAnswered Comes cmd answer → IsNoUsage answer
+  no_usage_of : ((cause : UsageCause) (lines : List ℕ) (about : About) → Comes (command world.met job) (Usage cause) lines about → ⊥) → (answer : Status) → IsAnswered Comes (command world.met job) answer → IsNoUsage answer
   no_usage_of none _ (is_reported {said = Usage c} lines about comes put) cause e = none c lines about comes
   no_usage_of none _ (is_reported {said = Quiet} lines about comes put) cause e = cc
   no_usage_of none _ (is_reported {said = Done} lines about comes put) cause e = cc
@@ -55,12 +54,12 @@ module _ (Comes : Command → Status → List ℕ → About → Type 0) (cmd : C
 
 -- ---- `run`
 
-module _ (cmd : Command) where
-  unread-counted : (net : Network State) (feed : ℕ) → (run.FeedUnopened cmd net feed ⊎ run.FeedBroke cmd net feed) → HasRisen cmd.feeds.faults cmd.feeds_after.faults
+module _ (world : World) (job : Job) where
+  unread-counted : (net : Network State) (feed : ℕ) → (run.FeedUnopened (command world.met job) net feed ⊎ run.FeedBroke (command world.met job) net feed) → HasRisen (command world.met job).feeds.faults (command world.met job).feeds_after.faults
   unread-counted net feed (inl un) = un.fails.counted
   unread-counted net feed (inr broke) = broke.counted
 
-  run_came : (said : Status) (lines : List ℕ) (about : About) → run.Comes cmd said lines about → Put cmd (report lines about said) → CommandSaid cmd said
+  run_came : (said : Status) (lines : List ℕ) (about : About) → run.Comes (command world.met job) said lines about → Put (command world.met job) (report lines about said) → SaysOfWorld world said
   run_came Quiet lines about comes put = record { caused = tt; alone = λ b. absurd b; plain = λ t. tt }
   run_came Done lines about comes put = absurd comes
   run_came (Usage cause) lines about comes put = absurd comes
@@ -75,25 +74,16 @@ module _ (cmd : Command) where
   run_came (NotRun number why) lines about comes put = absurd comes
   run_came (Uncertified inst state first second reason) lines about comes put = absurd comes
 
-  pub run_said : (answer : Status) → IsAnswered run.Comes cmd answer → CommandSaid cmd answer
-  run_said = said_of run.Comes cmd run_came
+  pub run_said : (answer : Status) → IsAnswered run.Comes (command world.met job) answer → SaysOfWorld world answer
+  run_said = said_of run.Comes world job run_came
 
-  pub run_no_usage : (answer : Status) → IsAnswered run.Comes cmd answer → IsNoUsage answer
-  run_no_usage = no_usage_of run.Comes cmd (λ cause lines about comes. comes)
+  pub run_no_usage : (answer : Status) → IsAnswered run.Comes (command world.met job) answer → IsNoUsage answer
+  run_no_usage = no_usage_of run.Comes world job (λ cause lines about comes. comes)
 
-  -- what was answered tells of quiet runs
-  pub run_tells : RunsTellQuietRuns → (answer : Status) → IsAnswered run.Comes cmd answer → IsAnswered ComesDeterminate cmd answer
-  run_tells law _ (is_reported {said = said} lines about comes put) = is_reported lines about (comes, law cmd said lines about) put
-  run_tells law _ (is_unreported said lines about comes put risen) = is_unreported said lines about (comes, law cmd said lines about) put risen
-
-  -- .. and of how few rounds it made
-  pub run_rounds : RunsMakeFewRounds → (answer : Status) → IsAnswered run.Comes cmd answer → IsAnswered ComesInFewRounds cmd answer
-  run_rounds law _ (is_reported lines about comes put) = is_reported lines about (comes, law cmd lines about) put
-  run_rounds law _ (is_unreported said lines about comes put risen) = is_unreported said lines about (comes, law cmd lines about) put risen
 
   -- ---- `check`
 
-  check_came : (said : Status) (lines : List ℕ) (about : About) → check.Comes cmd said lines about → Put cmd (report lines about said) → CommandSaid cmd said
+  check_came : (said : Status) (lines : List ℕ) (about : About) → check.Comes (command world.met job) said lines about → Put (command world.met job) (report lines about said) → SaysOfWorld world said
   check_came Quiet lines about comes put = absurd comes
   check_came Done lines about comes put = record { caused = tt; alone = λ b. comes.1.only_report; plain = λ t. tt }
   check_came (Usage cause) lines about comes put = absurd comes
@@ -108,15 +98,15 @@ module _ (cmd : Command) where
   check_came (NotRun number why) lines about comes put = absurd comes
   check_came (Uncertified inst state first second reason) lines about comes put = absurd comes
 
-  pub check_said : (answer : Status) → IsAnswered check.Comes cmd answer → CommandSaid cmd answer
-  check_said = said_of check.Comes cmd check_came
+  pub check_said : (answer : Status) → IsAnswered check.Comes (command world.met job) answer → SaysOfWorld world answer
+  check_said = said_of check.Comes world job check_came
 
-  pub check_no_usage : (answer : Status) → IsAnswered check.Comes cmd answer → IsNoUsage answer
-  check_no_usage = no_usage_of check.Comes cmd (λ cause lines about comes. comes)
+  pub check_no_usage : (answer : Status) → IsAnswered check.Comes (command world.met job) answer → IsNoUsage answer
+  check_no_usage = no_usage_of check.Comes world job (λ cause lines about comes. comes)
 
   -- ---- `certify`
 
-  certify_came : (said : Status) (lines : List ℕ) (about : About) → certify.Comes cmd said lines about → Put cmd (report lines about said) → CommandSaid cmd said
+  certify_came : (said : Status) (lines : List ℕ) (about : About) → certify.Comes (command world.met job) said lines about → Put (command world.met job) (report lines about said) → SaysOfWorld world said
   certify_came Quiet lines about comes put = absurd comes
   certify_came Done lines about comes put = record { caused = tt; alone = λ b. comes.1.only_report; plain = λ t. tt }
   certify_came (Usage cause) lines about comes put = absurd comes
@@ -131,19 +121,19 @@ module _ (cmd : Command) where
   certify_came (NotRun number why) lines about comes put = absurd comes
   certify_came (Uncertified inst state first second reason) lines about comes put = record { caused = tt; alone = λ b. comes.1.only_report; plain = λ t. tt }
 
-  pub certify_said : (answer : Status) → IsAnswered certify.Comes cmd answer → CommandSaid cmd answer
-  certify_said = said_of certify.Comes cmd certify_came
+  pub certify_said : (answer : Status) → IsAnswered certify.Comes (command world.met job) answer → SaysOfWorld world answer
+  certify_said = said_of certify.Comes world job certify_came
 
-  pub certify_no_usage : (answer : Status) → IsAnswered certify.Comes cmd answer → IsNoUsage answer
-  certify_no_usage = no_usage_of certify.Comes cmd (λ cause lines about comes. comes)
+  pub certify_no_usage : (answer : Status) → IsAnswered certify.Comes (command world.met job) answer → IsNoUsage answer
+  certify_no_usage = no_usage_of certify.Comes world job (λ cause lines about comes. comes)
 
   -- ---- `replay`
 
-  replay-counted : (net : Network State) (feed : ℕ) → (replay.FeedUnopened cmd net feed ⊎ replay.FeedBroke cmd net feed) → HasRisen cmd.feeds.faults cmd.feeds_after.faults
+  replay-counted : (net : Network State) (feed : ℕ) → (replay.FeedUnopened (command world.met job) net feed ⊎ replay.FeedBroke (command world.met job) net feed) → HasRisen (command world.met job).feeds.faults (command world.met job).feeds_after.faults
   replay-counted net feed (inl un) = un.counted
   replay-counted net feed (inr broke) = broke.counted
 
-  replay_came : (said : Status) (lines : List ℕ) (about : About) → replay.Comes cmd said lines about → Put cmd (report lines about said) → CommandSaid cmd said
+  replay_came : (said : Status) (lines : List ℕ) (about : About) → replay.Comes (command world.met job) said lines about → Put (command world.met job) (report lines about said) → SaysOfWorld world said
   replay_came Quiet lines about comes put = absurd comes
   replay_came Done lines about comes put = record { caused = tt; alone = λ b. comes.replayed.only_report; plain = λ t. tt }
   replay_came (Usage cause) lines about comes put = absurd comes
@@ -158,19 +148,19 @@ module _ (cmd : Command) where
   replay_came (NotRun number why) lines about comes put = record { caused = tt; alone = λ b. comes.only_report; plain = λ t. tt }
   replay_came (Uncertified inst state first second reason) lines about comes put = absurd comes
 
-  pub replay_said : (answer : Status) → IsAnswered replay.Comes cmd answer → CommandSaid cmd answer
-  replay_said = said_of replay.Comes cmd replay_came
+  pub replay_said : (answer : Status) → IsAnswered replay.Comes (command world.met job) answer → SaysOfWorld world answer
+  replay_said = said_of replay.Comes world job replay_came
 
-  pub replay_no_usage : (answer : Status) → IsAnswered replay.Comes cmd answer → IsNoUsage answer
-  replay_no_usage = no_usage_of replay.Comes cmd (λ cause lines about comes. comes)
+  pub replay_no_usage : (answer : Status) → IsAnswered replay.Comes (command world.met job) answer → IsNoUsage answer
+  replay_no_usage = no_usage_of replay.Comes world job (λ cause lines about comes. comes)
 
   -- ---- `gen`
 
-  gen-counted : (made : Command) → gen.IsGenerated cmd made → HasRisen made.channels.faults made.channels_after.faults → HasRisen cmd.channels.faults cmd.channels_after.faults
-  gen-counted made is risen = subst (λ (after : Channels). HasRisen cmd.channels.faults after.faults) is.channels_after
+  gen-counted : (made : Command) → gen.IsGenerated (command world.met job) made → HasRisen made.channels.faults made.channels_after.faults → HasRisen (command world.met job).channels.faults (command world.met job).channels_after.faults
+  gen-counted made is risen = subst (λ (after : Channels). HasRisen (command world.met job).channels.faults after.faults) is.channels_after
       (subst (λ (before : Channels). HasRisen before.faults made.channels_after.faults) is.channels risen)
 
-  gen_came : (said : Status) (lines : List ℕ) (about : About) → gen.Comes cmd said lines about → Put cmd (report lines about said) → CommandSaid cmd said
+  gen_came : (said : Status) (lines : List ℕ) (about : About) → gen.Comes (command world.met job) said lines about → Put (command world.met job) (report lines about said) → SaysOfWorld world said
   gen_came Quiet lines about comes put = record { caused = tt; alone = λ b. absurd b; plain = λ t. tt }
   gen_came Done lines about comes put = absurd comes
   gen_came (Usage cause) lines about comes put = absurd comes
@@ -184,11 +174,24 @@ module _ (cmd : Command) where
   gen_came (NotRun number why) lines about comes put = absurd comes
   gen_came (Uncertified inst state first second reason) lines about comes put = absurd comes
 
-  pub gen_said : (answer : Status) → IsAnswered gen.Comes cmd answer → CommandSaid cmd answer
-  gen_said = said_of gen.Comes cmd gen_came
+  pub gen_said : (answer : Status) → IsAnswered gen.Comes (command world.met job) answer → SaysOfWorld world answer
+  gen_said = said_of gen.Comes world job gen_came
 
-  pub gen_no_usage : (answer : Status) → IsAnswered gen.Comes cmd answer → IsNoUsage answer
-  gen_no_usage = no_usage_of gen.Comes cmd (λ cause lines about comes. comes)
+  pub gen_no_usage : (answer : Status) → IsAnswered gen.Comes (command world.met job) answer → IsNoUsage answer
+  gen_no_usage = no_usage_of gen.Comes world job (λ cause lines about comes. comes)
+
+-- ---- laws of what was answered
+
+module _ (cmd : Command) where
+  -- what was answered tells of quiet runs
+  pub run_tells : RunsTellQuietRuns → (answer : Status) → IsAnswered run.Comes cmd answer → IsAnswered ComesDeterminate cmd answer
+  run_tells law _ (is_reported {said = said} lines about comes put) = is_reported lines about (comes, law cmd said lines about) put
+  run_tells law _ (is_unreported said lines about comes put risen) = is_unreported said lines about (comes, law cmd said lines about) put risen
+
+  -- .. and of how few rounds it made
+  pub run_rounds : RunsMakeFewRounds → (answer : Status) → IsAnswered run.Comes cmd answer → IsAnswered ComesInFewRounds cmd answer
+  run_rounds law _ (is_reported lines about comes put) = is_reported lines about (comes, law cmd lines about) put
+  run_rounds law _ (is_unreported said lines about comes put risen) = is_unreported said lines about (comes, law cmd lines about) put risen
 
   -- what was answered tells of quiet runs of the generated network
   pub gen_tells : RunsTellQuietRuns → (answer : Status) → IsAnswered gen.Comes cmd answer → IsAnswered GenComesDeterminate cmd answer

@@ -1,13 +1,15 @@
 -- What statuses say of the outside, whatever the words ask for.
 -- Trusted: part of what a promise means.
 use Rattle.std.specs.Prelude.{◌≡◌, ℕ, true, List, ◌++◌}
-use Rattle.rvc_io.specs.Channels.{Channels}
+use Rattle.rvc_io.specs.Channels.{Channels, WritesOnlyAt}
 use Rattle.rvc_io.specs.Count.{HasRisen}
 use Rattle.cmd_report.specs.Report.{last_line}
 use Rattle.cmd_report.specs.declared.status.ReadAt.TheVariants.{File, Feed}
 use Rattle.cmd_report.specs.declared.status.Status.{Status}
 use Rattle.cmd_report.specs.declared.status.Status.TheVariants as status
+use Rattle.cmd_network.specs.Commands.{Met}
 use Rattle.rvc_top.specs.Jobs.{about_words}
+use Rattle.rvc_top.specs.World.{World}
 
 -- no channel was opened, and none was written but that of the report
 abbrev pub IsReportAlone : Status → Type 0
@@ -41,22 +43,20 @@ IsOfJob (status.NotRun number why) = Unit {0}
 IsOfJob (status.Uncertified inst state first second reason) = Unit {0}
 
 -- each fault with the count that rose
-abbrev pub IsCaused :
-    (file_faults_old file_faults feed_faults_old feed_faults faults_old faults : ℕ) → Status
-    → Type 0
-IsCaused lo ln ffo ff fo fn status.Quiet = Unit {0}
-IsCaused lo ln ffo ff fo fn status.Done = Unit {0}
-IsCaused lo ln ffo ff fo fn (status.Usage cause) = Unit {0}
-IsCaused lo ln ffo ff fo fn (status.ReadFault (File file)) = HasRisen lo ln
-IsCaused lo ln ffo ff fo fn (status.ReadFault (Feed feed)) = HasRisen ffo ff
-IsCaused lo ln ffo ff fo fn (status.WriteFault channel) = HasRisen fo fn
-IsCaused lo ln ffo ff fo fn (status.Refused refusal) = Unit {0}
-IsCaused lo ln ffo ff fo fn (status.Trapped inst action trap) = Unit {0}
-IsCaused lo ln ffo ff fo fn (status.Stalled inst action link) = Unit {0}
-IsCaused lo ln ffo ff fo fn (status.Budget firings) = Unit {0}
-IsCaused lo ln ffo ff fo fn status.OutOfMemory = Unit {0}
-IsCaused lo ln ffo ff fo fn (status.NotRun number why) = Unit {0}
-IsCaused lo ln ffo ff fo fn (status.Uncertified inst state first second reason) = Unit {0}
+abbrev pub IsCaused : Met → Status → Type 0
+IsCaused met status.Quiet = Unit {0}
+IsCaused met status.Done = Unit {0}
+IsCaused met (status.Usage cause) = Unit {0}
+IsCaused met (status.ReadFault (File file)) = HasRisen met.faults.old met.faults.new
+IsCaused met (status.ReadFault (Feed feed)) = HasRisen met.feeds.faults met.feeds_after.faults
+IsCaused met (status.WriteFault channel) = HasRisen met.channels.faults met.channels_after.faults
+IsCaused met (status.Refused refusal) = Unit {0}
+IsCaused met (status.Trapped inst action trap) = Unit {0}
+IsCaused met (status.Stalled inst action link) = Unit {0}
+IsCaused met (status.Budget firings) = Unit {0}
+IsCaused met status.OutOfMemory = Unit {0}
+IsCaused met (status.NotRun number why) = Unit {0}
+IsCaused met (status.Uncertified inst state first second reason) = Unit {0}
 
 -- the reports that come without a job too
 abbrev pub IsReportedPlainly : Status → (held_old held : List ℕ) → Type 0
@@ -78,3 +78,12 @@ IsReportedPlainly (status.Uncertified inst state first second reason) held_old h
 -- by what is known of the channels
 abbrev pub PlainReportIs : Status → (old new : Channels) → Type 0
 PlainReportIs answer old new = old.tells ≡ true → IsReportedPlainly answer (old.held 0) (new.held 0)
+
+-- ---- what any answer says
+
+-- The fault that it is was counted; if it is one after which the report alone was written, that was; and the reports that
+-- come without a job are exact.
+pub record SaysOfWorld (world : World) (answer : Status) : Type 0 where
+  pub caused : IsCaused world.met answer
+  pub alone : IsReportAlone answer → WritesOnlyAt 0 world.met.channels world.met.channels_after
+  pub plain : PlainReportIs answer world.met.channels world.met.channels_after

@@ -1,39 +1,9 @@
 //! The top call.
 
-ghost use Rattle.std.specs.Prelude.{◌≡◌, ◌≢◌, ℕ, true, false, List, Some, Ok, Err, IsOk};
-ghost use Rattle.rvc_base.specs.declared.refusal.Refusal.{Refusal as Denial};
-ghost use Rattle.rvc_io.specs.Channels.{WriteFails, WritesOnly};
-ghost use Rattle.rvc_io.specs.Count.{HasRisen};
-ghost use Rattle.rvc_io.specs.Elsewhere.{SameElsewhere};
-ghost use Rattle.rvc_words.specs.Words.{JobText, job, texts};
-ghost use Rattle.rvc_words.specs.declared.fault.UsageCause.{UsageCause};
-ghost use Rattle.rvc_words.specs.declared.job.Verb.TheVariants as verb;
-ghost use Rattle.cal_files.specs.Loading.{Counts, TellsAll};
-ghost use Rattle.cal_ast.specs.Tree.{Tree};
-ghost use Rattle.cal_model.specs.Selection.{State};
-ghost use Rattle.net_model.specs.Network.{Network};
-ghost use Rattle.cmd_network.specs.Conforming.{Conforms, ConformsWith, names_of_ports, no_ports};
-ghost use Rattle.network_check.specs.Top.{top_asked};
-ghost use Rattle.cmd_run_network.specs.Growth.{GrowTooFar};
-ghost use Rattle.cmd_network.specs.Commands.{RefusesJob, met_by};
-ghost use Rattle.cmd_certify.specs.Ends.{Comes as CertifyComes, IsDecided, IsUndecided};
-ghost use Rattle.cmd_check.specs.Ends.{Comes as CheckComes, IsDoneOrOutside};
-ghost use Rattle.law_determinate.specs.QuietRuns.{ComesDeterminate};
-ghost use Rattle.cmd_fmt.specs.Formatting.{HasFile, IsDoneOrMemory, IsPrinting, IsUnprinted, PrintsFile, library_met};
-ghost use Rattle.cmd_fmt.specs.Reports.{IsCutShort, ReportIs, about_file};
-ghost use Rattle.cmd_gen.specs.Asked.{ComesAsAsked as GenAsAsked};
-ghost use Rattle.cmd_gen.specs.Ends.{ComesFor as GenComesFor};
-ghost use Rattle.cmd_gen.specs.Jobs.{GeneratedConform, instances_of};
-ghost use Rattle.cmd_replay.specs.Asked.{ComesAsAsked as ReplayAsAsked};
-ghost use Rattle.cmd_replay.specs.Ends.{IsJudgedOrOutside, IsNoVerdict};
-ghost use Rattle.cmd_replay.specs.Replays.{ConformsToReplay, RefusesReplay};
-ghost use Rattle.cmd_run_network.specs.Names.{ChannelsOpened, FeedsOpened};
-ghost use Rattle.cmd_run.specs.Asked.{ComesAsAsked};
-ghost use Rattle.cmd_run.specs.Rounds.{ComesInFewRounds};
-ghost use Rattle.cmd_run.specs.Ends.{ComesFor, IsNoEnd};
-ghost use Rattle.rvc_top.specs.Generated.{GenComesDeterminate};
-ghost use Rattle.rvc_top.specs.Jobs.{IsAnsweredAlone, IsDoneBy, IsSettled};
-ghost use Rattle.rvc_top.specs.Status.{IsReportAlone, IsCaused, IsOfJob, PlainReportIs};
+ghost use Rattle.std.specs.Prelude.{◌≡◌, ◌≢◌, ℕ, true, false};
+ghost use Rattle.rvc_words.specs.Words.{texts};
+ghost use Rattle.rvc_top.specs.Promises.{KeepsPromises};
+ghost use Rattle.rvc_top.specs.World.{world};
 
 use crate::reporting::report;
 use crate::verbs::do_job;
@@ -109,141 +79,8 @@ pub fn rvc<R: Threads + Sync, L: Library, F: Feeds, D: Drains, G: Gate>(
     requires report_open { (D.channels drains.old).is_open 0 ≡ true }
     requires others_closed { (other : ℕ) → other ≢ 0
         → (D.channels drains.old).is_open other ≡ false }
-
-    // `run`.
-    ensures run { (j : JobText) → job (texts words.now) ≡ Ok j → j.verb ≡ verb.Run
-        → IsDoneBy (ComesAsAsked (FeedsOpened F.feeds F.past feeds.old feeds.new)
-        (ChannelsOpened D.channels D.past drains.old drains.new) (G.arrived gate.now)) j
-        (met_by L.file L.misses L.faults F.feeds D.channels
-        library.old library.new feeds.old feeds.new drains.old drains.new) result }
-    ensures determinate { (j : JobText) → job (texts words.now) ≡ Ok j → j.verb ≡ verb.Run
-        → IsDoneBy ComesDeterminate j (met_by L.file L.misses L.faults F.feeds D.channels
-        library.old library.new feeds.old feeds.new drains.old drains.new) result }
-    ensures few_rounds { (j : JobText) → job (texts words.now) ≡ Ok j → j.verb ≡ verb.Run
-        → IsDoneBy ComesInFewRounds j (met_by L.file L.misses L.faults F.feeds D.channels
-        library.old library.new feeds.old feeds.new drains.old drains.new) result }
-    ensures run_complete { (j : JobText) (net : Network State) → job (texts words.now) ≡ Ok j
-        → j.verb ≡ verb.Run → TellsAll (L.file library.old)
-        → Conforms (L.file library.old) (top_asked j.top) j.ports net
-        → IsDoneBy (ComesFor net) j (met_by L.file L.misses L.faults F.feeds D.channels
-        library.old library.new feeds.old feeds.new drains.old drains.new) result }
-    ensures run_incomplete { (j : JobText) (misses : Counts) (names : List (List ℕ))
-        (refusal : Denial) → job (texts words.now) ≡ Ok j → j.verb ≡ verb.Run
-        → TellsAll (L.file library.old)
-        → RefusesJob names_of_ports (L.file library.old) (top_asked j.top) j.ports misses names
-        refusal → IsNoEnd result }
-    ensures run_too_far { (j : JobText) (net : Network State) → job (texts words.now) ≡ Ok j
-        → j.verb ≡ verb.Run → TellsAll (L.file library.old)
-        → Conforms (L.file library.old) (top_asked j.top) j.ports net
-        → GrowTooFar net.links j.grow → IsNoEnd result }
-
-    // `check`.
-    ensures check { (j : JobText) → job (texts words.now) ≡ Ok j → j.verb ≡ verb.Check
-        → IsDoneBy CheckComes j (met_by L.file L.misses L.faults F.feeds D.channels
-        library.old library.new feeds.old feeds.new drains.old drains.new) result }
-    ensures check_complete { (j : JobText) (net : Network State) → job (texts words.now) ≡ Ok j
-        → j.verb ≡ verb.Check → TellsAll (L.file library.old)
-        → ConformsWith no_ports (L.file library.old) (top_asked j.top) j.ports net
-        → IsDoneOrOutside (D.channels drains.old) (D.channels drains.new) net result }
-    ensures check_incomplete { (j : JobText) (misses : Counts) (names : List (List ℕ))
-        (refusal : Denial) → job (texts words.now) ≡ Ok j → j.verb ≡ verb.Check
-        → TellsAll (L.file library.old)
-        → RefusesJob no_ports (L.file library.old) (top_asked j.top) j.ports misses names refusal
-        → result ≢ Status.Done }
-
-    // `certify`.
-    ensures certify { (j : JobText) → job (texts words.now) ≡ Ok j → j.verb ≡ verb.Certify
-        → IsDoneBy CertifyComes j (met_by L.file L.misses L.faults F.feeds D.channels
-        library.old library.new feeds.old feeds.new drains.old drains.new) result }
-    ensures certify_complete { (j : JobText) (net : Network State) → job (texts words.now) ≡ Ok j
-        → j.verb ≡ verb.Certify → TellsAll (L.file library.old)
-        → (conforms : ConformsWith no_ports (L.file library.old) (top_asked j.top) j.ports net)
-        → IsDecided conforms.means.means.actors result }
-    ensures certify_incomplete { (j : JobText) (misses : Counts) (names : List (List ℕ))
-        (refusal : Denial) → job (texts words.now) ≡ Ok j → j.verb ≡ verb.Certify
-        → TellsAll (L.file library.old)
-        → RefusesJob no_ports (L.file library.old) (top_asked j.top) j.ports misses names refusal
-        → IsUndecided result }
-
-    // `fmt`.
-    ensures formatted { (j : JobText) → job (texts words.now) ≡ Ok j → j.verb ≡ verb.Fmt
-        → result ≡ Status.Done
-        → PrintsFile (L.file library.old j.top) j.ports (D.channels drains.old)
-        (D.channels drains.new) }
-    ensures complete { (j : JobText) (tree : Tree) → job (texts words.now) ≡ Ok j
-        → j.verb ≡ verb.Fmt → HasFile (L.file library.old j.top) j.ports tree
-        → (HasRisen (L.faults library.old) (L.faults library.new) → ⊥)
-        → (WriteFails D.channels drains.old drains.new → ⊥) → IsDoneOrMemory result }
-    ensures format_refused { (j : JobText) (refusal : Denial) → job (texts words.now) ≡ Ok j
-        → j.verb ≡ verb.Fmt → result ≡ Status.Refused refusal
-        → IsUnprinted j.ports (L.file library.old j.top) (L.misses library.old)
-        (L.misses library.new) refusal }
-    ensures format_faults { (j : JobText) → job (texts words.now) ≡ Ok j → j.verb ≡ verb.Fmt
-        → IsPrinting (L.faults library.old) (L.faults library.new) (D.channels drains.old).faults
-        (D.channels drains.new).faults result }
-    ensures format_report { (j : JobText) → job (texts words.now) ≡ Ok j → j.verb ≡ verb.Fmt
-        → ReportIs (about_file j.top) result (D.channels drains.old) (D.channels drains.new) }
-    ensures format_cut { (j : JobText) → job (texts words.now) ≡ Ok j → j.verb ≡ verb.Fmt
-        → result ≡ Status.WriteFault 0
-        → IsCutShort (library_met L.file L.misses L.faults library.old library.new) j
-        (D.channels drains.old) (D.channels drains.new) }
-    ensures format_alone { (j : JobText) → job (texts words.now) ≡ Ok j → j.verb ≡ verb.Fmt
-        → WritesOnly D.channels drains.old drains.new 0 }
-    ensures format_opens_no_feed { (j : JobText) → job (texts words.now) ≡ Ok j
-        → j.verb ≡ verb.Fmt → feeds.new ≡ feeds.old }
-
-    // `replay`.
-    ensures replay { (j : JobText) → job (texts words.now) ≡ Ok j → j.verb ≡ verb.Replay
-        → IsDoneBy (ReplayAsAsked (FeedsOpened F.feeds F.past feeds.old feeds.new)) j
-        (met_by L.file L.misses L.faults F.feeds D.channels
-        library.old library.new feeds.old feeds.new drains.old drains.new) result }
-    ensures replay_complete { (j : JobText) (net : Network State) → job (texts words.now) ≡ Ok j
-        → j.verb ≡ verb.Replay → TellsAll (L.file library.old)
-        → ConformsToReplay (L.file library.old) (top_asked j.top) j.ports j.grow net
-        → IsSettled (λ cmd answer. IsJudgedOrOutside cmd net answer) j
-        (met_by L.file L.misses L.faults F.feeds D.channels
-        library.old library.new feeds.old feeds.new drains.old drains.new) result }
-    ensures replay_incomplete { (j : JobText) (misses : Counts) (names : List (List ℕ))
-        (refusal : Denial) → job (texts words.now) ≡ Ok j → j.verb ≡ verb.Replay
-        → TellsAll (L.file library.old)
-        → RefusesReplay (L.file library.old) (top_asked j.top) j.ports j.grow misses names refusal
-        → IsNoVerdict result }
-
-    // `gen`.
-    ensures generated { (j : JobText) → job (texts words.now) ≡ Ok j → j.verb ≡ verb.Gen
-        → IsDoneBy (GenAsAsked (ChannelsOpened D.channels D.past drains.old drains.new)
-        (G.arrived gate.now)) j (met_by L.file L.misses L.faults F.feeds D.channels
-        library.old library.new feeds.old feeds.new drains.old drains.new) result }
-    ensures gen_determinate { (j : JobText) → job (texts words.now) ≡ Ok j → j.verb ≡ verb.Gen
-        → IsDoneBy GenComesDeterminate j (met_by L.file L.misses L.faults F.feeds D.channels
-        library.old library.new feeds.old feeds.new drains.old drains.new) result }
-    ensures gen_complete { (j : JobText) (instances : ℕ) (net : Network State)
-        → job (texts words.now) ≡ Ok j → j.verb ≡ verb.Gen → instances_of j.top ≡ Some instances
-        → GeneratedConform instances j.ports net
-        → IsDoneBy (GenComesFor net) j (met_by L.file L.misses L.faults F.feeds D.channels
-        library.old library.new feeds.old feeds.new drains.old drains.new) result }
-    ensures gen_reads_no_file { (j : JobText) → job (texts words.now) ≡ Ok j → j.verb ≡ verb.Gen
-        → library.new ≡ library.old }
-    ensures gen_opens_no_feed { (j : JobText) → job (texts words.now) ≡ Ok j → j.verb ≡ verb.Gen
-        → feeds.new ≡ feeds.old }
-
-    // Other words.
-    ensures usage { (cause : UsageCause) → result ≡ Status.Usage cause
-        → job (texts words.now) ≡ Err cause }
-    ensures no_job { (cause : UsageCause) → job (texts words.now) ≡ Err cause
-        → IsAnsweredAlone (met_by L.file L.misses L.faults F.feeds D.channels
-        library.old library.new feeds.old feeds.new drains.old drains.new) (Status.Usage cause) result }
-    ensures planned { IsOfJob result → IsOk (job (texts words.now)) }
-
-    // Whatever the words are.
-    ensures faults { IsCaused (L.faults library.old) (L.faults library.new)
-        (F.feeds feeds.old).faults (F.feeds feeds.new).faults (D.channels drains.old).faults
-        (D.channels drains.new).faults result }
-    ensures plain_report { PlainReportIs result (D.channels drains.old) (D.channels drains.new) }
-    ensures nothing_else { IsReportAlone result → (D.channels drains.old).tells ≡ true
-        → SameElsewhere (D.channels drains.old).held (D.channels drains.new).held 0 }
-    ensures nothing_opened { IsReportAlone result → (other : ℕ)
-        → (D.channels drains.new).is_open other ≡ (D.channels drains.old).is_open other }
+    ensures { KeepsPromises (texts words.now) (world L.Library F.Feeds D.Drains G.Gate
+        library.old library.new feeds.old feeds.new drains.old drains.new gate.now) result }
 {
     match read_words(alloc, words) {
         Err(WordFault::Memory) => report(Status::OutOfMemory, drains),
