@@ -4,4 +4,6 @@ mod FileNames
 mod ScopeNames
 mod NetworkNames
 mod BoundNames
+mod Begun
+mod Refused
 mod Whole

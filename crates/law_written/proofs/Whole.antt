@@ -1,22 +1,26 @@
 -- The text of a run of a source network is of the table of the trace language.
-use Rattle.std.proofs.Common.{◌≡◌, ℕ, ◌<◌, ◌≤◌, List, [], ◌∷◌, ◌++◌, length, zero, suc, refl, sym, subst, arith}
+use Rattle.std.proofs.Common.{◌≡◌, ℕ, ◌<◌, ◌≤◌, List, [], ◌∷◌, ◌++◌, length, zero, suc, refl, sym, subst, ◌∙◌, arith, append_assoc}
 use Rattle.std.specs.Prelude.{Some, slice_get}
+use Rattle.std.specs.List.{concat}
 use Rattle.std.proofs.lemmas.Option.{slice_get_within}
 use Rattle.rvc_base.specs.Lawful.{IsLawful}
 use Rattle.trace_text.specs.declared.line.Line.TheVariants.{Inst}
+use Rattle.trace_text.specs.Laws.{EndsAtLineFeed, FrontIsNoLine, IsOneLine}
 use Rattle.trace_text.specs.Names.{IsClass, IsName, IsPath, slash}
 use Rattle.trace_text.specs.Spelling.{Spells}
 use Rattle.trace_text.specs.Table.{action_bound}
+use Rattle.trace_text.specs.Text.{line_text}
 use Rattle.cal_model.specs.Actor.{Actor}
 use Rattle.cal_model.specs.Laws.{BehaviourIsLawful}
 use Rattle.cal_model.specs.Selection.{State as ActorState}
 use Rattle.cal_model.specs.Sound.{Each, IsSound, max_actions}
 use Rattle.cal_check.specs.Sources.{SourcesAreSound}
 use Rattle.cal_imports.specs.Sources.{Source}
-use Rattle.net_model.specs.Limits.{max_instances, max_links}
+use Rattle.net_model.specs.Laws.{LinesKeepSent}
+use Rattle.net_model.specs.Limits.{max_grow, max_instances, max_links}
 use Rattle.net_model.specs.Network.{Leaf as NetLeaf, Network}
 use Rattle.net_model.specs.State.{start_of}
-use Rattle.net_model.specs.Trace.{text}
+use Rattle.net_model.specs.Trace.{instance_lines, text}
 use Rattle.fnl_tree.specs.Tree.{Leaf, Tree}
 use Rattle.fnl_flatten.specs.Flat.{FlatAreWired}
 use Rattle.law_sources.specs.Names.{AreSpelled, NetworkFilesAreSpelled}
@@ -27,9 +31,12 @@ use Rattle.fnl_source.specs.Files.{Asked, Content, Says, files_of, networks_from
 use Rattle.fnl_source.specs.Library.{IsLibraryNetwork}
 use Rattle.fnl_source.specs.Source.{AreActors, Files, IsLeaf, IsTree, of_actor, of_network}
 use Rattle.cal_files.specs.Loading.{Library}
-use Rattle.trace_replay.specs.Judging.{instance_text}
+use Rattle.trace_replay.specs.Judging.{AtFirst, IsNotRun, first_line, instance_text, max_trace_bytes}
 use Rattle.trace_replay.specs.Laws.{NoTraceIsNotRun}
+use Rattle.law_written.specs.Refused.{BeginsRun, RefusedAreOfNoRun}
 use Rattle.law_written.specs.Written.{WrittenAreNotRefused, WrittenAreTraces, trial_of}
+use Rattle.law_written.proofs.Begun.{Begun, Leading, lead_lines, lines_begin, lines_lead, start_fits}
+use Rattle.law_written.proofs.Refused.{goes_on}
 use Rattle.law_written.proofs.BoundNames.{AreNamedEntries, AreNamedLeaves, IsNamedLeaf, bound_are_named}
 use Rattle.law_written.proofs.Events.{IsSmall, events_are_written}
 use Rattle.law_written.proofs.NameBytes.{one_joined}
@@ -153,3 +160,37 @@ written_are_not_refused laws wired none library top net grow inputs lines end la
     none (trial_of net grow inputs) (text net grow lines) lines end last number why
     (wired means.means.tree _ net means.means.flat) (library_network_small laws library top net means).lawful short
     (written_are_traces laws library top net grow inputs lines end last means within run) refused
+
+-- ---- what is refused
+
+-- what a run over these inputs writes leads on, over or not
+run_leads : Laws → (library : Library) (top : Asked) (net : Network ActorState) (grow : ℕ) (inputs : List (List ℕ)) (bytes : List ℕ) → IsLibraryNetwork library top net → grow ≤ max_grow
+    → (run : BeginsRun net grow inputs bytes) → Leading (trial_of net grow inputs) AtFirst (text net grow run.lines)
+run_leads laws library top net grow inputs bytes means within run =
+    let fit = fit_leaves laws library top net means in
+    let small = library_network_small laws library top net means in
+    let leaves : length net.leaves ≤ max_instances = means.means.flat.few in
+    let links : length net.links ≤ max_links = means.means.flat.links.few in
+    lines_lead (trial_of net grow inputs) run.lines run.last (omega arith, omega arith, omega arith) (instance_spelled net leaves fit)
+    (events_are_written net grow (start_of net inputs) run.lines run.last small within run.plays) run.plays run.keeps
+
+pub refused_are_of_no_run : Laws → FlatAreWired ActorState → WrittenAreNotRefused → FrontIsNoLine → IsOneLine → EndsAtLineFeed → LinesKeepSent ActorState → RefusedAreOfNoRun
+refused_are_of_no_run laws wired written front one ends grows library top net grow inputs trace number why means within refused =
+    let begun : Begun (trial_of net grow inputs) (line_text (first_line (trial_of net grow inputs)) ++ instance_lines 0 net.leaves) (concat refused.texts) =
+    lines_begin (trial_of net grow inputs) refused.reached refused.texts (start_fits net.ins inputs net.links) refused.lead in
+    record {
+      before = refused.texts;
+      rest = refused.rest;
+      is_text = refused.is_text;
+      are_lines = lead_lines (trial_of net grow inputs) AtFirst refused.reached refused.texts refused.lead;
+      number_is = refused.number;
+      begins = record { lines = begun.lines; last = begun.last; plays = begun.plays; keeps = begun.keeps; more = begun.more; is_text = begun.is_text };
+      goes_on_not = λ this more is_rest is_line run.
+          let leading : Leading (trial_of net grow inputs) AtFirst (text net grow run.lines) = run_leads laws library top net grow inputs _ means within run in
+          goes_on front one ends (trial_of net grow inputs) AtFirst refused.reached leading.lead.0 refused.texts leading.texts this more refused.rest run.more is_line.0 refused.longer why
+          grows (wired means.means.tree _ net means.means.flat) (library_network_small laws library top net means).lawful tt refused.lead leading.lead.1
+          (leading.is_text ∙ run.is_text ∙ append_assoc (concat refused.texts) this run.more) is_rest is_line.1 refused.fails;
+      is_no_run = λ short run. written library top net grow inputs run.lines run.end run.last number why means within run.run
+          (subst (λ bytes. length bytes ≤ max_trace_bytes) run.is_text short)
+          (subst (λ bytes. IsNotRun (trial_of net grow inputs) bytes number why) run.is_text refused);
+    }

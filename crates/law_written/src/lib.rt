@@ -14,4 +14,4 @@
 
 mod laws;
 
-pub use laws::written_texts_are_traces;
+pub use laws::{refused_texts_are_of_no_run, written_texts_are_traces};

@@ -39,7 +39,7 @@ pub returns-in-Err-Usage : goal.returns-in-Err-Usage
 returns-in-Err-Usage g c =
     let lent : World = world g.L.Library g.F.Feeds g.D.Drains g.G.Gate c.args.library.now c.args.library.now c.args.feeds.now c.args.feeds.now
         c.args.drains.now c.report.new.drains c.args.gate.now in
-    let none : job (texts c.args.words.now) ≡ Err c.in-Err-Usage.cause = c.in-Err-Usage.ensures.usage c.in-Err-Usage.cause refl in
+    let none : job (texts c.args.words.now) ≡ Err c.in-Err-Usage.cause = c.read_words.ensures.usage c.in-Err-Usage.cause (c.in-Err-Usage.is ∙ ap Err c.in-Err-Usage.field-0-is) in
     record {
       job_done = λ j is. absurd (not_both j c.in-Err-Usage.cause (job (texts c.args.words.now)) is none);
       no_job = λ cause is. inl (record {
