@@ -10,6 +10,10 @@
 //! grows no further than to the limit. The names are names since files say what their bytes spell: in a network the
 //! ids of instances are names and their classes names with dots between, and an actor alone has the name and the
 //! class that its file declares.
+//!
+//! So what a replay refuses is the trace of no run, whether its lines are of the table or not
+//! ([`refused_texts_are_of_no_run`], `specs/Refused.antt`): up to the line that it names the text is that of a run, and
+//! not beyond it.
 #![tactic(auto)]
 
 mod laws;

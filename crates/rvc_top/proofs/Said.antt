@@ -10,6 +10,7 @@ use Rattle.cmd_network.specs.Commands.{Command, command}
 use Rattle.cmd_certify.specs.Ends as certify
 use Rattle.cmd_check.specs.Ends as check
 use Rattle.law_determinate.specs.QuietRuns.{ComesDeterminate, RunsTellQuietRuns}
+use Rattle.law_replayed.specs.NoRun.{ComesToNoRun, NoRunsAreTold}
 use Rattle.cmd_gen.specs.Ends as gen
 use Rattle.cmd_replay.specs.Ends as replay
 use Rattle.cmd_run.specs.Ends as run
@@ -192,6 +193,11 @@ module _ (cmd : Command) where
   pub run_rounds : RunsMakeFewRounds → (answer : Status) → IsAnswered run.Comes cmd answer → IsAnswered ComesInFewRounds cmd answer
   run_rounds law _ (is_reported lines about comes put) = is_reported lines about (comes, law cmd lines about) put
   run_rounds law _ (is_unreported said lines about comes put risen) = is_unreported said lines about (comes, law cmd lines about) put risen
+
+  -- what was answered of a trace tells of no run, if it is that of none
+  pub replay_tells : ((about : About) → NoRunsAreTold cmd about) → (answer : Status) → IsAnswered replay.Comes cmd answer → IsAnswered ComesToNoRun cmd answer
+  replay_tells law _ (is_reported lines about comes put) = is_reported lines about (comes, law about) put
+  replay_tells law _ (is_unreported said lines about comes put risen) = is_unreported said lines about (comes, law about) put risen
 
   -- what was answered tells of quiet runs of the generated network
   pub gen_tells : RunsTellQuietRuns → (answer : Status) → IsAnswered gen.Comes cmd answer → IsAnswered GenComesDeterminate cmd answer

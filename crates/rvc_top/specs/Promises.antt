@@ -31,6 +31,7 @@ use Rattle.cmd_gen.specs.Jobs.{GeneratedConform, instances_of}
 use Rattle.cmd_replay.specs.Asked as replay_asked
 use Rattle.cmd_replay.specs.Ends.{IsJudgedOrOutside, IsNoVerdict}
 use Rattle.law_determinate.specs.QuietRuns.{ComesDeterminate}
+use Rattle.law_replayed.specs.NoRun.{ComesToNoRun}
 use Rattle.rvc_top.specs.Generated.{GenComesDeterminate}
 use Rattle.rvc_top.specs.Jobs.{IsAnsweredAlone, LacksMemory, OfJob}
 use Rattle.rvc_top.specs.Status.{IsOfJob, SaysOfWorld}
@@ -84,6 +85,9 @@ pub record ReplayPromise (world : World) (cmd : Command) (answer : Status) : Typ
   -- `Done` if the trace is the text of a run of the network that the files mean, over the bytes of the feeds; `NotRun` at the
   -- first line that isn't; no channel is opened, and feeds are under the names of the trace and of the inputs' words
   pub replay : IsAnswered (replay_asked.ComesAsAsked world.feeds_are) cmd answer
+  -- after `NotRun` the lines before that one are lines of a run which keeps its capacities, and with it they aren't; and no
+  -- run wrote the trace
+  pub no_run : IsAnswered ComesToNoRun cmd answer
   -- what conforms is judged so, unless memory runs out, or reading or writing fails; what is refused never is
   pub complete : (net : Network State) → IsToldToReplay cmd net
       → IsJudgedOrOutside cmd net answer

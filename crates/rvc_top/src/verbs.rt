@@ -16,6 +16,7 @@ use cmd_replay::replay_job;
 use cmd_report::Status;
 use cmd_run::{run_job, runs_make_few_rounds};
 use law_determinate::runs_tell_quiet_runs;
+use law_replayed::refused_traces_are_of_no_run;
 use rvc_io::{Drains, Feeds, Gate, Library};
 use rvc_words::{Job, Verb};
 use std::alloc::Global;
@@ -44,6 +45,7 @@ pub(crate) fn do_job<R: Threads + Sync, L: Library, F: Feeds, D: Drains, G: Gate
 {
     runs_tell_quiet_runs();
     runs_make_few_rounds();
+    refused_traces_are_of_no_run();
     match job.verb {
         Verb::Run => run_job(rt, alloc, job, library, feeds, drains, gate),
         Verb::Check => check_job(alloc, job, library, drains),

@@ -5,7 +5,7 @@ use Rattle.cmd_report.specs.declared.status.Status.{Status}
 use Rattle.rvc_top.specs.Promises.{FmtPromise}
 use Rattle.rvc_top.specs.World.{World, world}
 use Rattle.rvc_top.proofs.Kept.{fmt_no_usage, fmt_says, kept}
-use Rattle.rvc_top.proofs.Said.{certify_no_usage, certify_said, check_no_usage, check_said, gen_no_usage, gen_said, gen_tells, replay_no_usage, replay_said, run_no_usage, run_rounds, run_said, run_tells}
+use Rattle.rvc_top.proofs.Said.{certify_no_usage, certify_said, check_no_usage, check_said, gen_no_usage, gen_said, gen_tells, replay_no_usage, replay_said, replay_tells, run_no_usage, run_rounds, run_said, run_tells}
 use Rattle.rvc_top.proofs.verbs.do_job.Goals as goal
 
 pub returns-in-Run-clause-job_done : goal.returns-in-Run-clause-job_done
@@ -83,6 +83,8 @@ returns-in-Replay-clause-job_done g c =
         c.args.drains.now c.replay_job.new.drains c.args.gate.now in
     kept verb.Replay lent c.args.job.now c.replay_job.result c.in-Replay.is (record {
       replay = c.replay_job.ensures.as_asked;
+      no_run = replay_tells _ (λ about. c.refused_traces_are_of_no_run.ensures (command lent.met c.args.job.now) about c.requires.within.grow_most)
+          c.replay_job.result c.replay_job.ensures.answered;
       complete = λ net told. c.replay_job.ensures.complete net told.tells told.conforms;
       incomplete = λ told. c.replay_job.ensures.incomplete told.misses told.names told.refusal told.tells told.refuses;
     })
