@@ -7,8 +7,8 @@
 //! [`replay_job`](cmd_replay::replay_job), `gen` to [`gen_job`](cmd_gen::gen_job), and `fmt` to
 //! [`format_job`](cmd_fmt::format_job).
 //!
-//! `specs/Jobs.antt` says what it means that the job of the words is done, `specs/Status.antt` what each status says of
-//! the outside.
+//! `specs/Promises.antt` says what is promised, a record for each verb, and `specs/World.antt` of what: what a call is lent,
+//! before it and after it. `specs/Status.antt` says what each status says of the outside.
 #![tactic(auto)]
 
 mod reporting;
