@@ -1,5 +1,5 @@
 -- Lines that lead on begin the text of a run, and a run's lines lead on.
-use Rattle.std.proofs.Common.{◌≡◌, ℕ, suc, ◌+◌, ◌≤◌, Bool, true, false, List, [], ◌∷◌, ◌++◌, map, refl, sym, ap, subst, ◌∙◌, arith, append_assoc, append-nil}
+use Rattle.std.proofs.Common.{◌≡◌, ℕ, suc, ◌+◌, Bool, true, false, List, [], ◌∷◌, ◌++◌, map, refl, sym, ap, subst, ◌∙◌, arith, append_assoc, append-nil}
 use Rattle.std.specs.Prelude.{Option, None, Some, slice_get, flat_map}
 use Rattle.std.specs.List.{concat}
 use Rattle.trace_text.specs.declared.line.Line.{Line}
@@ -12,9 +12,9 @@ use Rattle.net_model.specs.declared.wiring.Link.{Link}
 use Rattle.net_model.specs.Network.{Leaf, NetPort, Network}
 use Rattle.net_model.specs.State.{State, first_flow}
 use Rattle.net_model.specs.Trace.{goes, LineIsTrue, OnNext, PlaysFrom, FitFlows, TrapFits, opened_by, KeepsFrom, KeepsSince, instance_lines, text as trace_text}
-use Rattle.trace_replay.specs.Judging.{Trial, Reached, AtFirst, AtInstance, AtEvents, AtEnd, first_line, instance_text, due, is_end, after_line, MayCome, Lead, LeadsOn}
+use Rattle.trace_replay.specs.Judging.{Trial, Reached, AtFirst, AtEvents, AtEnd, first_line, instance_text, due, is_end, after_line, MayCome, Lead}
 use Rattle.trace_replay.specs.Laws.{StartFits}
-use Rattle.trace_replay.proofs.Traces.{after_end, after_event, next_is, next_of, written_text}
+use Rattle.trace_replay.proofs.Traces.{after_end, after_event, next_is, written_text}
 use Rattle.law_written.specs.Refused.{IsLine}
 
 by_bool : (P : Type 0) (b : Bool) → (b ≡ true → P) → (b ≡ false → P) → P

@@ -4,7 +4,7 @@ use Rattle.rvc_words.specs.declared.fault.UsageCause.{UsageCause}
 use Rattle.cmd_fmt.specs.Reports.{Reports}
 use Rattle.cmd_report.specs.Report.{last_line}
 use Rattle.cmd_report.specs.declared.status.Status.{Status}
-use Rattle.cmd_report.specs.declared.status.Status.TheVariants.{OutOfMemory, Usage, WriteFault}
+use Rattle.cmd_report.specs.declared.status.Status.TheVariants.{OutOfMemory, Usage}
 use Rattle.rvc_top.specs.Jobs.{about_words}
 use Rattle.rvc_top.specs.Status.{IsCaused, IsOfJob, IsReportedPlainly, SaysOfWorld}
 use Rattle.rvc_top.specs.World.{World}

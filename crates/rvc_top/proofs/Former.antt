@@ -40,7 +40,6 @@ use Rattle.rvc_top.specs.Generated.{GenComesDeterminate}
 use Rattle.rvc_top.specs.Jobs.{IsAnsweredAlone, LacksMemory, OfJob}
 use Rattle.rvc_top.specs.Promises.{KeepsPromises, PromiseOf}
 use Rattle.rvc_top.specs.Status.{IsCaused, IsOfJob, IsReportAlone, PlainReportIs}
-use Rattle.rvc_top.specs.Tellings.{source_met}
 use Rattle.rvc_top.specs.World.{World}
 
 module _ (words : List (List ℕ)) (world : World) (answer : Status) (kept : KeepsPromises words world answer) where

@@ -1,6 +1,6 @@
 -- What is done for the job that words are, and what is reported of words that aren't a job.
 -- Trusted: part of what a promise means.
-use Rattle.std.specs.Prelude.{◌≡◌, ◌⊎◌, ℕ, List, []}
+use Rattle.std.specs.Prelude.{◌≡◌, ◌⊎◌, []}
 use Rattle.rvc_words.specs.Words.{JobText, job_text}
 use Rattle.rvc_words.specs.declared.job.Job.{Job}
 use Rattle.cmd_fmt.specs.Reports.{Reports}

@@ -1,6 +1,6 @@
 -- What each verb promises of its command, by what the call is lent and by its answer; and what `rvc` promises of its words.
 -- Trusted: part of what a promise means.
-use Rattle.std.specs.Prelude.{◌≡◌, ◌≢◌, ◌⊎◌, ℕ, List, Result, Ok, Err, IsOk, Some, string_bytes}
+use Rattle.std.specs.Prelude.{◌≡◌, ◌≢◌, ◌⊎◌, ℕ, List, Ok, Err, IsOk, Some, string_bytes}
 use Rattle.rvc_base.specs.declared.refusal.Refusal.{Refusal}
 use Rattle.rvc_io.specs.Channels.{WritesOnlyAt}
 use Rattle.rvc_io.specs.Count.{HasRisen}

@@ -1,7 +1,6 @@
 use Rattle.std.proofs.Common.{refl}
 use Rattle.rvc_words.specs.declared.job.Verb.TheVariants as verb
 use Rattle.cmd_network.specs.Commands.{command}
-use Rattle.cmd_report.specs.declared.status.Status.{Status}
 use Rattle.rvc_top.specs.Promises.{FmtPromise}
 use Rattle.rvc_top.specs.World.{World, world}
 use Rattle.rvc_top.proofs.Kept.{fmt_no_usage, fmt_says, kept}
