@@ -19,7 +19,7 @@ returns-in-Ok g c = record {
   });
   no_job = λ cause is. absurd (not_both (job_text c.in-Ok.job) cause (job (texts c.args.words.now)) c.in-Ok.ensures.read is);
   usage = λ cause answered. absurd (c.do_job.ensures.no_usage cause answered);
-  of_job = λ of. subst IsOk (sym c.in-Ok.ensures.read) tt;
+  of_job = λ of. subst IsOk (sym c.in-Ok.ensures.read) refl;
   says = c.do_job.ensures.says;
 }
 
@@ -38,20 +38,20 @@ returns-in-Err-Memory g c =
 pub returns-in-Err-Usage : goal.returns-in-Err-Usage
 returns-in-Err-Usage g c =
     let lent : World = world g.L.Library g.F.Feeds g.D.Drains g.G.Gate c.args.library.now c.args.library.now c.args.feeds.now c.args.feeds.now
-        c.args.drains.now c.report.new.drains c.args.gate.now in
+        c.args.drains.now c.report-in-Err-Usage.new.drains c.args.gate.now in
     let none : job (texts c.args.words.now) ≡ Err c.in-Err-Usage.cause = c.read_words.ensures.usage c.in-Err-Usage.cause (c.in-Err-Usage.is ∙ ap Err c.in-Err-Usage.field-0-is) in
     record {
       job_done = λ j is. absurd (not_both j c.in-Err-Usage.cause (job (texts c.args.words.now)) is none);
       no_job = λ cause is. inl (record {
-        reported = subst (λ x. Reports (Usage x) (last_line about_words (Usage x)) lent.met.channels lent.met.channels_after c.report.result)
-            (one_cause c.in-Err-Usage.cause cause (job (texts c.args.words.now)) none is) c.report.ensures;
+        reported = subst (λ x. Reports (Usage x) (last_line about_words (Usage x)) lent.met.channels lent.met.channels_after c.report-in-Err-Usage.result)
+            (one_cause c.in-Err-Usage.cause cause (job (texts c.args.words.now)) none is) c.report-in-Err-Usage.ensures;
         nothing_opened = refl;
         same_feeds = refl;
         same_library = refl;
       });
-      usage = λ cause answered. none ∙ ap Err (same_usage lent c.in-Err-Usage.cause cause c.report.result c.report.ensures answered);
-      of_job = λ of. absurd (usage_no_job lent c.in-Err-Usage.cause c.report.result c.report.ensures of);
-      says = usage_says lent c.in-Err-Usage.cause c.report.result c.report.ensures;
+      usage = λ cause answered. none ∙ ap Err (same_usage lent c.in-Err-Usage.cause cause c.report-in-Err-Usage.result c.report-in-Err-Usage.ensures answered);
+      of_job = λ of. absurd (usage_no_job lent c.in-Err-Usage.cause c.report-in-Err-Usage.result c.report-in-Err-Usage.ensures of);
+      says = usage_says lent c.in-Err-Usage.cause c.report-in-Err-Usage.result c.report-in-Err-Usage.ensures;
     }
 
 pub do_job-requires-clause-number : goal.do_job-requires-clause-number

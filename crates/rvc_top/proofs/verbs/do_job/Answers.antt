@@ -13,8 +13,8 @@ returns-in-Run-clause-job_done g c =
         c.args.drains.now c.run_job.new.drains c.args.gate.now in
     kept verb.Run lent c.args.job.now c.run_job.result c.in-Run.is (record {
       run = c.run_job.ensures.as_asked;
-      determinate = run_tells _ c.runs_tell_quiet_runs.ensures c.run_job.result c.run_job.ensures.answered;
-      few_rounds = run_rounds _ c.runs_make_few_rounds.ensures c.run_job.result c.run_job.ensures.answered;
+      determinate = run_tells (command lent.met c.args.job.now) c.runs_tell_quiet_runs.ensures c.run_job.result c.run_job.ensures.answered;
+      few_rounds = run_rounds (command lent.met c.args.job.now) c.runs_make_few_rounds.ensures c.run_job.result c.run_job.ensures.answered;
       complete = λ net told. c.run_job.ensures.complete net told.tells told.conforms;
       incomplete = λ told. c.run_job.ensures.incomplete told.misses told.names told.refusal told.tells told.refuses;
       too_far = λ net told far. c.run_job.ensures.too_far net told.tells told.conforms far;
@@ -82,7 +82,7 @@ returns-in-Replay-clause-job_done g c =
         c.args.drains.now c.replay_job.new.drains c.args.gate.now in
     kept verb.Replay lent c.args.job.now c.replay_job.result c.in-Replay.is (record {
       replay = c.replay_job.ensures.as_asked;
-      no_run = replay_tells _ (λ about. c.refused_traces_are_of_no_run.ensures (command lent.met c.args.job.now) about c.requires.within.grow_most)
+      no_run = replay_tells (command lent.met c.args.job.now) (λ about. c.refused_traces_are_of_no_run.ensures (command lent.met c.args.job.now) about c.requires.within.grow_most)
           c.replay_job.result c.replay_job.ensures.answered;
       complete = λ net told. c.replay_job.ensures.complete net told.tells told.conforms;
       incomplete = λ told. c.replay_job.ensures.incomplete told.misses told.names told.refusal told.tells told.refuses;
@@ -106,7 +106,7 @@ returns-in-Gen-clause-job_done g c =
         c.args.drains.now c.gen_job.new.drains c.args.gate.now in
     kept verb.Gen lent c.args.job.now c.gen_job.result c.in-Gen.is (record {
       gen = c.gen_job.ensures.as_asked lent.met.library lent.met.misses lent.met.faults lent.met.feeds;
-      determinate = gen_tells _ c.runs_tell_quiet_runs.ensures c.gen_job.result
+      determinate = gen_tells (command lent.met c.args.job.now) c.runs_tell_quiet_runs.ensures c.gen_job.result
           (c.gen_job.ensures.answered lent.met.library lent.met.misses lent.met.faults lent.met.feeds);
       complete = c.gen_job.ensures.complete lent.met.library lent.met.misses lent.met.faults lent.met.feeds;
       reads_no_file = refl;
