@@ -49,3 +49,10 @@ pub same_usage : (world : World) (cause other : UsageCause) (answer : Status)
     → Reports (Usage cause) (last_line about_words (Usage cause)) world.met.channels world.met.channels_after answer → answer ≡ Usage other → cause ≡ other
 same_usage world cause other answer (inl done) e = let is = done.0 in cc
 same_usage world cause other answer (inr failed) e = let is = failed.0 in cc
+
+-- the cause that was reported, by another term for it
+pub usage_reports : (world : World) (cause told : UsageCause) (answer : Status) → cause ≡ told
+    → Reports (Usage told) (last_line about_words (Usage told)) world.met.channels world.met.channels_after answer
+    → Reports (Usage cause) (last_line about_words (Usage cause)) world.met.channels world.met.channels_after answer
+usage_reports world cause told answer same reported =
+    subst (λ c. Reports (Usage c) (last_line about_words (Usage c)) world.met.channels world.met.channels_after answer) (sym same) reported
