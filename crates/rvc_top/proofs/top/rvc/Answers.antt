@@ -40,20 +40,20 @@ returns-in-Err-Usage g c =
     let lent : World = world g.L.Library g.F.Feeds g.D.Drains g.G.Gate c.args.library.now c.args.library.now c.args.feeds.now c.args.feeds.now
         c.args.drains.now c.report-in-Err-Usage.new.drains c.args.gate.now in
     let none : job (texts c.args.words.now) ≡ Err c.in-Err-Usage.cause = c.read_words.ensures.usage c.in-Err-Usage.cause (c.in-Err-Usage.is ∙ ap Err c.in-Err-Usage.field-0-is) in
-    let reported : Reports (Usage c.in-Err-Usage.cause) (last_line about_words (Usage c.in-Err-Usage.cause)) lent.met.channels lent.met.channels_after c.report-in-Err-Usage.result =
+    let told : Reports (Usage c.in-Err-Usage.cause) (last_line about_words (Usage c.in-Err-Usage.cause)) lent.met.channels lent.met.channels_after c.report-in-Err-Usage.result =
     usage_reports lent c.in-Err-Usage.cause _ c.report-in-Err-Usage.result c.in-Err-Usage.cause-is c.report-in-Err-Usage.ensures in
     record {
       job_done = λ j is. absurd (not_both j c.in-Err-Usage.cause (job (texts c.args.words.now)) is none);
       no_job = λ cause is. inl (record {
         reported = subst (λ x. Reports (Usage x) (last_line about_words (Usage x)) lent.met.channels lent.met.channels_after c.report-in-Err-Usage.result)
-            (one_cause c.in-Err-Usage.cause cause (job (texts c.args.words.now)) none is) reported;
+            (one_cause c.in-Err-Usage.cause cause (job (texts c.args.words.now)) none is) told;
         nothing_opened = refl;
         same_feeds = refl;
         same_library = refl;
       });
-      usage = λ cause answered. none ∙ ap Err (same_usage lent c.in-Err-Usage.cause cause c.report-in-Err-Usage.result reported answered);
-      of_job = λ of. absurd (usage_no_job lent c.in-Err-Usage.cause c.report-in-Err-Usage.result reported of);
-      says = usage_says lent c.in-Err-Usage.cause c.report-in-Err-Usage.result reported;
+      usage = λ cause answered. none ∙ ap Err (same_usage lent c.in-Err-Usage.cause cause c.report-in-Err-Usage.result told answered);
+      of_job = λ of. absurd (usage_no_job lent c.in-Err-Usage.cause c.report-in-Err-Usage.result told of);
+      says = usage_says lent c.in-Err-Usage.cause c.report-in-Err-Usage.result told;
     }
 
 pub do_job-requires-clause-number : goal.do_job-requires-clause-number
