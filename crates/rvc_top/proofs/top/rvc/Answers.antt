@@ -41,7 +41,7 @@ returns-in-Err-Usage g c =
         c.args.drains.now c.report-in-Err-Usage.new.drains c.args.gate.now in
     let none : job (texts c.args.words.now) ≡ Err c.in-Err-Usage.cause = c.read_words.ensures.usage c.in-Err-Usage.cause (c.in-Err-Usage.is ∙ ap Err c.in-Err-Usage.field-0-is) in
     let told : Reports (Usage c.in-Err-Usage.cause) (last_line about_words (Usage c.in-Err-Usage.cause)) lent.met.channels lent.met.channels_after c.report-in-Err-Usage.result =
-    usage_reports lent c.in-Err-Usage.cause _ c.report-in-Err-Usage.result c.in-Err-Usage.cause-is c.report-in-Err-Usage.ensures in
+    usage_reports lent c.in-Err-Usage.cause _ c.report-in-Err-Usage.result (sym c.in-Err-Usage.cause-is) c.report-in-Err-Usage.ensures in
     record {
       job_done = λ j is. absurd (not_both j c.in-Err-Usage.cause (job (texts c.args.words.now)) is none);
       no_job = λ cause is. inl (record {
