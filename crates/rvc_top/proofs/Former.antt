@@ -87,8 +87,13 @@ module _ (words : List (List ℕ)) (world : World) (answer : Status) (kept : Kee
   run_incomplete : (j : JobText) (misses : Counts) (names : List (List ℕ)) (refusal : Denial) → job words ≡ Ok j → j.verb ≡ verb.Run → TellsAll world.met.library
       → RefusesJob names_of_ports world.met.library (top_asked j.top) j.ports misses names refusal → IsNoEnd answer
   run_incomplete j misses names refusal is of_verb tells refuses = decided verb.Run IsNoEnd tt tt j is of_verb
-      (λ read says p. p.incomplete (record { tells = tells; misses = misses; names = names; refusal = refusal;
-      refuses = subst (λ x. RefusesJob names_of_ports world.met.library (top_asked x.top) x.ports misses names refusal) (sym says) refuses }))
+      (λ read says p. p.incomplete (record {
+        tells = tells;
+        misses = misses;
+        names = names;
+        refusal = refusal;
+        refuses = subst (λ x. RefusesJob names_of_ports world.met.library (top_asked x.top) x.ports misses names refusal) (sym says) refuses;
+      }))
 
   run_too_far : (j : JobText) (net : Network State) → job words ≡ Ok j → j.verb ≡ verb.Run → TellsAll world.met.library
       → Conforms world.met.library (top_asked j.top) j.ports net → GrowTooFar net.links j.grow → IsNoEnd answer
@@ -109,8 +114,13 @@ module _ (words : List (List ℕ)) (world : World) (answer : Status) (kept : Kee
   check_incomplete : (j : JobText) (misses : Counts) (names : List (List ℕ)) (refusal : Denial) → job words ≡ Ok j → j.verb ≡ verb.Check → TellsAll world.met.library
       → RefusesJob no_ports world.met.library (top_asked j.top) j.ports misses names refusal → answer ≢ status.Done
   check_incomplete j misses names refusal is of_verb tells refuses = decided verb.Check (λ x. x ≢ status.Done) memory_not fault_not j is of_verb
-      (λ read says p. p.incomplete (record { tells = tells; misses = misses; names = names; refusal = refusal;
-      refuses = subst (λ x. RefusesJob no_ports world.met.library (top_asked x.top) x.ports misses names refusal) (sym says) refuses }))
+      (λ read says p. p.incomplete (record {
+        tells = tells;
+        misses = misses;
+        names = names;
+        refusal = refusal;
+        refuses = subst (λ x. RefusesJob no_ports world.met.library (top_asked x.top) x.ports misses names refusal) (sym says) refuses;
+      }))
     where
       memory_not : status.OutOfMemory ≡ status.Done → ⊥
       memory_not e = cc
@@ -132,8 +142,13 @@ module _ (words : List (List ℕ)) (world : World) (answer : Status) (kept : Kee
   certify_incomplete : (j : JobText) (misses : Counts) (names : List (List ℕ)) (refusal : Denial) → job words ≡ Ok j → j.verb ≡ verb.Certify → TellsAll world.met.library
       → RefusesJob no_ports world.met.library (top_asked j.top) j.ports misses names refusal → certify.IsUndecided answer
   certify_incomplete j misses names refusal is of_verb tells refuses = decided verb.Certify certify.IsUndecided tt tt j is of_verb
-      (λ read says p. p.incomplete (record { tells = tells; misses = misses; names = names; refusal = refusal;
-      refuses = subst (λ x. RefusesJob no_ports world.met.library (top_asked x.top) x.ports misses names refusal) (sym says) refuses }))
+      (λ read says p. p.incomplete (record {
+        tells = tells;
+        misses = misses;
+        names = names;
+        refusal = refusal;
+        refuses = subst (λ x. RefusesJob no_ports world.met.library (top_asked x.top) x.ports misses names refusal) (sym says) refuses;
+      }))
 
   -- ---- `fmt`
 
@@ -216,8 +231,13 @@ module _ (words : List (List ℕ)) (world : World) (answer : Status) (kept : Kee
   replay_incomplete : (j : JobText) (misses : Counts) (names : List (List ℕ)) (refusal : Denial) → job words ≡ Ok j → j.verb ≡ verb.Replay → TellsAll world.met.library
       → RefusesReplay world.met.library (top_asked j.top) j.ports j.grow misses names refusal → IsNoVerdict answer
   replay_incomplete j misses names refusal is of_verb tells refuses = decided verb.Replay IsNoVerdict tt tt j is of_verb
-      (λ read says p. p.incomplete (record { tells = tells; misses = misses; names = names; refusal = refusal;
-      refuses = subst (λ x. RefusesReplay world.met.library (top_asked x.top) x.ports x.grow misses names refusal) (sym says) refuses }))
+      (λ read says p. p.incomplete (record {
+        tells = tells;
+        misses = misses;
+        names = names;
+        refusal = refusal;
+        refuses = subst (λ x. RefusesReplay world.met.library (top_asked x.top) x.ports x.grow misses names refusal) (sym says) refuses;
+      }))
 
   generated : (j : JobText) → job words ≡ Ok j → j.verb ≡ verb.Gen → Answered (gen_asked.ComesAsAsked world.channels_are world.arrived) j
   generated j is of_verb = settled verb.Gen _ j is of_verb (λ read says p. p.gen)

@@ -81,7 +81,6 @@ module _ (world : World) (job : Job) where
   pub run_no_usage : (answer : Status) → IsAnswered run.Comes (command world.met job) answer → IsNoUsage answer
   run_no_usage = no_usage_of run.Comes world job (λ cause lines about comes. comes)
 
-
   -- ---- `check`
 
   check_came : (said : Status) (lines : List ℕ) (about : About) → check.Comes (command world.met job) said lines about → Put (command world.met job) (report lines about said) → SaysOfWorld world said

@@ -26,7 +26,7 @@ returns-in-Ok g c = record {
 pub returns-in-Err-Memory : goal.returns-in-Err-Memory
 returns-in-Err-Memory g c =
     let lent : World = world g.L.Library g.F.Feeds g.D.Drains g.G.Gate c.args.library.now c.args.library.now c.args.feeds.now c.args.feeds.now
-        c.args.drains.now c.report.new.drains c.args.gate.now in
+    c.args.drains.now c.report.new.drains c.args.gate.now in
     record {
       job_done = λ j is. inr (record { reported = c.report.ensures; nothing_opened = refl; same_feeds = refl; same_library = refl });
       no_job = λ cause is. inr (record { reported = c.report.ensures; nothing_opened = refl; same_feeds = refl; same_library = refl });
@@ -38,7 +38,7 @@ returns-in-Err-Memory g c =
 pub returns-in-Err-Usage : goal.returns-in-Err-Usage
 returns-in-Err-Usage g c =
     let lent : World = world g.L.Library g.F.Feeds g.D.Drains g.G.Gate c.args.library.now c.args.library.now c.args.feeds.now c.args.feeds.now
-        c.args.drains.now c.report-in-Err-Usage.new.drains c.args.gate.now in
+    c.args.drains.now c.report-in-Err-Usage.new.drains c.args.gate.now in
     let none : job (texts c.args.words.now) ≡ Err c.in-Err-Usage.cause = c.read_words.ensures.usage c.in-Err-Usage.cause (c.in-Err-Usage.is ∙ ap Err c.in-Err-Usage.field-0-is) in
     let told : Reports (Usage c.in-Err-Usage.cause) (last_line about_words (Usage c.in-Err-Usage.cause)) lent.met.channels lent.met.channels_after c.report-in-Err-Usage.result =
     usage_reports lent c.in-Err-Usage.cause _ c.report-in-Err-Usage.result (sym c.in-Err-Usage.cause-is) c.report-in-Err-Usage.ensures in
