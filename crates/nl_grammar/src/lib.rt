@@ -1,0 +1,2 @@
+//! The grammar of networks as text, and its laws.
+#![tactic(auto)]
