@@ -1,0 +1,4 @@
+pub mod Headings
+pub mod Spells
+pub mod Laws
+pub mod Rules
