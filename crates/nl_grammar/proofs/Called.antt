@@ -2,10 +2,14 @@
 use Rattle.std.proofs.Common.{◌≡◌, ℕ, Bool, true, false, List, ◌⊎◌, inl, inr, ◌||◌, refl, ap}
 use Rattle.std.proofs.lemmas.Slice.Eq.{bytes_eq-Decides}
 use Rattle.cal_lexer.specs.Lexeme.{Lexeme}
-use Rattle.cal_grammar.specs.Token.{same_word}
+use Rattle.cal_grammar.specs.Token.{names, same_word}
 use Rattle.cal_grammar.proofs.Words.{same_is}
 use Rattle.nl_grammar.specs.Headings.{is_called}
 use Rattle.nl_grammar.specs.Spells.{is_sign}
+
+pub name_is : (k : Lexeme) → names k ≡ true → (s : List ℕ) × (k ≡ Lexeme.Name s)
+name_is (Lexeme.Name s) e = (s, refl)
+name_is _ e = absurd cc
 
 -- what passes the test is the name
 pub called_is : (name : List ℕ) (k : Lexeme) → is_called name k ≡ true → k ≡ Lexeme.Name name

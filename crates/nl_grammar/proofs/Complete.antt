@@ -7,7 +7,7 @@ use Rattle.cal_ast.specs.Places.{begins}
 use Rattle.cal_lexer.specs.Lexeme.{Lexeme, Placed, placed}
 use Rattle.cal_grammar.specs.Token.{here, names, same_word}
 use Rattle.cal_grammar.specs.Operators.{height}
-use Rattle.cal_grammar.specs.Rules as language
+use Rattle.cal_grammar.specs.Rules as cal
 use Rattle.cal_grammar.specs.Spells.{Part, Spells, any, comma, an_expr, a_param, a_port, a_tag, a_type, the_tag}
 use Rattle.cal_grammar.proofs.Claims.{closes}
 use Rattle.cal_grammar.proofs.Complete.{complete}
@@ -20,7 +20,7 @@ use Rattle.nl_grammar.proofs.Called.{sign_is}
 use Rattle.nl_grammar.proofs.Reading.{read_is}
 
 -- a part of the language that is spelled is read
-tree_read : {p : Part} {a b : List Placed} {x : Tree} (m : ℕ) → Spells p a b x → height x ≤ m → may_follow p (seen (ahead b)) ≡ true → language.read m (language.part p) a ≡ Gave x b
+tree_read : {p : Part} {a b : List Placed} {x : Tree} (m : ℕ) → Spells p a b x → height x ≤ m → may_follow p (seen (ahead b)) ≡ true → cal.read m (cal.part p) a ≡ Gave x b
 tree_read m h low f = closes (complete h m low) f
 
 flat_tag : {a b : List Placed} {x : Tree} → Spells a_tag a b x → height x ≡ 0
@@ -30,13 +30,13 @@ flat_tag (the_tag h) = refl
 
 variable_read : (m h : ℕ) (a b : List Placed) (d : Decl) → IsVariable a b d h → h ≤ m → read m variable a ≡ Gave (a_variable d) b
 variable_read m h a b d (the_variable {w = w} {s = s} {q = q} {r = r} {t = t} {b = c} {shape = shape} {x = x} none hs sign hx) low =
-    let s1 : language.read m (language.part a_type) a ≡ Gave shape (placed (Lexeme.Name s) q ∷ placed w r ∷ c) = tree_read m hs (omega arith) refl in
-    let s2 : language.read m (language.part an_expr) c ≡ Gave x (placed Lexeme.Semicolon t ∷ b) = tree_read m hx (omega arith) refl in
+    let s1 : cal.read m (cal.part a_type) a ≡ Gave shape (placed (Lexeme.Name s) q ∷ placed w r ∷ c) = tree_read m hs (omega arith) refl in
+    let s2 : cal.read m (cal.part an_expr) c ≡ Gave x (placed Lexeme.Semicolon t ∷ b) = tree_read m hx (omega arith) refl in
     signed w (sign_is w sign) s1 s2
   where
-    signed : (w : Lexeme) → (w ≡ Lexeme.Equal) ⊎ (w ≡ Lexeme.Assign) → language.read m (language.part a_type) a ≡ Gave shape (placed (Lexeme.Name s) q ∷ placed w r ∷ c) → language.read m (language.part an_expr) c ≡ Gave x (placed Lexeme.Semicolon t ∷ b) → read m variable a ≡ Gave (a_variable (a_decl false shape s (present x) (begins shape))) b
-    signed w (inl e) s1 s2 = let s1' : language.read m (language.part a_type) a ≡ Gave shape (placed (Lexeme.Name s) q ∷ placed Lexeme.Equal r ∷ c) = s1 ∙ ap (λ k. Gave shape (placed (Lexeme.Name s) q ∷ placed k r ∷ c)) e in rw (read_is m variable a, s1', s2, exec) refl
-    signed w (inr e) s1 s2 = let s1' : language.read m (language.part a_type) a ≡ Gave shape (placed (Lexeme.Name s) q ∷ placed Lexeme.Assign r ∷ c) = s1 ∙ ap (λ k. Gave shape (placed (Lexeme.Name s) q ∷ placed k r ∷ c)) e in rw (read_is m variable a, s1', s2, exec) refl
+    signed : (w : Lexeme) → (w ≡ Lexeme.Equal) ⊎ (w ≡ Lexeme.Assign) → cal.read m (cal.part a_type) a ≡ Gave shape (placed (Lexeme.Name s) q ∷ placed w r ∷ c) → cal.read m (cal.part an_expr) c ≡ Gave x (placed Lexeme.Semicolon t ∷ b) → read m variable a ≡ Gave (a_variable (a_decl false shape s (present x) (begins shape))) b
+    signed w (inl e) s1 s2 = let s1' : cal.read m (cal.part a_type) a ≡ Gave shape (placed (Lexeme.Name s) q ∷ placed Lexeme.Equal r ∷ c) = s1 ∙ ap (λ k. Gave shape (placed (Lexeme.Name s) q ∷ placed k r ∷ c)) e in rw (read_is m variable a, s1', s2, exec) refl
+    signed w (inr e) s1 s2 = let s1' : cal.read m (cal.part a_type) a ≡ Gave shape (placed (Lexeme.Name s) q ∷ placed Lexeme.Assign r ∷ c) = s1 ∙ ap (λ k. Gave shape (placed (Lexeme.Name s) q ∷ placed k r ∷ c)) e in rw (read_is m variable a, s1', s2, exec) refl
 
 unheaded : (a b : List Placed) (d : Decl) (h : ℕ) → IsVariable a b d h → here (is_called entities_word) (ahead a) ≡ false
 unheaded a b d h (the_variable none hs sign hx) = none
@@ -62,7 +62,7 @@ declared_read m h i _ b before ds (the_variables {q = q} {a = a} v) low =
 
 parameter_read : (m h : ℕ) (a b : List Placed) (p : Parameter) → IsParameter a b p h → h ≤ m → may_follow an_expr (seen (ahead b)) ≡ true → read m parameter a ≡ Gave (one_parameter p) b
 parameter_read m h _ b p (the_parameter {s = s} {q = q} {r = r} {a = a} {x = x} hx) low f =
-    let s1 : language.read m (language.part an_expr) a ≡ Gave x b = tree_read m hx low f in
+    let s1 : cal.read m (cal.part an_expr) a ≡ Gave x b = tree_read m hx low f in
     rw (read_is m parameter (placed (Lexeme.Name s) q ∷ placed Lexeme.Equal r ∷ a), s1, exec) refl
 
 -- what comes of parameters that are spelled up to what is no comma
@@ -95,7 +95,7 @@ parameters_read m h q a b ps (the_parameters v) low =
 entities_go : (m h : ℕ) (a b : List Placed) (is : List Instance) → Repeated IsEntity a b is h → h ≤ m → read m (entities []) a ≡ read m (entities is) b
 entities_go m h a b is the_none low = refl
 entities_go m h a _ _ (the_next {xs = is} {h = h1} {k = k} v (the_entity {s = s} {q = q} {r = r} {t = t} {u = u} {v = o} {a = c} {b = d} {c = e} {class = class} {ps = ps} hc hp)) low =
-    let s1 : language.read m (language.part a_tag) c ≡ Gave class (placed Lexeme.LeftParen t ∷ d) = tree_read m hc (omega (arith, flat_tag hc)) refl in
+    let s1 : cal.read m (cal.part a_tag) c ≡ Gave class (placed Lexeme.LeftParen t ∷ d) = tree_read m hc (omega (arith, flat_tag hc)) refl in
     let s2 : read m parameters d ≡ Gave (some_parameters ps) (placed Lexeme.RightParen u ∷ placed Lexeme.Semicolon o ∷ e) = parameters_read m k u d (placed Lexeme.Semicolon o ∷ e) ps hp (omega arith) in
     let s3 : read m (entity s q) c ≡ Gave (one_instance (an_instance s (class_text class) (begins class) ps q)) e = rw (read_is m (entity s q) c, s1, s2, exec) refl in
     entities_go m h1 a (placed (Lexeme.Name s) q ∷ placed Lexeme.Equal r ∷ c) is v (omega arith)
@@ -115,7 +115,7 @@ end_read m _ b e (the_port_of {s = s} {i = i} {q = q} {r = r} {t = t}) none = rw
 attributes_go : (m h : ℕ) (a b : List Placed) (zs : List Size) → AreAttributes a b zs h → h ≤ m → read m (attributes []) a ≡ read m (attributes zs) b
 attributes_go m h a b zs the_no_attributes low = refl
 attributes_go m h a c _ (the_next_attribute {s = s} {q = q} {r = r} {t = t} {h = k} {b = b} {x = x} {zs = zs} v hx) low =
-    let s1 : language.read m (language.part an_expr) b ≡ Gave x (placed Lexeme.Semicolon t ∷ c) = tree_read m hx (omega arith) refl in
+    let s1 : cal.read m (cal.part an_expr) b ≡ Gave x (placed Lexeme.Semicolon t ∷ c) = tree_read m hx (omega arith) refl in
     attributes_go m k a (placed (Lexeme.Name s) q ∷ placed Lexeme.Equal r ∷ b) zs v (omega arith)
     ∙ rw (read_is m (attributes zs) (placed (Lexeme.Name s) q ∷ placed Lexeme.Equal r ∷ b), s1, exec) refl
 
@@ -179,9 +179,9 @@ closing_read m _ (the_named_end {q = q} {r = r}) = rw (read_is m closing (placed
 network_read : (m h : ℕ) (a : List Placed) (n : Net) → IsNetwork a [] n h → h ≤ m → read m network a ≡ Gave (a_net n) []
 network_read m h _ _ (the_network {s = s} {q = q} {r = r} {t = t} {u = u} {v = v} {w = w} {i = i} {j = j} {h = h1} {k = k} {l = l} {a = a} {b = b} {c = c} {d = d} {e = e} {f = f} {g = g} {ps = ps} {ins = ins} {outs = outs} {ds = ds} {is = is} {cs = cs} hp hi ho hv he hc last) low =
     let start = placed (Lexeme.Name network_word) q ∷ placed (Lexeme.Name s) r ∷ placed Lexeme.LeftParen t ∷ a in
-    let s1 : language.read m (language.part (any comma a_param)) a ≡ Gave ps (placed Lexeme.RightParen u ∷ b) = tree_read m hp (omega arith) refl in
-    let s2 : language.read m (language.part (any comma a_port)) b ≡ Gave ins (placed Lexeme.LongDoubleArrow v ∷ c) = tree_read m hi (omega arith) refl in
-    let s3 : language.read m (language.part (any comma a_port)) c ≡ Gave outs (placed Lexeme.Colon w ∷ d) = tree_read m ho (omega arith) refl in
+    let s1 : cal.read m (cal.part (any comma a_param)) a ≡ Gave ps (placed Lexeme.RightParen u ∷ b) = tree_read m hp (omega arith) refl in
+    let s2 : cal.read m (cal.part (any comma a_port)) b ≡ Gave ins (placed Lexeme.LongDoubleArrow v ∷ c) = tree_read m hi (omega arith) refl in
+    let s3 : cal.read m (cal.part (any comma a_port)) c ≡ Gave outs (placed Lexeme.Colon w ∷ d) = tree_read m ho (omega arith) refl in
     let s4 : read m ports b ≡ Gave (a_net (with_ports ins outs)) d = rw (read_is m ports b, s2, s3, exec) refl in
     let s5 : read m heading start ≡ Gave (a_net (with_heading s q ps (with_ports ins outs))) d = rw (read_is m heading start, s1, s4, exec) refl in
     let s6 : read m (declared (param_decls ps)) d ≡ Gave (some_decls (param_decls ps ++ ds)) e = declared_read m h1 i d e (param_decls ps) ds hv (omega arith) in
@@ -201,7 +201,7 @@ text_read m h a n (the_text v) low =
     let s2 : read m network a ≡ Gave (a_net n) [] = network_read m h a n v low in
     rw (read_is m whole a, s1, s2, exec) refl
 text_read m h _ n (the_packaged_text {q = q} {r = r} {a = a} {b = b} {t = t} v w) low =
-    let s1 : language.read m (language.part a_tag) a ≡ Gave t (placed Lexeme.Semicolon r ∷ b) = tree_read m v (omega (arith, flat_tag v)) refl in
+    let s1 : cal.read m (cal.part a_tag) a ≡ Gave t (placed Lexeme.Semicolon r ∷ b) = tree_read m v (omega (arith, flat_tag v)) refl in
     let s2 : read m packaged (placed Lexeme.Package q ∷ a) ≡ Gave nothing b = rw (read_is m packaged (placed Lexeme.Package q ∷ a), s1, exec) refl in
     let s3 : read m network b ≡ Gave (a_net n) [] = network_read m h b n w low in
     rw (read_is m whole (placed Lexeme.Package q ∷ a), s2, s3, exec) refl

@@ -2,7 +2,7 @@
 use Rattle.std.proofs.Common.{◌≡◌, ℕ, zero, suc, max, ◌+◌, ◌-◌, ◌*◌, ◌<◌, ◌≤◌, Bool, true, false, List, [], ◌∷◌, ◌++◌, length, Option, refl, sym, subst, arith}
 use Rattle.cal_grammar.specs.Program.{Outcome, give, fail, ask, take, jump, invoke, Gave, Refused, TooHigh, Spent, ahead}
 use Rattle.cal_grammar.proofs.Gets.{Gets}
-use Rattle.cal_grammar.proofs.Meets.{IsFar, IsRead as IsTreeRead, name_is}
+use Rattle.cal_grammar.proofs.Meets.{IsFar, IsRead as IsTreeRead}
 use Rattle.cal_grammar.proofs.Costs.{costs, takes}
 use Rattle.cal_grammar.proofs.Words.{same_is}
 use Rattle.cal_ast.specs.Tree.{Tree}
@@ -15,7 +15,7 @@ use Rattle.fnl_frames.specs.Net.{Net, Decl, Parameter, Instance, Size, Connectio
 use Rattle.nl_grammar.specs.Headings.{is_called, network_word, entities_word, structure_word}
 use Rattle.nl_grammar.specs.Spells.{Repeated, IsVariable, AreVariables, IsParameter, SomeParameters, AreParameters, IsEntity, End, IsEnd, AreAttributes, InBraces, IsConnection, IsClosed, IsNetwork, IsText}
 use Rattle.nl_grammar.specs.Rules.{Found, Own, Rule, Step, language, own, variable, variables, declared, parameter, more_parameters, parameters, entity, entities, end_of, attributes, in_braces, connection, connections, closing, ports, heading, network, packaged, whole, tree_in, variable_in, decls_in, parameter_in, parameters_in, instance_in, instances_in, end_in, sizes_in, connection_in, connections_in, net_in, with_ports, with_heading, part, expect, named, headed, size}
-use Rattle.nl_grammar.proofs.Called.{called_is}
+use Rattle.nl_grammar.proofs.Called.{called_is, name_is}
 
 -- a part of the grammar: tokens up to others, what they spell, and how high it is
 abbrev pub Relation : Type 0 → Type 1

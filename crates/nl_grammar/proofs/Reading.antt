@@ -1,7 +1,7 @@
 -- The reader: reading a rule is running its program, and what is read keeps to the rule.
 use Rattle.std.proofs.Common.{◌≡◌, ℕ, zero, suc, ◌-◌, ◌<◌, ◌≤◌, List, ◌++◌, refl, ap, arith}
 use Rattle.cal_grammar.specs.Program.{Outcome, Gave, Refused, TooHigh, Spent, ahead, exec}
-use Rattle.cal_grammar.specs.Rules as language
+use Rattle.cal_grammar.specs.Rules as cal
 use Rattle.cal_grammar.specs.Spells.{Part}
 use Rattle.cal_grammar.proofs.Gets.{Gets, gets_outcome}
 use Rattle.cal_grammar.proofs.Ending.{exec_same}
@@ -11,7 +11,7 @@ use Rattle.cal_grammar.proofs.Meets.{Meets as MeetsPart, Keeps as LanguageKeeps,
 use Rattle.cal_grammar.proofs.Reading.{gets as language_gets, read_keeps as language_keeps}
 use Rattle.cal_ast.specs.Tree.{Tree}
 use Rattle.cal_lexer.specs.Lexeme.{Placed}
-use Rattle.nl_grammar.specs.Rules.{Found, a_tree, Own, Rule, language as of_language, own, body, size, lift, go, read, reads}
+use Rattle.nl_grammar.specs.Rules.{Found, a_tree, Own, Rule, language, own, body, size, lift, go, read, reads}
 use Rattle.nl_grammar.proofs.Meets.{Keeps, MeetsTree, MayCall, nothing_spent}
 use Rattle.nl_grammar.proofs.Sound.{kept}
 
@@ -23,8 +23,8 @@ lifted_meets p m ts (Refused left) h = tt
 lifted_meets p m ts (TooHigh left) h = h
 lifted_meets p m ts Spent h = tt
 
-part_keeps : (m : ℕ) (p : Part) (ts : List Placed) → Keeps m (of_language p) ts (lift (language.read m (language.part p) ts))
-part_keeps m p ts = lifted_meets p m ts (language.read m (language.part p) ts) (language_keeps m (language.part p) ts)
+part_keeps : (m : ℕ) (p : Part) (ts : List Placed) → Keeps m (language p) ts (lift (cal.read m (cal.part p) ts))
+part_keeps m p ts = lifted_meets p m ts (cal.read m (cal.part p) ts) (language_keeps m (cal.part p) ts)
 
 lifted_frame : (F : List Placed → Outcome Placed Tree) (make : List Placed → Outcome Placed Tree) (ts left : List Placed) → IsFramed F make ts left → IsFramed (λ l. lift (F l)) (λ l. lift (make l)) ts left
 lifted_frame F make ts left h = record { front = h.front; is_front = h.is_front; same = λ other e. ap lift (h.same other e) }
@@ -35,9 +35,9 @@ lifted_framed F ts (Refused left) h = lifted_frame F (λ l. Refused l) ts left h
 lifted_framed F ts (TooHigh left) h = lifted_frame F (λ l. TooHigh l) ts left h
 lifted_framed F ts Spent h = tt
 
-part_framed : (m : ℕ) (p : Part) (ts : List Placed) → Framed (λ l. lift (language.read m (language.part p) l)) ts (lift (language.read m (language.part p) ts))
-unfolding language.read
-part_framed m p ts = lifted_framed (λ l. language.read m (language.part p) l) ts (language.read m (language.part p) ts) (language_framed language.body language.size LanguageKeeps none_spent language_gets m (language.part p) ts)
+part_framed : (m : ℕ) (p : Part) (ts : List Placed) → Framed (λ l. lift (cal.read m (cal.part p) l)) ts (lift (cal.read m (cal.part p) ts))
+unfolding cal.read
+part_framed m p ts = lifted_framed (λ l. cal.read m (cal.part p) l) ts (cal.read m (cal.part p) ts) (language_framed cal.body cal.size LanguageKeeps none_spent language_gets m (cal.part p) ts)
 
 lifted_kept : (o u : Outcome Placed Tree) → IsKept o u → IsKept (lift o) (lift u)
 lifted_kept (Gave x left) u h = ap lift h
@@ -45,9 +45,9 @@ lifted_kept (Refused left) u h = ap lift h
 lifted_kept (TooHigh left) u h = tt
 lifted_kept Spent u h = ap lift h
 
-part_kept : (m more : ℕ) (p : Part) (ts : List Placed) → m ≤ more → IsKept (lift (language.read m (language.part p) ts)) (lift (language.read more (language.part p) ts))
-unfolding language.read
-part_kept m more p ts less = lifted_kept (language.read m (language.part p) ts) (language.read more (language.part p) ts) (language_kept language.body language.size m more (language.part p) ts less)
+part_kept : (m more : ℕ) (p : Part) (ts : List Placed) → m ≤ more → IsKept (lift (cal.read m (cal.part p) ts)) (lift (cal.read more (cal.part p) ts))
+unfolding cal.read
+part_kept m more p ts less = lifted_kept (cal.read m (cal.part p) ts) (cal.read more (cal.part p) ts) (language_kept cal.body cal.size m more (cal.part p) ts less)
 
 -- ---- own rules
 
@@ -55,7 +55,7 @@ gets : (m : ℕ) (r : Own) (ts : List Placed) → Gets Keeps (MayCall (size r ts
 gets m r ts = (kept m r ts).it
 
 go_holds : (n m : ℕ) (r : Rule) (ts : List Placed) → Keeps m r ts (go n m r ts)
-go_holds n m (of_language p) ts = part_keeps m p ts
+go_holds n m (language p) ts = part_keeps m p ts
 go_holds zero m (own r) ts = nothing_spent m r ts
 go_holds (suc n) m (own r) ts = gets_outcome Keeps (MayCall (size r ts)) (go n) (λ m' r' ts'. go_holds n m' r' ts') m (body r) ts (Keeps m (own r) ts) (nothing_spent m r ts) (gets m r ts)
 
@@ -64,7 +64,7 @@ unfolding read
 read_keeps m r ts = go_holds (suc (size r ts)) m (own r) ts
 
 pub reads_keep : (m : ℕ) (r : Rule) (ts : List Placed) → Keeps m r ts (reads m r ts)
-reads_keep m (of_language p) ts = part_keeps m p ts
+reads_keep m (language p) ts = part_keeps m p ts
 reads_keep m (own r) ts = read_keeps m r ts
 
 go_same : (n k m : ℕ) (r : Own) (ts : List Placed) → size r ts < n → size r ts < k → go n m (own r) ts ≡ go k m (own r) ts
@@ -74,7 +74,7 @@ go_same (suc n) (suc k) m r ts a b =
     exec_same Keeps (MayCall (size r ts)) (go n) (go k) (go_holds n) same m (body r) ts (Keeps m (own r) ts) (gets m r ts)
   where
     same : (m' : ℕ) (r' : Rule) (ts' : List Placed) → MayCall (size r ts) r' ts' → go n m' r' ts' ≡ go k m' r' ts'
-    same m' (of_language p) ts' less = refl
+    same m' (language p) ts' less = refl
     same m' (own r') ts' less = go_same n k m' r' ts' (omega arith) (omega arith)
 
 -- reading a rule is running its program
@@ -84,8 +84,7 @@ read_is m r ts =
     exec_same Keeps (MayCall (size r ts)) (go (size r ts)) reads (go_holds (size r ts)) same m (body r) ts (Keeps m (own r) ts) (gets m r ts)
   where
     same : (m' : ℕ) (r' : Rule) (ts' : List Placed) → MayCall (size r ts) r' ts' → go (size r ts) m' r' ts' ≡ reads m' r' ts'
-    unfolding read
-    same m' (of_language p) ts' less = refl
+    same m' (language p) ts' less = refl
     same m' (own r') ts' less = go_same (size r ts) (suc (size r' ts')) m' r' ts' less (omega arith)
 
 -- ---- outcomes depend on the tokens that were taken and on one more, and on no more room than they need
@@ -98,14 +97,14 @@ framed_below (suc n) m r ts less =
     rw is (framed_replace (read m r) (exec reads m (body r)) ts (exec reads m (body r) ts) (λ other e. is other) h)
   where
     below : (m' : ℕ) (r' : Rule) (ts' : List Placed) → MayCall (size r ts) r' ts' → Framed (reads m' r') ts' (reads m' r' ts')
-    below m' (of_language p) ts' less' = part_framed m' p ts'
+    below m' (language p) ts' less' = part_framed m' p ts'
     below m' (own r') ts' less' = framed_below n m' r' ts' (omega arith)
 
 pub read_framed : (m : ℕ) (r : Own) (ts : List Placed) → Framed (read m r) ts (read m r ts)
 read_framed m r ts = framed_below (suc (size r ts)) m r ts (omega arith)
 
 go_kept : (n m more : ℕ) (r : Rule) (ts : List Placed) → m ≤ more → IsKept (go n m r ts) (go n more r ts)
-go_kept n m more (of_language p) ts less = part_kept m more p ts less
+go_kept n m more (language p) ts less = part_kept m more p ts less
 go_kept zero m more (own r) ts less = refl
 go_kept (suc n) m more (own r) ts less = exec_kept (go n) (λ m' more' r' ts' less'. go_kept n m' more' r' ts' less') (body r) m more ts less
 

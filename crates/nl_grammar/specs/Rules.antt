@@ -7,7 +7,7 @@ use Rattle.std.specs.Prelude.{ℕ, zero, suc, ◌+◌, ◌*◌, Bool, true, fals
 use Rattle.cal_grammar.specs.Program.{Program, Outcome, give, fail, ask, take, jump, invoke, Gave, Refused, TooHigh, Spent, exec}
 use Rattle.cal_grammar.specs.Token.{here, names, same_word, text_of, offset}
 use Rattle.cal_grammar.specs.Rules.{at_end}
-use Rattle.cal_grammar.specs.Rules as language
+use Rattle.cal_grammar.specs.Rules as cal
 use Rattle.cal_grammar.specs.Spells.{Part, any, comma, an_expr, a_param, a_port, a_tag, a_type}
 use Rattle.cal_ast.specs.Tree.{Tree, absent, present}
 use Rattle.cal_ast.specs.Places.{begins}
@@ -354,7 +354,7 @@ lift Spent = Spent
 
 -- what a rule does, with a bound on how deep the calls go
 abbrev pub go : ℕ → ℕ → Rule → List Placed → Outcome Placed Found
-go n m (language p) ts = lift (language.read m (language.part p) ts)
+go n m (language p) ts = lift (cal.read m (cal.part p) ts)
 go zero m (own r) ts = Spent
 go (suc n) m (own r) ts = exec (go n) m (body r) ts
 
@@ -363,5 +363,5 @@ unfoldable pub read : ℕ → Own → List Placed → Outcome Placed Found
 read m r ts = go (suc (size r ts)) m (own r) ts
 
 abbrev pub reads : ℕ → Rule → List Placed → Outcome Placed Found
-reads m (language p) ts = lift (language.read m (language.part p) ts)
+reads m (language p) ts = lift (cal.read m (cal.part p) ts)
 reads m (own r) ts = read m r ts

@@ -36,9 +36,14 @@ abbrev pub behind_dots : Tree → List ℕ
 behind_dots (cons (ident name at) rest) = 46 ∷ (name ++ behind_dots rest)
 behind_dots _ = []
 
+-- names, with dots between
+abbrev pub dotted : Tree → List ℕ
+dotted (cons (ident name at) rest) = name ++ behind_dots rest
+dotted _ = []
+
 -- the class that names with dots between are
 abbrev pub class_text : Tree → List ℕ
-class_text (tag (cons (ident name at) rest) place) = name ++ behind_dots rest
+class_text (tag names at) = dotted names
 class_text _ = []
 
 -- ---- lists

@@ -1,5 +1,12 @@
 //! The connections of a network.
 
+ghost use Rattle.std.specs.Prelude.{◌≡◌, ◌++◌, [], IfOk, map, string_bytes};
+ghost use Rattle.cal_ast.specs.View.{expr_tree};
+ghost use Rattle.fnl_frames.specs.Views.{size_of};
+ghost use Rattle.nl_grammar.specs.Rules as rules;
+ghost use Rattle.nl_grammar.specs.Spells as grammar;
+ghost use Rattle.nl_text.specs.Tells.{LeadsValue, Tells, connection_found, connections_found, end_found, end_of, sizes_found};
+
 use crate::headings::is_named;
 use cal_lexer::{Token, Word};
 use cal_parse_base::cursor::{expect, is_name, is_word, name, take_word};
@@ -14,7 +21,10 @@ pub(crate) fn connections(
     alloc: Global,
     tokens: &mut &[Token],
     room: u32,
-) -> Result<Vec<NetConnection>, Fault> {
+) -> Result<Vec<NetConnection>, Fault>
+    ensures { Tells connections_found room (rules.connections []) result tokens.old.now
+        tokens.new.now }
+{
     let mut found = Vec::new(alloc);
     'connections: while is_name(tokens) {
         let next = connection(alloc, tokens, room)?;
@@ -24,10 +34,13 @@ pub(crate) fn connections(
 }
 
 /// A connection.
-fn connection(alloc: Global, tokens: &mut &[Token], room: u32) -> Result<NetConnection, Fault> {
-    let src = port_end(alloc, tokens)?;
+#[tactic(auto, using(nl_grammar::proofs::Reading::read_is))]
+fn connection(alloc: Global, tokens: &mut &[Token], room: u32) -> Result<NetConnection, Fault>
+    ensures { Tells connection_found room rules.connection result tokens.old.now tokens.new.now }
+{
+    let src = port_end(alloc, tokens, room)?;
     expect(tokens, Word::LongArrow)?;
-    let dst = port_end(alloc, tokens)?;
+    let dst = port_end(alloc, tokens, room)?;
     let sizes = some_attributes(alloc, tokens, room)?;
     expect(tokens, Word::Semicolon)?;
     Ok(NetConnection {
@@ -50,7 +63,10 @@ struct PortEnd {
 }
 
 /// One end of a connection: a port of an instance, or of the network.
-fn port_end(alloc: Global, tokens: &mut &[Token]) -> Result<PortEnd, Fault> {
+#[tactic(auto, using(nl_grammar::proofs::Reading::read_is))]
+fn port_end(alloc: Global, tokens: &mut &[Token], room: u32) -> Result<PortEnd, Fault>
+    ensures { Tells end_found room rules.end_of result tokens.old.now tokens.new.now }
+{
     let first = name(alloc, tokens)?;
     if !is_word(tokens, Word::Dot) {
         return Ok(own_port(alloc, first));
@@ -61,7 +77,9 @@ fn port_end(alloc: Global, tokens: &mut &[Token]) -> Result<PortEnd, Fault> {
 }
 
 /// A port of the network.
-fn own_port(alloc: Global, port: Ident) -> PortEnd {
+fn own_port(alloc: Global, port: Ident) -> PortEnd
+    ensures { end_of result ≡ grammar.an_end [] (string_bytes port.text) port.at }
+{
     PortEnd {
         instance: String::new(alloc),
         port: port.text,
@@ -70,7 +88,10 @@ fn own_port(alloc: Global, port: Ident) -> PortEnd {
 }
 
 /// A port of an instance.
-fn instance_port(instance: Ident, port: Ident) -> PortEnd {
+fn instance_port(instance: Ident, port: Ident) -> PortEnd
+    ensures { end_of result
+        ≡ grammar.an_end (string_bytes instance.text) (string_bytes port.text) instance.at }
+{
     PortEnd {
         instance: instance.text,
         port: port.text,
@@ -79,11 +100,14 @@ fn instance_port(instance: Ident, port: Ident) -> PortEnd {
 }
 
 /// The capacities that the attributes in a pair of braces ask for, or none if there is no pair.
+#[tactic(auto, using(nl_grammar::proofs::Reading::read_is))]
 fn some_attributes(
     alloc: Global,
     tokens: &mut &[Token],
     room: u32,
-) -> Result<Vec<NetSize>, Fault> {
+) -> Result<Vec<NetSize>, Fault>
+    ensures { Tells sizes_found room rules.in_braces result tokens.old.now tokens.new.now }
+{
     if !is_word(tokens, Word::LeftBrace) {
         return Ok(Vec::new(alloc));
     }
@@ -94,7 +118,9 @@ fn some_attributes(
 }
 
 /// The capacities that attributes ask for.
-fn attributes(alloc: Global, tokens: &mut &[Token], room: u32) -> Result<Vec<NetSize>, Fault> {
+fn attributes(alloc: Global, tokens: &mut &[Token], room: u32) -> Result<Vec<NetSize>, Fault>
+    ensures { Tells sizes_found room (rules.attributes []) result tokens.old.now tokens.new.now }
+{
     let mut sizes = Vec::new(alloc);
     'attributes: while is_name(tokens) {
         let name = name(alloc, tokens)?;
@@ -105,7 +131,9 @@ fn attributes(alloc: Global, tokens: &mut &[Token], room: u32) -> Result<Vec<Net
 }
 
 /// The value of an attribute, behind its name.
-fn attribute_value(alloc: Global, tokens: &mut &[Token], room: u32) -> Result<Expr, Fault> {
+fn attribute_value(alloc: Global, tokens: &mut &[Token], room: u32) -> Result<Expr, Fault>
+    ensures { LeadsValue room result tokens.old.now tokens.new.now }
+{
     expect(tokens, Word::Equal)?;
     let value = expr(alloc, tokens, room)?;
     expect(tokens, Word::Semicolon)?;
@@ -117,7 +145,10 @@ fn with_attribute(
     sizes: Vec<NetSize>,
     name: Ident,
     value: Expr,
-) -> Result<Vec<NetSize>, AllocError> {
+) -> Result<Vec<NetSize>, AllocError>
+    ensures { IfOk result (λ zs. map size_of zs.items ≡ map size_of sizes.items
+        ++ grammar.asked (string_bytes name.text) (expr_tree value) name.at) }
+{
     let mut sizes = sizes;
     if is_named(&name, "bufferSize") {
         let at = name.at;

@@ -1,5 +1,10 @@
 //! Whole networks.
 
+ghost use Rattle.std.specs.Prelude.{[], map};
+ghost use Rattle.fnl_frames.specs.Views.{decl_of};
+ghost use Rattle.nl_grammar.specs.Rules as rules;
+ghost use Rattle.nl_text.specs.Tells.{Tells, heading_found, net_found, nothing_found, ports_found};
+
 use crate::connections::connections;
 use crate::entities::entities;
 use crate::headings::{expect_heading, is_called, take_heading};
@@ -14,8 +19,11 @@ use fnl_frames::{NetConnection, NetDecl, NetFile, NetInstance, NetPort};
 use std::alloc::{AllocError, Global};
 
 /// A network behind its package, if it has one, and nothing behind it.
-pub(crate) fn whole(alloc: Global, tokens: &mut &[Token], room: u32) -> Result<NetFile, Fault> {
-    pass_package(alloc, tokens)?;
+#[tactic(auto, using(nl_grammar::proofs::Reading::read_is))]
+pub(crate) fn whole(alloc: Global, tokens: &mut &[Token], room: u32) -> Result<NetFile, Fault>
+    ensures { Tells net_found room rules.whole result tokens.old.now tokens.new.now }
+{
+    pass_package(alloc, tokens, room)?;
     let found = network(alloc, tokens, room)?;
     if tokens.is_empty() {
         Ok(found)
@@ -25,7 +33,10 @@ pub(crate) fn whole(alloc: Global, tokens: &mut &[Token], room: u32) -> Result<N
 }
 
 /// Passes over the package.
-fn pass_package(alloc: Global, tokens: &mut &[Token]) -> Result<(), Fault> {
+#[tactic(auto, using(nl_grammar::proofs::Reading::read_is))]
+fn pass_package(alloc: Global, tokens: &mut &[Token], room: u32) -> Result<(), Fault>
+    ensures { Tells nothing_found room rules.packaged result tokens.old.now tokens.new.now }
+{
     if !is_word(tokens, Word::Package) {
         return Ok(());
     }
@@ -36,12 +47,15 @@ fn pass_package(alloc: Global, tokens: &mut &[Token]) -> Result<(), Fault> {
 }
 
 /// A network.
-fn network(alloc: Global, tokens: &mut &[Token], room: u32) -> Result<NetFile, Fault> {
+#[tactic(auto, using(nl_grammar::proofs::Reading::read_is))]
+fn network(alloc: Global, tokens: &mut &[Token], room: u32) -> Result<NetFile, Fault>
+    ensures { Tells net_found room rules.network result tokens.old.now tokens.new.now }
+{
     let front = heading(alloc, tokens, room)?;
     let decls = with_variables(alloc, tokens, room, front.params)?;
     let instances = entities(alloc, tokens, room)?;
     let connections = connections(alloc, tokens, room)?;
-    take_end(tokens)?;
+    take_end(tokens, room)?;
     Ok(NetFile {
         name: front.name,
         ports: front.ports,
@@ -62,7 +76,10 @@ struct Heading {
 }
 
 /// The heading of a network.
-fn heading(alloc: Global, tokens: &mut &[Token], room: u32) -> Result<Heading, Fault> {
+#[tactic(auto, using(nl_grammar::proofs::Reading::read_is))]
+fn heading(alloc: Global, tokens: &mut &[Token], room: u32) -> Result<Heading, Fault>
+    ensures { Tells heading_found room rules.heading result tokens.old.now tokens.new.now }
+{
     let at = expect_heading(tokens, "network")?;
     let name = name(alloc, tokens)?;
     expect(tokens, Word::LeftParen)?;
@@ -79,7 +96,10 @@ fn heading(alloc: Global, tokens: &mut &[Token], room: u32) -> Result<Heading, F
 }
 
 /// The ports of a network, with what stands between and behind them.
-fn both_ports(alloc: Global, tokens: &mut &[Token], room: u32) -> Result<Vec<NetPort>, Fault> {
+#[tactic(auto, using(nl_grammar::proofs::Reading::read_is))]
+fn both_ports(alloc: Global, tokens: &mut &[Token], room: u32) -> Result<Vec<NetPort>, Fault>
+    ensures { Tells ports_found room rules.ports result tokens.old.now tokens.new.now }
+{
     let ins = ports(alloc, tokens, room)?;
     expect(tokens, Word::LongDoubleArrow)?;
     let outs = ports(alloc, tokens, room)?;
@@ -89,10 +109,13 @@ fn both_ports(alloc: Global, tokens: &mut &[Token], room: u32) -> Result<Vec<Net
 }
 
 /// Takes the end of a network: `end`, with the name `network` behind it or without.
-fn take_end(tokens: &mut &[Token]) -> Result<(), Fault> {
+#[tactic(auto, using(nl_grammar::proofs::Reading::read_is))]
+fn take_end(tokens: &mut &[Token], room: u32) -> Result<(), Fault>
+    ensures { Tells nothing_found room rules.closing result tokens.old.now tokens.new.now }
+{
     expect(tokens, Word::End)?;
     if is_called(tokens, "network") {
-        take_heading(tokens);
+        take_heading(tokens, "network");
     }
     Ok(())
 }
