@@ -65,21 +65,23 @@ parameter_read m h _ b p (the_parameter {s = s} {q = q} {r = r} {a = a} {x = x} 
     let s1 : cal.read m (cal.part an_expr) a ≡ Gave x b = tree_read m hx low f in
     rw (read_is m parameter (placed (Lexeme.Name s) q ∷ placed Lexeme.Equal r ∷ a), s1, exec) refl
 
--- what comes of parameters that are spelled up to what is no comma
-parameters_stop : (m h : ℕ) (a b : List Placed) (ps : List Parameter) → SomeParameters a b ps h → h ≤ m → may_follow an_expr (seen (ahead b)) ≡ true → here (same_word Lexeme.Comma) (ahead b) ≡ false → read m (more_parameters []) a ≡ Gave (some_parameters ps) b
+-- parameters before a comma
 parameters_go : (m h q : ℕ) (a b : List Placed) (ps : List Parameter) → SomeParameters a (placed Lexeme.Comma q ∷ b) ps h → h ≤ m → read m (more_parameters []) a ≡ read m (more_parameters ps) b
-parameters_stop m h a b _ (the_first {p = p} v) low f none =
-    let s1 : read m parameter a ≡ Gave (one_parameter p) b = parameter_read m h a b p v low f in
-    rw (read_is m (more_parameters []) a, s1, none, exec) refl
-parameters_stop m h a c _ (the_more {b = b} {ps = ps} {p = p} {q = q} {h = h1} {k = k} v w) low f none =
-    let s1 : read m parameter b ≡ Gave (one_parameter p) c = parameter_read m k b c p w (omega arith) f in
-    parameters_go m h1 q a b ps v (omega arith) ∙ rw (read_is m (more_parameters ps) b, s1, none, exec) refl
 parameters_go m h q a b _ (the_first {p = p} v) low =
     let s1 : read m parameter a ≡ Gave (one_parameter p) (placed Lexeme.Comma q ∷ b) = parameter_read m h a (placed Lexeme.Comma q ∷ b) p v low refl in
     rw (read_is m (more_parameters []) a, s1, exec) refl
 parameters_go m h q a c _ (the_more {b = b} {ps = ps} {p = p} {q = r} {h = h1} {k = k} v w) low =
     let s1 : read m parameter b ≡ Gave (one_parameter p) (placed Lexeme.Comma q ∷ c) = parameter_read m k b (placed Lexeme.Comma q ∷ c) p w (omega arith) refl in
     parameters_go m h1 r a b ps v (omega arith) ∙ rw (read_is m (more_parameters ps) b, s1, exec) refl
+
+-- parameters before what is no comma
+parameters_stop : (m h : ℕ) (a b : List Placed) (ps : List Parameter) → SomeParameters a b ps h → h ≤ m → may_follow an_expr (seen (ahead b)) ≡ true → here (same_word Lexeme.Comma) (ahead b) ≡ false → read m (more_parameters []) a ≡ Gave (some_parameters ps) b
+parameters_stop m h a b _ (the_first {p = p} v) low f none =
+    let s1 : read m parameter a ≡ Gave (one_parameter p) b = parameter_read m h a b p v low f in
+    rw (read_is m (more_parameters []) a, s1, none, exec) refl
+parameters_stop m h a c _ (the_more {b = b} {ps = ps} {p = p} {q = q} {h = h1} {k = k} v w) low f none =
+    let s1 : read m parameter b ≡ Gave (one_parameter p) c = parameter_read m k b c p w (omega arith) f in
+    parameters_go m h1 q a b ps v (omega arith) ∙ rw (read_is m (more_parameters ps) b, s1, none, exec) refl
 
 some_begin : (a b : List Placed) (ps : List Parameter) (h : ℕ) → SomeParameters a b ps h → here names (ahead a) ≡ true
 some_begin _ b ps h (the_first (the_parameter hx)) = refl

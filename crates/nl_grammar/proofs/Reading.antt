@@ -71,11 +71,11 @@ go_same : (n k m : ℕ) (r : Own) (ts : List Placed) → size r ts < n → size 
 go_same zero k m r ts a b = absurd (omega arith)
 go_same (suc n) zero m r ts a b = absurd (omega arith)
 go_same (suc n) (suc k) m r ts a b =
-    exec_same Keeps (MayCall (size r ts)) (go n) (go k) (go_holds n) same m (body r) ts (Keeps m (own r) ts) (gets m r ts)
+    exec_same Keeps (MayCall (size r ts)) (go n) (go k) (go_holds n) (same (λ m' r' ts' less. go_same n k m' r' ts' (omega arith) (omega arith))) m (body r) ts (Keeps m (own r) ts) (gets m r ts)
   where
-    same : (m' : ℕ) (r' : Rule) (ts' : List Placed) → MayCall (size r ts) r' ts' → go n m' r' ts' ≡ go k m' r' ts'
-    same m' (language p) ts' less = refl
-    same m' (own r') ts' less = go_same n k m' r' ts' (omega arith) (omega arith)
+    same : ((m' : ℕ) (r' : Own) (ts' : List Placed) → size r' ts' < size r ts → go n m' (own r') ts' ≡ go k m' (own r') ts') → (m' : ℕ) (r' : Rule) (ts' : List Placed) → MayCall (size r ts) r' ts' → go n m' r' ts' ≡ go k m' r' ts'
+    same on_own m' (language p) ts' less = refl
+    same on_own m' (own r') ts' less = on_own m' r' ts' less
 
 -- reading a rule is running its program
 pub read_is : (m : ℕ) (r : Own) (ts : List Placed) → read m r ts ≡ exec reads m (body r) ts
@@ -93,12 +93,12 @@ framed_below : (n m : ℕ) (r : Own) (ts : List Placed) → size r ts < n → Fr
 framed_below zero m r ts less = absurd (omega arith)
 framed_below (suc n) m r ts less =
     let is : (l : List Placed) → read m r l ≡ exec reads m (body r) l = λ l. read_is m r l in
-    let h : Framed (exec reads m (body r)) ts (exec reads m (body r) ts) = exec_framed Keeps (MayCall (size r ts)) reads reads_keep below m (body r) ts (Keeps m (own r) ts) (gets m r ts) in
+    let h : Framed (exec reads m (body r)) ts (exec reads m (body r) ts) = exec_framed Keeps (MayCall (size r ts)) reads reads_keep (below (λ m' r' ts' less'. framed_below n m' r' ts' (omega arith))) m (body r) ts (Keeps m (own r) ts) (gets m r ts) in
     rw is (framed_replace (read m r) (exec reads m (body r)) ts (exec reads m (body r) ts) (λ other e. is other) h)
   where
-    below : (m' : ℕ) (r' : Rule) (ts' : List Placed) → MayCall (size r ts) r' ts' → Framed (reads m' r') ts' (reads m' r' ts')
-    below m' (language p) ts' less' = part_framed m' p ts'
-    below m' (own r') ts' less' = framed_below n m' r' ts' (omega arith)
+    below : ((m' : ℕ) (r' : Own) (ts' : List Placed) → size r' ts' < size r ts → Framed (read m' r') ts' (read m' r' ts')) → (m' : ℕ) (r' : Rule) (ts' : List Placed) → MayCall (size r ts) r' ts' → Framed (reads m' r') ts' (reads m' r' ts')
+    below on_own m' (language p) ts' less' = part_framed m' p ts'
+    below on_own m' (own r') ts' less' = on_own m' r' ts' less'
 
 pub read_framed : (m : ℕ) (r : Own) (ts : List Placed) → Framed (read m r) ts (read m r ts)
 read_framed m r ts = framed_below (suc (size r ts)) m r ts (omega arith)

@@ -13,7 +13,7 @@ use Rattle.cal_grammar.specs.Spells.{Spells, any, comma, an_expr, a_param, a_por
 use Rattle.fnl_frames.specs.Net.{Net, Decl, a_decl, Parameter, a_parameter, Instance, an_instance, Size, Connection, a_connection}
 use Rattle.nl_grammar.specs.Headings.{is_called, network_word, entities_word, structure_word}
 use Rattle.nl_grammar.specs.Spells.{Repeated, the_none, the_next, IsVariable, the_variable, AreVariables, the_no_variables, the_variables, IsParameter, the_parameter, SomeParameters, the_first, the_more, AreParameters, the_no_parameters, the_parameters, IsEntity, the_entity, End, an_end, IsEnd, the_own_port, the_port_of, asked, AreAttributes, the_no_attributes, the_next_attribute, InBraces, the_no_braces, the_braces, IsConnection, the_connection, IsClosed, the_end, the_named_end, IsNetwork, the_network, IsText, the_text, the_packaged_text, class_text}
-use Rattle.nl_grammar.specs.Rules.{Found, a_net, Own, Rule, Step, own, variable, variables, declared, parameter, more_parameters, parameters, entity, entities, end_of, attributes, in_braces, connection, connections, closing, ports, heading, network, packaged, whole, variable_in, decls_in, parameter_in, parameters_in, instance_in, instances_in, end_in, sizes_in, connection_in, connections_in, net_in, with_ports, with_heading, with_body, connected, instance_of, port_of, place_of, value_body, headed_body, body, size}
+use Rattle.nl_grammar.specs.Rules.{Found, a_variable, one_parameter, one_instance, a_net, nothing, Own, Rule, Step, part, on, expect, own, variable, variables, declared, parameter, more_parameters, parameters, entity, entities, end_of, attributes, in_braces, connection, connections, closing, ports, heading, network, packaged, whole, variable_in, decls_in, parameter_in, parameters_in, instance_in, instances_in, end_in, sizes_in, connection_in, connections_in, net_in, with_ports, with_heading, with_body, connected, instance_of, port_of, place_of, value_body, headed_body, body, size}
 use Rattle.nl_grammar.proofs.Called.{called_is}
 use Rattle.nl_grammar.proofs.Meets.{IsRead, Meets, UpTo, up_to, Behind, IsUnheaded, Begun, begun_none, begun_some, IsEndOf, IsClosing, ArePorts, the_ports, IsHeading, the_heading, IsPackaged, the_no_package, the_package, MeetsWhole, Keeps, Shows, gives, fails, asks, jumps, word_or, name_or, called_or, expects, names_next, reads_part, reads_own, with_part, with_own}
 
@@ -31,17 +31,17 @@ value_kept : (s m : ℕ) (w : Lexeme) (a ts : List Placed) (text : List ℕ) (q 
 value_kept s m w a ts text q r shape inside hs low make =
     with_part s m IsUnheaded variable_in 1 an_expr a ts _ (omega arith) λ x b hx lx tx.
     expects s m Lexeme.Semicolon (λ l. Spells an_expr ts l x) (Meets IsUnheaded variable_in 1 m a) _ b tt hx λ t c n hx2.
-    gives s m _ _ _ (record { high = max (height shape) (height x); spelled = make c t x hx2; low = omega arith; taken = omega arith })
+    gives s m (a_variable (a_decl false shape text (present x) (begins shape))) _ _ (record { high = max (height shape) (height x); spelled = make c t x hx2; low = omega arith; taken = omega arith })
 
 variable_kept : (m : ℕ) (a : List Placed) → Kept m variable a
 variable_kept m a =
     let s = size variable a in
     let Q = Meets IsUnheaded variable_in 1 m a in
     with_part s m IsUnheaded variable_in 1 a_type a a _ (omega arith) λ shape b hs ls ts.
-    names_next s m (λ l. Spells a_type a l shape) Q _ b tt hs λ text q c n hs2.
-    word_or s m Lexeme.Assign (λ l. Spells a_type a (placed (Lexeme.Name text) q ∷ l) shape) (λ l. Q) _ _ c hs2
+    names_next s m (λ l. Spells a_type a l shape) Q (λ t. on Lexeme.Assign (value_body shape t) (expect Lexeme.Equal (value_body shape t))) b tt hs λ text q c n hs2.
+    word_or s m Lexeme.Assign (λ l. Spells a_type a (placed (Lexeme.Name text) q ∷ l) shape) (λ l. Q) (λ x. value_body shape (placed (Lexeme.Name text) q)) (expect Lexeme.Equal (value_body shape (placed (Lexeme.Name text) q))) c hs2
     (λ r d n2 hs3. value_kept s m Lexeme.Assign a d text q r shape (omega arith) hs3 ls (λ e t x hx h. the_variable h hs3 refl hx))
-    (λ no_assign. expects s m Lexeme.Equal (λ l. Spells a_type a (placed (Lexeme.Name text) q ∷ l) shape) Q _ c tt hs2 λ r d n2 hs3.
+    (λ no_assign. expects s m Lexeme.Equal (λ l. Spells a_type a (placed (Lexeme.Name text) q ∷ l) shape) Q (value_body shape (placed (Lexeme.Name text) q)) c tt hs2 λ r d n2 hs3.
     value_kept s m Lexeme.Equal a d text q r shape (omega arith) hs3 ls (λ e t x hx h. the_variable h hs3 refl hx))
 
 -- one variable more
@@ -86,7 +86,7 @@ parameter_kept m a =
     name_or s m (λ l. Unit {0}) (λ l. Keeps m (own parameter) l) _ _ a tt
     (λ text q b n f. word_or s m Lexeme.Equal (λ l. Unit {0}) (λ l. Meets IsParameter parameter_in 1 m (placed (Lexeme.Name text) q ∷ l)) _ _ b tt
     (λ r c n2 f2. with_part s m IsParameter parameter_in 1 an_expr (placed (Lexeme.Name text) q ∷ placed Lexeme.Equal r ∷ c) c _ (omega arith) λ x d hx lx tx.
-    gives s m _ _ _ (record { high = height x; spelled = the_parameter hx; low = lx; taken = omega arith }))
+    gives s m (one_parameter (a_parameter text x q)) _ _ (record { high = height x; spelled = the_parameter hx; low = lx; taken = omega arith }))
     (λ e. fails s m _ _ tt))
     (λ e. fails s m _ _ tt)
 
@@ -130,7 +130,7 @@ entity_kept m text q ts =
     reads_own s m AreParameters parameters_in 0 parameters c c _ Q (omega arith) (λ o g. g) (λ left r. tt) (λ left far there r. record { far = omega arith; at_token = there }) λ y d h v less u.
     expects s m Lexeme.RightParen (λ l. AreParameters c l (parameters_in y) h) Q _ d (λ r. tt) v λ t2 e n2 v2.
     expects s m Lexeme.Semicolon (λ l. AreParameters c (placed Lexeme.RightParen t2 ∷ l) (parameters_in y) h) Q _ e (λ r. tt) v2 λ t3 g n3 v3.
-    gives s m _ _ _ (λ r. record { high = h; spelled = the_entity hc2 v3; low = less; taken = omega arith })
+    gives s m (one_instance (an_instance text (class_text class) (begins class) (parameters_in y) q)) _ _ (λ r. record { high = h; spelled = the_entity hc2 v3; low = less; taken = omega arith })
 
 entities_kept : (m : ℕ) (is : List Instance) (ts : List Placed) → Kept m (entities is) ts
 entities_kept m is ts =
@@ -175,7 +175,7 @@ attributes_kept m zs ts =
     let Q = Keeps m (own (attributes zs)) (placed (Lexeme.Name text) q ∷ placed Lexeme.Equal r ∷ c) in
     reads_part s m an_expr c _ Q (λ left a h inside g low. tt) (λ left far there a h inside g low. record { far = omega arith; at_token = there }) λ x d hx lx tx.
     expects s m Lexeme.Semicolon (λ l. Spells an_expr c l x) Q _ d (λ a h inside g low. tt) hx λ t e n3 hx2.
-    jumps s m _ _ _ (omega arith) (λ o k a h inside g low. k a (max h (height x)) (omega arith) (the_next_attribute g hx2) (omega arith)))
+    jumps s m (attributes (zs ++ asked text x q)) _ _ (omega arith) (λ o k a h inside g low. k a (max h (height x)) (omega arith) (the_next_attribute g hx2) (omega arith)))
     (λ e. fails s m _ _ (λ a h inside g low. tt)))
     (λ e. gives s m _ _ _ (λ a h inside g low. record { high = h; spelled = g; low = low; taken = omega arith }))
 
@@ -226,11 +226,12 @@ ports_kept : (m : ℕ) (a : List Placed) → Kept m ports a
 ports_kept m a =
     let s = size ports a in
     let Q = Meets ArePorts net_in 1 m a in
-    with_part s m ArePorts net_in 1 (any comma a_port) a a _ (omega arith) λ ins b hi li ti.
-    expects s m Lexeme.LongDoubleArrow (λ l. Spells (any comma a_port) a l ins) Q _ b tt hi λ q c n hi2.
-    with_part s m ArePorts net_in 1 (any comma a_port) a c _ (omega arith) λ outs d ho lo to.
-    expects s m Lexeme.Colon (λ l. Spells (any comma a_port) c l outs) Q _ d tt ho λ r e n2 ho2.
-    gives s m _ _ _ (record { high = max (height ins) (height outs); spelled = the_ports hi2 ho2; low = omega arith; taken = omega arith })
+    let last : Tree → Tree → Step = λ ins outs. expect Lexeme.Colon (give (a_net (with_ports ins outs))) in
+    with_part s m ArePorts net_in 1 (any comma a_port) a a (λ ins. expect Lexeme.LongDoubleArrow (part (any comma a_port) (last ins))) (omega arith) λ ins b hi li ti.
+    expects s m Lexeme.LongDoubleArrow (λ l. Spells (any comma a_port) a l ins) Q (part (any comma a_port) (last ins)) b tt hi λ q c n hi2.
+    with_part s m ArePorts net_in 1 (any comma a_port) a c (last ins) (omega arith) λ outs d ho lo to.
+    expects s m Lexeme.Colon (λ l. Spells (any comma a_port) c l outs) Q (give (a_net (with_ports ins outs))) d tt ho λ r e n2 ho2.
+    gives s m (a_net (with_ports ins outs)) _ _ (record { high = max (height ins) (height outs); spelled = the_ports hi2 ho2; low = omega arith; taken = omega arith })
 
 heading_kept : (m : ℕ) (a : List Placed) → Kept m heading a
 heading_kept m a =
@@ -244,7 +245,7 @@ heading_kept m a =
     with_part s m IsHeading net_in 1 (any comma a_param) w d _ (omega arith) λ ps e hp lp tp.
     expects s m Lexeme.RightParen (λ l. Spells (any comma a_param) d l ps) Q _ e tt hp λ u g n4 hp2.
     with_own s m IsHeading net_in 1 ArePorts net_in 1 ports w g _ (omega arith) (omega arith) (λ o k. k) λ y i h v less t2.
-    gives s m _ _ _ (record { high = max (height ps) h; spelled = the_heading hp2 v; low = omega arith; taken = omega arith }))
+    gives s m (a_net (with_heading text q ps (net_in y))) _ _ (record { high = max (height ps) h; spelled = the_heading hp2 v; low = omega arith; taken = omega arith }))
     (λ e. fails s m _ _ tt))
     (λ e. fails s m _ _ tt))
     (λ e. fails s m _ _ tt)
@@ -277,7 +278,7 @@ packaged_kept m a =
     word_or s m Lexeme.Package (λ l. Unit {0}) (λ l. Keeps m (own packaged) l) _ _ a tt
     (λ q b n f. with_part s m IsPackaged (λ y. y) 0 a_tag (placed Lexeme.Package q ∷ b) b _ (omega arith) λ t c ht lt tt2.
     expects s m Lexeme.Semicolon (λ l. Spells a_tag b l t) (Meets IsPackaged (λ y. y) 0 m (placed Lexeme.Package q ∷ b)) _ c tt ht λ r d n2 ht2.
-    gives s m _ _ _ (record { high = 0; spelled = the_package ht2; low = omega arith; taken = omega arith }))
+    gives s m nothing _ _ (record { high = 0; spelled = the_package ht2; low = omega arith; taken = omega arith }))
     (λ e. gives s m _ _ _ (record { high = 0; spelled = the_no_package; low = omega arith; taken = omega arith }))
 
 -- a text by its parts

@@ -2,7 +2,7 @@
 -- `bufferSize` alone in braces, no empty braces, and no `var` without variables.
 -- Above what stands for a production is its line in EBNF.
 -- Trusted: part of what a promise means.
-use Rattle.std.specs.Prelude.{◌≡◌, ℕ, Bool, true, false, not, List, [], ◌∷◌, ◌++◌, if◌then◌else◌, ◌==◌, Option, None, Some}
+use Rattle.std.specs.Prelude.{◌≡◌, ℕ, Bool, true, false, not, ◌||◌, List, [], ◌∷◌, ◌++◌, if◌then◌else◌, ◌==◌, Option, None, Some}
 use Rattle.rvc_base.specs.Rules.{parameter_behind_variable}
 use Rattle.rvc_base.specs.declared.refusal.Front.{Front as Answer}
 use Rattle.rvc_base.specs.declared.refusal.Front.TheVariants.{Refused, Memory}
@@ -32,34 +32,38 @@ abbrev pub is_param : Decl → Bool
 is_param (a_decl param shape name value at) = param
 
 -- [Param {"," Param}], of the parameters among declarations; whether some stand before
+abbrev pub one_param : Bool → Decl → List Lexeme
+one_param next d = if is_param d then comma_if next ++ decl_words d else []
+
 abbrev pub param_words : Bool → List Decl → List Lexeme
 param_words next [] = []
-param_words next (d ∷ ds) = if is_param d
-    then comma_if next ++ (decl_words d ++ param_words true ds) else param_words next ds
+param_words next (d ∷ ds) = one_param next d ++ param_words (next || is_param d) ds
 
--- ["var" {Variable}], of the variables among declarations
+-- ["var" {Variable}], of the variables among declarations; whether some stand before
+abbrev pub one_variable : Bool → Decl → List Lexeme
+one_variable next d = if is_param d then []
+    else var_unless next ++ (decl_words d ++ (Lexeme.Semicolon ∷ []))
+
 abbrev pub variable_words : Bool → List Decl → List Lexeme
 variable_words next [] = []
-variable_words next (d ∷ ds) = if is_param d then variable_words next ds
-    else var_unless next ++ (decl_words d ++ (Lexeme.Semicolon ∷ variable_words true ds))
+variable_words next (d ∷ ds) = one_variable next d ++ variable_words (next || not (is_param d)) ds
 
 abbrev pub port_words : Port → List Lexeme
 port_words (a_port input shape name at) = words shape ++ (Lexeme.Name name ∷ [])
 
-abbrev pub goes_in : Port → Bool
-goes_in (a_port input shape name at) = input
-
 -- whether a port is of a direction
 abbrev pub faces : (input : Bool) → Port → Bool
-faces true p = goes_in p
-faces false p = not (goes_in p)
+faces true (a_port input shape name at) = input
+faces false (a_port input shape name at) = not input
 
--- [Ports], of those of a direction
-abbrev pub ports_words : Bool → Bool → List Port → List Lexeme
+-- [Ports], of those of a direction; whether some stand before
+abbrev pub one_port : (input next : Bool) → Port → List Lexeme
+one_port input next p = if faces input p then comma_if next ++ port_words p else []
+
+abbrev pub ports_words : (input next : Bool) → List Port → List Lexeme
 ports_words input next [] = []
-ports_words input next (p ∷ ps) = if faces input p
-    then comma_if next ++ (port_words p ++ ports_words input true ps)
-    else ports_words input next ps
+ports_words input next (p ∷ ps) = one_port input next p
+    ++ ports_words input (next || faces input p) ps
 
 -- the names between the dots of a class, with a dot between each two
 abbrev pub in_front : ℕ → List (List ℕ) → List (List ℕ)
@@ -85,8 +89,8 @@ parameter_words (a_parameter name value at) = Lexeme.Name name ∷ Lexeme.Equal 
 -- Parameters = [Parameter {"," Parameter}]
 abbrev pub parameters_words : Bool → List Parameter → List Lexeme
 parameters_words next [] = []
-parameters_words next (p ∷ ps) =
-    comma_if next ++ (parameter_words p ++ parameters_words true ps)
+parameters_words next (p ∷ ps) = (comma_if next ++ parameter_words p)
+    ++ parameters_words true ps
 
 -- Entity     = Name "=" Tag "(" Parameters ")" ";"
 abbrev pub instance_words : Instance → List Lexeme

@@ -1,3 +1,5 @@
 pub mod Tells
+pub mod SoFar
 pub mod Answers
 pub mod Canon
+pub mod Left

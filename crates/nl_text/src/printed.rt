@@ -1,12 +1,12 @@
 //! The tokens of a network, printed.
 
-ghost use Rattle.std.specs.Prelude.{◌≡◌, false, map};
+ghost use Rattle.std.specs.Prelude.{◌≡◌, ◌++◌, ◌||◌, false, map, not};
 ghost use Rattle.cal_ast.specs.View.{optional_expr, type_tree};
 ghost use Rattle.cal_lexer.specs.Lexeme.{Lexeme};
 ghost use Rattle.cal_print.specs.Tokens.{start_words, words};
 ghost use Rattle.cal_print.specs.Writes.{Writes};
 ghost use Rattle.fnl_frames.specs.Views.{connection_of, decl_of, instance_of, net_of, parameter_of, port_of, size_of};
-ghost use Rattle.nl_text.specs.Canon.{class_words, comma_if, connection_words, connections_words, decl_words, each_size, end_words, faces as is_of, instance_words, instances_words, net_words, param_words, parameter_words, parameters_words, port_words, ports_words, size_words, sizes_words, var_unless, variable_words};
+ghost use Rattle.nl_text.specs.Canon.{class_words, comma_if, connection_words, connections_words, decl_words, each_size, end_words, faces as is_of, instance_words, instances_words, is_param, net_words, one_param, one_port, one_variable, param_words, parameter_words, parameters_words, port_words, ports_words, size_words, sizes_words, var_unless, variable_words};
 
 use cal_ast::Expr;
 use cal_lexer::Word;
@@ -43,12 +43,21 @@ fn print_params(decls: &[NetDecl], out: &mut Writer)
 {
     let mut is_next = false;
     for decl in decls {
-        if decl.param {
-            print_comma(is_next, out);
-            print_decl(decl, out);
-            is_next = true;
-        }
+        is_next = print_param(decl, is_next, out);
     }
+}
+
+/// Prints a declaration if it is a parameter, behind a comma if others stand before, and says whether some do then.
+fn print_param(decl: &NetDecl, is_next: bool, out: &mut Writer) -> bool
+    ensures printed { Writes out.old (one_param is_next (decl_of decl.now)) out.new }
+    ensures next { result ≡ (is_next || is_param (decl_of decl.now)) }
+{
+    if !decl.param {
+        return is_next;
+    }
+    print_comma(is_next, out);
+    print_decl(decl, out);
+    true
 }
 
 /// Prints a comma, if it is asked for.
@@ -85,12 +94,21 @@ fn print_ports(ports: &[NetPort], input: bool, out: &mut Writer)
 {
     let mut is_next = false;
     for port in ports {
-        if faces(port, input) {
-            print_comma(is_next, out);
-            print_port(port, out);
-            is_next = true;
-        }
+        is_next = print_port_of(port, input, is_next, out);
     }
+}
+
+/// Prints a port if it is of a direction, behind a comma if others stand before, and says whether some do then.
+fn print_port_of(port: &NetPort, input: bool, is_next: bool, out: &mut Writer) -> bool
+    ensures printed { Writes out.old (one_port input is_next (port_of port.now)) out.new }
+    ensures next { result ≡ (is_next || is_of input (port_of port.now)) }
+{
+    if !faces(port, input) {
+        return is_next;
+    }
+    print_comma(is_next, out);
+    print_port(port, out);
+    true
 }
 
 /// Whether a port is of a direction.
@@ -114,13 +132,22 @@ fn print_variables(decls: &[NetDecl], out: &mut Writer)
 {
     let mut is_next = false;
     for decl in decls {
-        if !decl.param {
-            print_var(is_next, out);
-            print_decl(decl, out);
-            out.put(Word::Semicolon);
-            is_next = true;
-        }
+        is_next = print_variable(decl, is_next, out);
     }
+}
+
+/// Prints a declaration if it is a variable, the first one behind `var`, and says whether one stands before then.
+fn print_variable(decl: &NetDecl, is_next: bool, out: &mut Writer) -> bool
+    ensures printed { Writes out.old (one_variable is_next (decl_of decl.now)) out.new }
+    ensures next { result ≡ (is_next || not (is_param (decl_of decl.now))) }
+{
+    if decl.param {
+        return is_next;
+    }
+    print_var(is_next, out);
+    print_decl(decl, out);
+    out.put(Word::Semicolon);
+    true
 }
 
 /// Prints `var`, unless a variable stands before.
@@ -173,10 +200,18 @@ fn print_parameters(parameters: &[NetParameter], out: &mut Writer)
 {
     let mut is_next = false;
     for parameter in parameters {
-        print_comma(is_next, out);
-        print_parameter(parameter, out);
+        print_next_parameter(parameter, is_next, out);
         is_next = true;
     }
+}
+
+/// Prints a parameter of an instance, behind a comma if others stand before.
+fn print_next_parameter(parameter: &NetParameter, is_next: bool, out: &mut Writer)
+    ensures { Writes out.old (comma_if is_next ++ parameter_words (parameter_of parameter.now))
+        out.new }
+{
+    print_comma(is_next, out);
+    print_parameter(parameter, out);
 }
 
 /// Prints a parameter of an instance.
