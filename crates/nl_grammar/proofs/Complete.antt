@@ -1,7 +1,7 @@
 -- Whatever is spelled is read.
 use Rattle.std.proofs.Common.{◌≡◌, ℕ, max, ◌≤◌, ◌⊎◌, inl, inr, Bool, true, false, List, [], ◌∷◌, ◌++◌, append_assoc, refl, sym, ap, ◌∙◌, subst, arith}
 use Rattle.std.proofs.lemmas.List.{append-nil}
-use Rattle.cal_grammar.specs.Program.{Outcome, Gave, ahead, exec, after}
+use Rattle.cal_grammar.specs.Program.{Outcome, Gave, ahead, exec, after, give, jump}
 use Rattle.cal_ast.specs.Tree.{Tree, present}
 use Rattle.cal_ast.specs.Places.{begins}
 use Rattle.cal_lexer.specs.Lexeme.{Lexeme, Placed, placed}
@@ -15,7 +15,7 @@ use Rattle.cal_grammar.proofs.Follow.{seen, may_follow, begins_with}
 use Rattle.fnl_frames.specs.Net.{Net, Decl, a_decl, Parameter, a_parameter, Instance, an_instance, Size, Connection, a_connection}
 use Rattle.nl_grammar.specs.Headings.{is_called, network_word, entities_word, structure_word}
 use Rattle.nl_grammar.specs.Spells.{Repeated, the_none, the_next, IsVariable, the_variable, AreVariables, the_no_variables, the_variables, IsParameter, the_parameter, SomeParameters, the_first, the_more, AreParameters, the_no_parameters, the_parameters, IsEntity, the_entity, End, an_end, IsEnd, the_own_port, the_port_of, asked, AreAttributes, the_no_attributes, the_next_attribute, InBraces, the_no_braces, the_braces, IsConnection, the_connection, IsClosed, the_end, the_named_end, IsNetwork, the_network, IsText, the_text, the_packaged_text, class_text, net_ports, param_decls}
-use Rattle.nl_grammar.specs.Rules.{Found, a_tree, a_variable, some_decls, one_parameter, some_parameters, one_instance, some_instances, one_end, some_sizes, one_connection, some_connections, a_net, nothing, Own, variable, variables, declared, parameter, more_parameters, parameters, entity, entities, end_of, attributes, in_braces, connection, connections, closing, ports, heading, network, packaged, whole, with_ports, with_heading, with_body, read, reads, lift}
+use Rattle.nl_grammar.specs.Rules.{Found, a_tree, a_variable, some_decls, one_parameter, some_parameters, one_instance, some_instances, one_end, some_sizes, one_connection, some_connections, a_net, nothing, Own, variable, variables, declared, parameter, more_parameters, parameters, entity, entities, end_of, attribute, attributes, in_braces, connection, connections, closing, ports, heading, network, packaged, whole, own, on, with_ports, with_heading, with_body, read, reads, lift}
 use Rattle.nl_grammar.proofs.Called.{sign_is}
 use Rattle.nl_grammar.proofs.Reading.{read_is}
 
@@ -78,10 +78,12 @@ parameters_go m h q a c _ (the_more {b = b} {ps = ps} {p = p} {q = r} {h = h1} {
 parameters_stop : (m h : ℕ) (a b : List Placed) (ps : List Parameter) → SomeParameters a b ps h → h ≤ m → may_follow an_expr (seen (ahead b)) ≡ true → here (same_word Lexeme.Comma) (ahead b) ≡ false → read m (more_parameters []) a ≡ Gave (some_parameters ps) b
 parameters_stop m h a b _ (the_first {p = p} v) low f none =
     let s1 : read m parameter a ≡ Gave (one_parameter p) b = parameter_read m h a b p v low f in
-    rw (read_is m (more_parameters []) a, s1, none, exec) refl
+    let last : exec reads m (on Lexeme.Comma (jump (own (more_parameters (p ∷ [])))) (give (some_parameters (p ∷ [])))) b ≡ Gave (some_parameters (p ∷ [])) b = rw (none, exec) refl in
+    rw (read_is m (more_parameters []) a, s1, exec) last
 parameters_stop m h a c _ (the_more {b = b} {ps = ps} {p = p} {q = q} {h = h1} {k = k} v w) low f none =
     let s1 : read m parameter b ≡ Gave (one_parameter p) c = parameter_read m k b c p w (omega arith) f in
-    parameters_go m h1 q a b ps v (omega arith) ∙ rw (read_is m (more_parameters ps) b, s1, none, exec) refl
+    let last : exec reads m (on Lexeme.Comma (jump (own (more_parameters (ps ++ p ∷ [])))) (give (some_parameters (ps ++ p ∷ [])))) c ≡ Gave (some_parameters (ps ++ p ∷ [])) c = rw (none, exec) refl in
+    parameters_go m h1 q a b ps v (omega arith) ∙ rw (read_is m (more_parameters ps) b, s1, exec) last
 
 some_begin : (a b : List Placed) (ps : List Parameter) (h : ℕ) → SomeParameters a b ps h → here names (ahead a) ≡ true
 some_begin _ b ps h (the_first (the_parameter hx)) = refl
@@ -118,8 +120,9 @@ attributes_go : (m h : ℕ) (a b : List Placed) (zs : List Size) → AreAttribut
 attributes_go m h a b zs the_no_attributes low = refl
 attributes_go m h a c _ (the_next_attribute {s = s} {q = q} {r = r} {t = t} {h = k} {b = b} {x = x} {zs = zs} v hx) low =
     let s1 : cal.read m (cal.part an_expr) b ≡ Gave x (placed Lexeme.Semicolon t ∷ c) = tree_read m hx (omega arith) refl in
+    let s2 : read m attribute (placed Lexeme.Equal r ∷ b) ≡ Gave (a_tree x) c = rw (read_is m attribute (placed Lexeme.Equal r ∷ b), s1, exec) refl in
     attributes_go m k a (placed (Lexeme.Name s) q ∷ placed Lexeme.Equal r ∷ b) zs v (omega arith)
-    ∙ rw (read_is m (attributes zs) (placed (Lexeme.Name s) q ∷ placed Lexeme.Equal r ∷ b), s1, exec) refl
+    ∙ rw (read_is m (attributes zs) (placed (Lexeme.Name s) q ∷ placed Lexeme.Equal r ∷ b), s2, exec) refl
 
 in_braces_read : (m h r : ℕ) (a b : List Placed) (zs : List Size) → InBraces a (placed Lexeme.Semicolon r ∷ b) zs h → h ≤ m → read m in_braces a ≡ Gave (some_sizes zs) (placed Lexeme.Semicolon r ∷ b)
 in_braces_read m h r _ b zs the_no_braces low = rw (read_is m in_braces (placed Lexeme.Semicolon r ∷ b), exec) refl

@@ -10,11 +10,11 @@ use Rattle.cal_ast.specs.Places.{begins}
 use Rattle.cal_lexer.specs.Lexeme.{Lexeme, Placed, placed}
 use Rattle.cal_grammar.specs.Token.{here, names, same_word}
 use Rattle.cal_grammar.specs.Operators.{height}
-use Rattle.cal_grammar.specs.Spells.{Part, Spells, any, comma, a_param, a_port, a_tag}
+use Rattle.cal_grammar.specs.Spells.{Part, Spells, any, comma, an_expr, a_param, a_port, a_tag}
 use Rattle.fnl_frames.specs.Net.{Net, Decl, Parameter, Instance, Size, Connection}
 use Rattle.nl_grammar.specs.Headings.{is_called, network_word, entities_word, structure_word}
 use Rattle.nl_grammar.specs.Spells.{Repeated, IsVariable, AreVariables, IsParameter, SomeParameters, AreParameters, IsEntity, End, IsEnd, AreAttributes, InBraces, IsConnection, IsClosed, IsNetwork, IsText}
-use Rattle.nl_grammar.specs.Rules.{Found, Own, Rule, Step, language, own, variable, variables, declared, parameter, more_parameters, parameters, entity, entities, end_of, attributes, in_braces, connection, connections, closing, ports, heading, network, packaged, whole, tree_in, variable_in, decls_in, parameter_in, parameters_in, instance_in, instances_in, end_in, sizes_in, connection_in, connections_in, net_in, with_ports, with_heading, part, expect, named, headed, size}
+use Rattle.nl_grammar.specs.Rules.{Found, Own, Rule, Step, language, own, variable, variables, declared, parameter, more_parameters, parameters, entity, entities, end_of, attribute, attributes, in_braces, connection, connections, closing, ports, heading, network, packaged, whole, tree_in, variable_in, decls_in, parameter_in, parameters_in, instance_in, instances_in, end_in, sizes_in, connection_in, connections_in, net_in, with_ports, with_heading, part, expect, named, headed, size}
 use Rattle.nl_grammar.proofs.Called.{called_is, name_is}
 
 -- a part of the grammar: tokens up to others, what they spell, and how high it is
@@ -58,6 +58,10 @@ pub data Begun : List Placed → List Placed → List Parameter → ℕ → Type
 abbrev pub IsEndOf : List Placed → List Placed → End → ℕ → Type 0
 IsEndOf a b e h = IsEnd a b e
 
+-- the value of an attribute, behind its name
+pub data IsValue : List Placed → List Placed → Tree → ℕ → Type 0 where
+  the_value : {q r : ℕ} {a b : List Placed} {x : Tree} → Spells an_expr a (placed Lexeme.Semicolon r ∷ b) x → IsValue (placed Lexeme.Equal q ∷ a) b x (height x)
+
 abbrev pub IsClosing : List Placed → List Placed → Found → ℕ → Type 0
 IsClosing a b y h = IsClosed a b
 
@@ -96,6 +100,7 @@ Keeps m (own parameters) ts o = Meets AreParameters parameters_in 0 m ts o
 Keeps m (own (entity s q)) ts o = (r : ℕ) → Meets IsEntity instance_in 1 m (placed (Lexeme.Name s) q ∷ placed Lexeme.Equal r ∷ ts) o
 Keeps m (own (entities is)) ts o = (a : List Placed) (h : ℕ) → length ts ≤ length a → Repeated IsEntity a ts is h → h ≤ m → Meets (UpTo structure_word (Repeated IsEntity)) instances_in 1 m a o
 Keeps m (own end_of) ts o = Meets IsEndOf end_in 1 m ts o
+Keeps m (own attribute) ts o = Meets IsValue tree_in 1 m ts o
 Keeps m (own (attributes zs)) ts o = (a : List Placed) (h : ℕ) → length ts ≤ length a → AreAttributes a ts zs h → h ≤ m → Meets AreAttributes sizes_in 0 m a o
 Keeps m (own in_braces) ts o = Meets InBraces sizes_in 0 m ts o
 Keeps m (own connection) ts o = Meets IsConnection connection_in 1 m ts o
@@ -117,6 +122,7 @@ nothing_spent m parameters ts = tt
 nothing_spent m (entity s q) ts = λ r. tt
 nothing_spent m (entities is) ts = λ a h l b k. tt
 nothing_spent m end_of ts = tt
+nothing_spent m attribute ts = tt
 nothing_spent m (attributes zs) ts = λ a h l b k. tt
 nothing_spent m in_braces ts = tt
 nothing_spent m connection ts = tt

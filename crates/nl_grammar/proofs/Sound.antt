@@ -13,9 +13,9 @@ use Rattle.cal_grammar.specs.Spells.{Spells, any, comma, an_expr, a_param, a_por
 use Rattle.fnl_frames.specs.Net.{Net, Decl, a_decl, Parameter, a_parameter, Instance, an_instance, Size, Connection, a_connection}
 use Rattle.nl_grammar.specs.Headings.{is_called, network_word, entities_word, structure_word}
 use Rattle.nl_grammar.specs.Spells.{Repeated, the_none, the_next, IsVariable, the_variable, AreVariables, the_no_variables, the_variables, IsParameter, the_parameter, SomeParameters, the_first, the_more, AreParameters, the_no_parameters, the_parameters, IsEntity, the_entity, End, an_end, IsEnd, the_own_port, the_port_of, asked, AreAttributes, the_no_attributes, the_next_attribute, InBraces, the_no_braces, the_braces, IsConnection, the_connection, IsClosed, the_end, the_named_end, IsNetwork, the_network, IsText, the_text, the_packaged_text, class_text}
-use Rattle.nl_grammar.specs.Rules.{Found, a_variable, one_parameter, one_instance, a_net, nothing, Own, Rule, Step, part, on, expect, own, variable, variables, declared, parameter, more_parameters, parameters, entity, entities, end_of, attributes, in_braces, connection, connections, closing, ports, heading, network, packaged, whole, variable_in, decls_in, parameter_in, parameters_in, instance_in, instances_in, end_in, sizes_in, connection_in, connections_in, net_in, with_ports, with_heading, with_body, connected, instance_of, port_of, place_of, value_body, headed_body, body, size}
+use Rattle.nl_grammar.specs.Rules.{Found, a_tree, tree_in, a_variable, one_parameter, one_instance, a_net, nothing, Own, Rule, Step, part, on, expect, own, variable, variables, declared, parameter, more_parameters, parameters, entity, entities, end_of, attribute, attributes, in_braces, connection, connections, closing, ports, heading, network, packaged, whole, variable_in, decls_in, parameter_in, parameters_in, instance_in, instances_in, end_in, sizes_in, connection_in, connections_in, net_in, with_ports, with_heading, with_body, connected, instance_of, port_of, place_of, value_body, headed_body, body, size}
 use Rattle.nl_grammar.proofs.Called.{called_is}
-use Rattle.nl_grammar.proofs.Meets.{IsRead, Meets, UpTo, up_to, Behind, IsUnheaded, Begun, begun_none, begun_some, IsEndOf, IsClosing, ArePorts, the_ports, IsHeading, the_heading, IsPackaged, the_no_package, the_package, MeetsWhole, Keeps, Shows, gives, fails, asks, jumps, word_or, name_or, called_or, expects, names_next, reads_part, reads_own, with_part, with_own}
+use Rattle.nl_grammar.proofs.Meets.{IsRead, Meets, UpTo, up_to, Behind, IsUnheaded, Begun, begun_none, begun_some, IsEndOf, IsValue, the_value, IsClosing, ArePorts, the_ports, IsHeading, the_heading, IsPackaged, the_no_package, the_package, MeetsWhole, Keeps, Shows, gives, fails, asks, jumps, word_or, name_or, called_or, expects, names_next, reads_part, reads_own, with_part, with_own}
 
 -- the facts of a rule at ts
 abbrev Kept : ℕ → Own → List Placed → Type 0
@@ -166,17 +166,27 @@ end_kept m a =
     (λ e. gives s m _ _ _ (record { high = 0; spelled = the_own_port; low = omega arith; taken = omega arith })))
     (λ e. fails s m _ _ tt)
 
+attribute_kept : (m : ℕ) (a : List Placed) → Kept m attribute a
+attribute_kept m a =
+    let s = size attribute a in
+    word_or s m Lexeme.Equal (λ l. Unit {0}) (λ l. Keeps m (own attribute) l) _ _ a tt
+    (λ q b n f. with_part s m IsValue tree_in 1 an_expr (placed Lexeme.Equal q ∷ b) b _ (omega arith) λ x c hx lx tx.
+    expects s m Lexeme.Semicolon (λ l. Spells an_expr b l x) (Meets IsValue tree_in 1 m (placed Lexeme.Equal q ∷ b)) _ c tt hx λ r d n2 hx2.
+    gives s m (a_tree x) _ _ (record { high = height x; spelled = the_value hx2; low = lx; taken = omega arith }))
+    (λ e. fails s m _ _ tt)
+
+-- one attribute more
+valued : (s : List ℕ) (q : ℕ) (x : Tree) (zs : List Size) (a b c : List Placed) (h k : ℕ) → AreAttributes a (placed (Lexeme.Name s) q ∷ b) zs h → IsValue b c x k → AreAttributes a c (zs ++ asked s x q) (max h k)
+valued s q x zs a _ c h _ g (the_value hx) = the_next_attribute g hx
+
 attributes_kept : (m : ℕ) (zs : List Size) (ts : List Placed) → Kept m (attributes zs) ts
 attributes_kept m zs ts =
     let s = size (attributes zs) ts in
     name_or s m (λ l. length l ≡ length ts) (λ l. Keeps m (own (attributes zs)) l) _ _ ts refl
-    (λ text q b n f. word_or s m Lexeme.Equal (λ l. length l ≡ length b) (λ l. Keeps m (own (attributes zs)) (placed (Lexeme.Name text) q ∷ l)) _ _ b refl
-    (λ r c n2 f2.
-    let Q = Keeps m (own (attributes zs)) (placed (Lexeme.Name text) q ∷ placed Lexeme.Equal r ∷ c) in
-    reads_part s m an_expr c _ Q (λ left a h inside g low. tt) (λ left far there a h inside g low. record { far = omega arith; at_token = there }) λ x d hx lx tx.
-    expects s m Lexeme.Semicolon (λ l. Spells an_expr c l x) Q _ d (λ a h inside g low. tt) hx λ t e n3 hx2.
-    jumps s m (attributes (zs ++ asked text x q)) _ _ (omega arith) (λ o k a h inside g low. k a (max h (height x)) (omega arith) (the_next_attribute g hx2) (omega arith)))
-    (λ e. fails s m _ _ (λ a h inside g low. tt)))
+    (λ text q b n f.
+    let Q = Keeps m (own (attributes zs)) (placed (Lexeme.Name text) q ∷ b) in
+    reads_own s m IsValue tree_in 1 attribute b b _ Q (omega arith) (λ o g. g) (λ left a h inside g low. tt) (λ left far there a h inside g low. record { far = omega arith; at_token = there }) λ y left k v less t.
+    jumps s m (attributes (zs ++ asked text (tree_in y) q)) _ _ (omega arith) (λ o g a h inside u low. g a (max h k) (omega arith) (valued text q (tree_in y) zs a b left h k u v) (omega arith)))
     (λ e. gives s m _ _ _ (λ a h inside g low. record { high = h; spelled = g; low = low; taken = omega arith }))
 
 in_braces_kept : (m : ℕ) (a : List Placed) → Kept m in_braces a
@@ -308,6 +318,7 @@ kept m parameters ts = parameters_kept m ts
 kept m (entity s q) ts = entity_kept m s q ts
 kept m (entities is) ts = entities_kept m is ts
 kept m end_of ts = end_kept m ts
+kept m attribute ts = attribute_kept m ts
 kept m (attributes zs) ts = attributes_kept m zs ts
 kept m in_braces ts = in_braces_kept m ts
 kept m connection ts = connection_kept m ts

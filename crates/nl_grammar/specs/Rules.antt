@@ -102,6 +102,8 @@ pub data Own : Type 0 where
   entity : List ℕ → ℕ → Own
   entities : List Instance → Own
   end_of : Own
+  -- the value of an attribute behind its name, and attributes
+  attribute : Own
   attributes : List Size → Own
   in_braces : Own
   connection : Own
@@ -206,15 +208,15 @@ end_body = named
     (λ t. on Lexeme.Dot (named (λ u. give (one_end (an_end (text_of t) (text_of u) (offset t)))))
     (give (one_end (an_end [] (text_of t) (offset t)))))
 
--- {Attribute}
 -- Attribute  = Name "=" Expr ";"
-abbrev pub attribute_rest : (Tree → Step) → Step
-attribute_rest next = expect Lexeme.Equal (part an_expr (λ x. expect Lexeme.Semicolon (next x)))
+abbrev pub attribute_body : Step
+attribute_body = expect Lexeme.Equal (part an_expr (λ x. expect Lexeme.Semicolon (give (a_tree x))))
 
+-- {Attribute}
 abbrev pub attributes_body : List Size → Step
 attributes_body zs = ask (here names)
-    (take (λ t. attribute_rest
-    (λ x. jump (own (attributes (zs ++ asked (text_of t) x (offset t)))))))
+    (take (λ t. invoke (own attribute)
+    (λ y. jump (own (attributes (zs ++ asked (text_of t) (tree_in y) (offset t)))))))
     (give (some_sizes zs))
 
 -- Attributes = ["{" {Attribute} "}"]
@@ -319,6 +321,7 @@ body parameters = parameters_body
 body (entity s q) = entity_body s q
 body (entities is) = entities_body is
 body end_of = end_body
+body attribute = attribute_body
 body (attributes zs) = attributes_body zs
 body in_braces = in_braces_body
 body connection = connection_body

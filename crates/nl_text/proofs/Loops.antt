@@ -1,7 +1,7 @@
 -- Loops over the parts of a list: what a turn does, and what an exit gives.
-use Rattle.std.proofs.Common.{◌≡◌, ℕ, Bool, true, false, List, [], ◌∷◌, ◌++◌, map, Result, Ok, Err, string_bytes, refl, sym, ap, ◌∙◌}
+use Rattle.std.proofs.Common.{◌≡◌, ℕ, suc, ◌+◌, ◌<◌, ◌≤◌, length, arith, Bool, true, false, List, [], ◌∷◌, ◌++◌, map, Result, Ok, Err, string_bytes, refl, sym, ap, ◌∙◌}
 use Rattle.std.proofs.lemmas.List.{map-append}
-use Rattle.cal_grammar.specs.Program.{Outcome, Gave, Refused, TooHigh, ahead, exec}
+use Rattle.cal_grammar.specs.Program.{Outcome, Gave, Refused, TooHigh, ahead, exec, give, jump}
 use Rattle.cal_grammar.specs.Rules as cal
 use Rattle.cal_grammar.specs.Spells.{an_expr}
 use Rattle.cal_grammar.specs.Token.{names, same_word}
@@ -17,11 +17,13 @@ use Rattle.cal_parse_base.specs.declared.fault.Fault.{Fault}
 use Rattle.cal_parse_base.specs.declared.fault.Fault.TheVariants as faults
 use Rattle.fnl_frames.specs.Net.{Decl, Parameter, Instance, Size, Connection}
 use Rattle.nl_grammar.specs.Headings.{is_called, entities_word, structure_word}
-use Rattle.nl_grammar.specs.Rules.{Found, a_variable, some_decls, one_parameter, some_parameters, one_instance, some_instances, some_sizes, one_connection, some_connections, Own, Step, variable, variables, parameter, more_parameters, entity, entities, attributes, connection, connections, attribute_rest, headed_body, read, reads}
-use Rattle.nl_grammar.specs.Spells.{asked}
-use Rattle.nl_grammar.proofs.Reading.{read_is}
+use Rattle.nl_grammar.specs.Rules.{Found, a_tree, a_variable, some_decls, one_parameter, some_parameters, one_instance, some_instances, some_sizes, one_connection, some_connections, Own, Step, variable, variables, parameter, more_parameters, entity, entities, attribute, attributes, connection, connections, own, on, headed_body, tree_in, variable_in, parameter_in, instance_in, connection_in, read, reads}
+use Rattle.nl_grammar.specs.Spells.{asked, IsParameter, IsConnection, IsEntity}
+use Rattle.nl_grammar.proofs.Reading.{read_is, read_keeps}
+use Rattle.cal_parse_base.proofs.Taking.{length-plain}
+use Rattle.nl_grammar.proofs.Meets.{Meets, IsUnheaded, IsValue}
 use Rattle.nl_text.specs.SoFar.{HasRead}
-use Rattle.nl_text.specs.Tells.{TellsFault, Does, LeadsValue}
+use Rattle.nl_text.specs.Tells.{TellsFault, Does}
 
 -- an outcome is another's
 pub fault_on : (fault : Fault) (new : List Token) (o n : Outcome Placed Found) → o ≡ n → TellsFault fault new n → TellsFault fault new o
@@ -69,7 +71,9 @@ module _ (m : ℕ) where
       rw (read_is m (more_parameters ps) (plain_tokens now), e', exec) refl
 
   pub last_parameter : (ps : List Parameter) (p : Parameter) (now new : List Token) → read m parameter (plain_tokens now) ≡ Gave (one_parameter p) (plain_tokens new) → stands (same_word Lexeme.Comma) new ≡ false → read m (more_parameters ps) (plain_tokens now) ≡ Gave (some_parameters (ps ++ p ∷ [])) (plain_tokens new)
-  last_parameter ps p now new e none = rw (read_is m (more_parameters ps) (plain_tokens now), e, none, exec) refl
+  last_parameter ps p now new e none =
+      let last : exec reads m (on Lexeme.Comma (jump (own (more_parameters (ps ++ p ∷ [])))) (give (some_parameters (ps ++ p ∷ [])))) (plain_tokens new) ≡ Gave (some_parameters (ps ++ p ∷ [])) (plain_tokens new) = rw (none, exec) refl in
+      rw (read_is m (more_parameters ps) (plain_tokens now), e, exec) last
 
   pub no_parameter : (ps : List Parameter) (now new : List Token) (fault : Fault) → TellsFault fault new (read m parameter (plain_tokens now)) → TellsFault fault new (read m (more_parameters ps) (plain_tokens now))
   no_parameter ps now new faults.Refused h = rw (read_is m (more_parameters ps) (plain_tokens now), h, exec) refl
@@ -110,13 +114,19 @@ module _ (m : ℕ) where
 
   -- ---- attributes
 
-  pub one_attribute : (zs : List Size) (s : List ℕ) (q : ℕ) (x : Tree) (now mid new : List Token) → Took (Lexeme.Name s) q now mid → ((next : Tree → Step) → exec reads m (attribute_rest next) (plain_tokens mid) ≡ exec reads m (next x) (plain_tokens new)) → read m (attributes zs) (plain_tokens now) ≡ read m (attributes (zs ++ asked s x q)) (plain_tokens new)
-  one_attribute zs s q x now mid new named leads =
-      let there : read m (attributes zs) (placed (Lexeme.Name s) q ∷ plain_tokens mid) ≡ read m (attributes (zs ++ asked s x q)) (plain_tokens new) = read_is m (attributes zs) (placed (Lexeme.Name s) q ∷ plain_tokens mid) ∙ leads _ in
+  pub one_attribute : (zs : List Size) (s : List ℕ) (q : ℕ) (x : Tree) (now mid new : List Token) → Took (Lexeme.Name s) q now mid → read m attribute (plain_tokens mid) ≡ Gave (a_tree x) (plain_tokens new) → read m (attributes zs) (plain_tokens now) ≡ read m (attributes (zs ++ asked s x q)) (plain_tokens new)
+  one_attribute zs s q x now mid new named e =
+      let there : read m (attributes zs) (placed (Lexeme.Name s) q ∷ plain_tokens mid) ≡ read m (attributes (zs ++ asked s x q)) (plain_tokens new) = rw (read_is m (attributes zs) (placed (Lexeme.Name s) q ∷ plain_tokens mid), e, exec) refl in
       ap (λ l. read m (attributes zs) l) named ∙ there
 
-  pub no_attribute : (zs : List Size) (s : List ℕ) (q : ℕ) (now mid new : List Token) (fault : Fault) → Took (Lexeme.Name s) q now mid → ((next : Tree → Step) → TellsFault fault new (exec reads m (attribute_rest next) (plain_tokens mid))) → TellsFault fault new (read m (attributes zs) (plain_tokens now))
-  no_attribute zs s q now mid new fault named fails = fault_on fault new _ _ (ap (λ l. read m (attributes zs) l) named ∙ read_is m (attributes zs) (placed (Lexeme.Name s) q ∷ plain_tokens mid)) (fails _)
+  pub no_attribute : (zs : List Size) (s : List ℕ) (q : ℕ) (now mid new : List Token) (fault : Fault) → Took (Lexeme.Name s) q now mid → TellsFault fault new (read m attribute (plain_tokens mid)) → TellsFault fault new (read m (attributes zs) (plain_tokens now))
+  no_attribute zs s q now mid new faults.Refused named h =
+      let there : read m (attributes zs) (placed (Lexeme.Name s) q ∷ plain_tokens mid) ≡ Refused (plain_tokens new) = rw (read_is m (attributes zs) (placed (Lexeme.Name s) q ∷ plain_tokens mid), h, exec) refl in
+      ap (λ l. read m (attributes zs) l) named ∙ there
+  no_attribute zs s q now mid new faults.TooHigh named h =
+      let there : read m (attributes zs) (placed (Lexeme.Name s) q ∷ plain_tokens mid) ≡ TooHigh (plain_tokens new) = rw (read_is m (attributes zs) (placed (Lexeme.Name s) q ∷ plain_tokens mid), h, exec) refl in
+      ap (λ l. read m (attributes zs) l) named ∙ there
+  no_attribute zs s q now mid new faults.Memory named h = tt
 
   pub all_attributes : (zs : List Size) (now : List Token) → stands names now ≡ false → read m (attributes zs) (plain_tokens now) ≡ Gave (some_sizes zs) (plain_tokens now)
   all_attributes zs now none = rw (read_is m (attributes zs) (plain_tokens now), none, exec) refl
@@ -133,3 +143,30 @@ module _ (m : ℕ) where
 
   pub all_connections : (cs : List Connection) (now : List Token) → stands names now ≡ false → read m (connections cs) (plain_tokens now) ≡ Gave (some_connections cs) (plain_tokens now)
   all_connections cs now none = rw (read_is m (connections cs) (plain_tokens now), none, exec) refl
+
+-- ---- loops end, since each turn takes tokens
+
+taken_less : {X : Type 0} (R : List Placed → List Placed → X → ℕ → Type 0) (view : Found → X) (m : ℕ) (y : Found) (old new : List Token) (o : Outcome Placed Found) → Meets R view 1 m (plain_tokens old) o → o ≡ Gave y (plain_tokens new) → length new < length old
+taken_less R view m y old new o k e =
+    let g : Meets R view 1 m (plain_tokens old) (Gave y (plain_tokens new)) = rw e at k in
+    let t : 1 + length (plain_tokens new) ≤ length (plain_tokens old) = g.taken in
+    omega (arith, length-plain old, length-plain new)
+
+pub variable_less : (m : ℕ) (y : Found) (old new : List Token) → read m variable (plain_tokens old) ≡ Gave y (plain_tokens new) → length new < length old
+variable_less m y old new e = taken_less IsUnheaded variable_in m y old new (read m variable (plain_tokens old)) (read_keeps m variable (plain_tokens old)) e
+
+pub parameter_less : (m : ℕ) (y : Found) (old new : List Token) → read m parameter (plain_tokens old) ≡ Gave y (plain_tokens new) → length new < length old
+parameter_less m y old new e = taken_less IsParameter parameter_in m y old new (read m parameter (plain_tokens old)) (read_keeps m parameter (plain_tokens old)) e
+
+pub attribute_less : (m : ℕ) (y : Found) (old new : List Token) → read m attribute (plain_tokens old) ≡ Gave y (plain_tokens new) → length new < length old
+attribute_less m y old new e = taken_less IsValue tree_in m y old new (read m attribute (plain_tokens old)) (read_keeps m attribute (plain_tokens old)) e
+
+pub connection_less : (m : ℕ) (y : Found) (old new : List Token) → read m connection (plain_tokens old) ≡ Gave y (plain_tokens new) → length new < length old
+connection_less m y old new e = taken_less IsConnection connection_in m y old new (read m connection (plain_tokens old)) (read_keeps m connection (plain_tokens old)) e
+
+pub entity_less : (m : ℕ) (s : List ℕ) (q : ℕ) (y : Found) (old new : List Token) → read m (entity s q) (plain_tokens old) ≡ Gave y (plain_tokens new) → length new ≤ suc (length old)
+entity_less m s q y old new e =
+    let k : Meets IsEntity instance_in 1 m (placed (Lexeme.Name s) q ∷ placed Lexeme.Equal 0 ∷ plain_tokens old) (read m (entity s q) (plain_tokens old)) = read_keeps m (entity s q) (plain_tokens old) 0 in
+    let g : Meets IsEntity instance_in 1 m (placed (Lexeme.Name s) q ∷ placed Lexeme.Equal 0 ∷ plain_tokens old) (Gave y (plain_tokens new)) = rw e at k in
+    let t : 1 + length (plain_tokens new) ≤ suc (suc (length (plain_tokens old))) = g.taken in
+    omega (arith, length-plain old, length-plain new)

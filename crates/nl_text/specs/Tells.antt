@@ -5,7 +5,6 @@ use Rattle.std.specs.declared.alloc.Global.{Global}
 use Rattle.cal_grammar.specs.Program.{Outcome, Gave, Refused, TooHigh, exec}
 use Rattle.cal_ast.specs.View.{expr_tree}
 use Rattle.cal_ast.specs.declared.expr.Expr.{Expr}
-use Rattle.cal_ast.specs.Tree.{Tree}
 use Rattle.cal_lexer.specs.Lexeme.{Lexeme, Placed, plain_tokens}
 use Rattle.cal_lexer.specs.declared.token.Token.{Token}
 use Rattle.cal_parse_base.specs.Cursor.{Stays, Took}
@@ -21,7 +20,7 @@ use Rattle.fnl_frames.specs.declared.net.NetPort.{NetPort}
 use Rattle.fnl_frames.specs.declared.net.NetSize.{NetSize}
 use Rattle.nl_grammar.specs.Headings.{is_called}
 use Rattle.nl_grammar.specs.Spells.{End, an_end}
-use Rattle.nl_grammar.specs.Rules.{Found, a_variable, some_decls, one_parameter, some_parameters, one_instance, some_instances, one_end, some_sizes, one_connection, some_connections, a_net, nothing, Own, Step, attribute_rest, read, reads}
+use Rattle.nl_grammar.specs.Rules.{Found, a_tree, a_variable, some_decls, one_parameter, some_parameters, one_instance, some_instances, one_end, some_sizes, one_connection, some_connections, a_net, nothing, Own, Step, read, reads}
 use Rattle.nl_text.specs.declared.connections.PortEnd.{PortEnd}
 use Rattle.nl_text.specs.declared.network.Heading.{Heading}
 
@@ -49,15 +48,10 @@ abbrev pub Does : {A : Type 0} → (A → Found) → ℕ → Step → Result A F
 Does view m p (Ok x) old new = exec reads m p (plain_tokens old) ≡ Gave (view x) (plain_tokens new)
 Does view m p (Err fault) old new = TellsFault fault new (exec reads m p (plain_tokens old))
 
--- the value of an attribute is read, whatever goes on behind it
-abbrev pub LeadsValue : ℕ → Result Expr Fault → List Token → List Token → Type 0
-LeadsValue m (Ok x) old new = (next : Tree → Step)
-    → exec reads m (attribute_rest next) (plain_tokens old)
-    ≡ exec reads m (next (expr_tree x)) (plain_tokens new)
-LeadsValue m (Err fault) old new = (next : Tree → Step)
-    → TellsFault fault new (exec reads m (attribute_rest next) (plain_tokens old))
-
 -- what values stand for
+
+abbrev pub value_found : Expr → Found
+value_found x = a_tree (expr_tree x)
 
 abbrev pub variable_found : NetDecl → Found
 variable_found d = a_variable (decl_of d)

@@ -5,7 +5,7 @@ ghost use Rattle.cal_ast.specs.View.{expr_tree};
 ghost use Rattle.fnl_frames.specs.Views.{size_of};
 ghost use Rattle.nl_grammar.specs.Rules as rules;
 ghost use Rattle.nl_grammar.specs.Spells as grammar;
-ghost use Rattle.nl_text.specs.Tells.{LeadsValue, Tells, connection_found, connections_found, end_found, end_of, sizes_found};
+ghost use Rattle.nl_text.specs.Tells.{Tells, connection_found, connections_found, end_found, end_of, sizes_found, value_found};
 
 use crate::headings::is_named;
 use cal_lexer::{Token, Word};
@@ -131,8 +131,9 @@ fn attributes(alloc: Global, tokens: &mut &[Token], room: u32) -> Result<Vec<Net
 }
 
 /// The value of an attribute, behind its name.
+#[tactic(auto, using(nl_grammar::proofs::Reading::read_is))]
 fn attribute_value(alloc: Global, tokens: &mut &[Token], room: u32) -> Result<Expr, Fault>
-    ensures { LeadsValue room result tokens.old.now tokens.new.now }
+    ensures { Tells value_found room rules.attribute result tokens.old.now tokens.new.now }
 {
     expect(tokens, Word::Equal)?;
     let value = expr(alloc, tokens, room)?;
