@@ -1,7 +1,7 @@
 -- Whatever is spelled is read.
-use Rattle.std.proofs.Common.{◌≡◌, ℕ, max, ◌≤◌, ◌⊎◌, inl, inr, Bool, true, false, List, [], ◌∷◌, ◌++◌, append_assoc, refl, sym, ap, ◌∙◌, subst, arith}
+use Rattle.std.proofs.Common.{◌≡◌, ℕ, ◌≤◌, ◌⊎◌, inl, inr, Bool, true, false, List, [], ◌∷◌, ◌++◌, append_assoc, refl, sym, ap, ◌∙◌, arith}
 use Rattle.std.proofs.lemmas.List.{append-nil}
-use Rattle.cal_grammar.specs.Program.{Outcome, Gave, ahead, exec, after, give, jump}
+use Rattle.cal_grammar.specs.Program.{Gave, ahead, exec, give, jump}
 use Rattle.cal_ast.specs.Tree.{Tree, present}
 use Rattle.cal_ast.specs.Places.{begins}
 use Rattle.cal_lexer.specs.Lexeme.{Lexeme, Placed, placed}
@@ -11,11 +11,11 @@ use Rattle.cal_grammar.specs.Rules as cal
 use Rattle.cal_grammar.specs.Spells.{Part, Spells, any, comma, an_expr, a_param, a_port, a_tag, a_type, the_tag}
 use Rattle.cal_grammar.proofs.Claims.{closes}
 use Rattle.cal_grammar.proofs.Complete.{complete}
-use Rattle.cal_grammar.proofs.Follow.{seen, may_follow, begins_with}
-use Rattle.fnl_frames.specs.Net.{Net, Decl, a_decl, Parameter, a_parameter, Instance, an_instance, Size, Connection, a_connection}
+use Rattle.cal_grammar.proofs.Follow.{seen, may_follow}
+use Rattle.fnl_frames.specs.Net.{Net, Decl, a_decl, Parameter, Instance, an_instance, Size, Connection}
 use Rattle.nl_grammar.specs.Headings.{is_called, network_word, entities_word, structure_word}
-use Rattle.nl_grammar.specs.Spells.{Repeated, the_none, the_next, IsVariable, the_variable, AreVariables, the_no_variables, the_variables, IsParameter, the_parameter, SomeParameters, the_first, the_more, AreParameters, the_no_parameters, the_parameters, IsEntity, the_entity, End, an_end, IsEnd, the_own_port, the_port_of, asked, AreAttributes, the_no_attributes, the_next_attribute, InBraces, the_no_braces, the_braces, IsConnection, the_connection, IsClosed, the_end, the_named_end, IsNetwork, the_network, IsText, the_text, the_packaged_text, class_text, net_ports, param_decls}
-use Rattle.nl_grammar.specs.Rules.{Found, a_tree, a_variable, some_decls, one_parameter, some_parameters, one_instance, some_instances, one_end, some_sizes, one_connection, some_connections, a_net, nothing, Own, variable, variables, declared, parameter, more_parameters, parameters, entity, entities, end_of, attribute, attributes, in_braces, connection, connections, closing, ports, heading, network, packaged, whole, own, on, with_ports, with_heading, with_body, read, reads, lift}
+use Rattle.nl_grammar.specs.Spells.{Repeated, the_none, the_next, IsVariable, the_variable, AreVariables, the_no_variables, the_variables, IsParameter, the_parameter, SomeParameters, the_first, the_more, AreParameters, the_no_parameters, the_parameters, IsEntity, the_entity, End, an_end, IsEnd, the_own_port, the_port_of, AreAttributes, the_no_attributes, the_next_attribute, InBraces, the_no_braces, the_braces, IsConnection, the_connection, IsClosed, the_end, the_named_end, IsNetwork, the_network, IsText, the_text, the_packaged_text, class_text, param_decls}
+use Rattle.nl_grammar.specs.Rules.{a_tree, a_variable, some_decls, one_parameter, some_parameters, one_instance, some_instances, one_end, some_sizes, one_connection, some_connections, a_net, nothing, variable, variables, declared, parameter, more_parameters, parameters, entity, entities, end_of, attribute, attributes, in_braces, connection, connections, closing, ports, heading, network, packaged, whole, own, on, with_ports, with_heading, read, reads}
 use Rattle.nl_grammar.proofs.Called.{sign_is}
 use Rattle.nl_grammar.proofs.Reading.{read_is}
 

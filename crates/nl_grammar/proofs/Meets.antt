@@ -1,20 +1,19 @@
 -- What each rule keeps to, and how that is shown of a program step by step.
-use Rattle.std.proofs.Common.{◌≡◌, ℕ, zero, suc, max, ◌+◌, ◌-◌, ◌*◌, ◌<◌, ◌≤◌, Bool, true, false, List, [], ◌∷◌, ◌++◌, length, Option, refl, sym, subst, arith}
+use Rattle.std.proofs.Common.{◌≡◌, ℕ, suc, max, ◌+◌, ◌<◌, ◌≤◌, Bool, true, false, List, [], ◌∷◌, ◌++◌, length, Option, refl, sym, subst, arith}
 use Rattle.cal_grammar.specs.Program.{Outcome, give, fail, ask, take, jump, invoke, Gave, Refused, TooHigh, Spent, ahead}
 use Rattle.cal_grammar.proofs.Gets.{Gets}
 use Rattle.cal_grammar.proofs.Meets.{IsFar, IsRead as IsTreeRead}
 use Rattle.cal_grammar.proofs.Costs.{costs, takes}
 use Rattle.cal_grammar.proofs.Words.{same_is}
 use Rattle.cal_ast.specs.Tree.{Tree}
-use Rattle.cal_ast.specs.Places.{begins}
 use Rattle.cal_lexer.specs.Lexeme.{Lexeme, Placed, placed}
 use Rattle.cal_grammar.specs.Token.{here, names, same_word}
 use Rattle.cal_grammar.specs.Operators.{height}
 use Rattle.cal_grammar.specs.Spells.{Part, Spells, any, comma, an_expr, a_param, a_port, a_tag}
-use Rattle.fnl_frames.specs.Net.{Net, Decl, Parameter, Instance, Size, Connection}
+use Rattle.fnl_frames.specs.Net.{Net, Decl, Parameter}
 use Rattle.nl_grammar.specs.Headings.{is_called, network_word, entities_word, structure_word}
 use Rattle.nl_grammar.specs.Spells.{Repeated, IsVariable, AreVariables, IsParameter, SomeParameters, AreParameters, IsEntity, End, IsEnd, AreAttributes, InBraces, IsConnection, IsClosed, IsNetwork, IsText}
-use Rattle.nl_grammar.specs.Rules.{Found, Own, Rule, Step, language, own, variable, variables, declared, parameter, more_parameters, parameters, entity, entities, end_of, attribute, attributes, in_braces, connection, connections, closing, ports, heading, network, packaged, whole, tree_in, variable_in, decls_in, parameter_in, parameters_in, instance_in, instances_in, end_in, sizes_in, connection_in, connections_in, net_in, with_ports, with_heading, part, expect, named, headed, size}
+use Rattle.nl_grammar.specs.Rules.{Found, Own, Rule, Step, language, own, variable, variables, declared, parameter, more_parameters, parameters, entity, entities, end_of, attribute, attributes, in_braces, connection, connections, closing, ports, heading, network, packaged, whole, tree_in, variable_in, decls_in, parameter_in, parameters_in, instance_in, instances_in, end_in, sizes_in, connection_in, connections_in, net_in, with_ports, with_heading, part, expect, named, size}
 use Rattle.nl_grammar.proofs.Called.{called_is, name_is}
 
 -- a part of the grammar: tokens up to others, what they spell, and how high it is

@@ -1,6 +1,6 @@
 -- The reader: reading a rule is running its program, and what is read keeps to the rule.
-use Rattle.std.proofs.Common.{◌≡◌, ℕ, zero, suc, ◌-◌, ◌<◌, ◌≤◌, List, ◌++◌, refl, ap, arith}
-use Rattle.cal_grammar.specs.Program.{Outcome, Gave, Refused, TooHigh, Spent, ahead, exec}
+use Rattle.std.proofs.Common.{◌≡◌, ℕ, zero, suc, ◌<◌, ◌≤◌, List, refl, ap, arith}
+use Rattle.cal_grammar.specs.Program.{Outcome, Gave, Refused, TooHigh, Spent, exec}
 use Rattle.cal_grammar.specs.Rules as cal
 use Rattle.cal_grammar.specs.Spells.{Part}
 use Rattle.cal_grammar.proofs.Gets.{Gets, gets_outcome}
@@ -11,7 +11,7 @@ use Rattle.cal_grammar.proofs.Meets.{Meets as MeetsPart, Keeps as LanguageKeeps,
 use Rattle.cal_grammar.proofs.Reading.{gets as language_gets, read_keeps as language_keeps}
 use Rattle.cal_ast.specs.Tree.{Tree}
 use Rattle.cal_lexer.specs.Lexeme.{Placed}
-use Rattle.nl_grammar.specs.Rules.{Found, a_tree, Own, Rule, language, own, body, size, lift, go, read, reads}
+use Rattle.nl_grammar.specs.Rules.{Own, Rule, language, own, body, size, lift, go, read, reads}
 use Rattle.nl_grammar.proofs.Meets.{Keeps, MeetsTree, MayCall, nothing_spent}
 use Rattle.nl_grammar.proofs.Sound.{kept}
 

@@ -1,21 +1,19 @@
 -- What the rules keep to.
-use Rattle.std.proofs.Common.{◌≡◌, ℕ, suc, max, ◌+◌, ◌<◌, ◌≤◌, ◌⊎◌, inl, inr, Bool, true, false, List, [], ◌∷◌, ◌++◌, length, Option, None, Some, append_assoc, refl, sym, ap, ◌∙◌, subst, arith}
+use Rattle.std.proofs.Common.{◌≡◌, ℕ, suc, max, ◌+◌, ◌<◌, ◌≤◌, Bool, true, false, List, [], ◌∷◌, ◌++◌, length, append_assoc, refl, sym, ap, ◌∙◌, subst, arith}
 use Rattle.std.proofs.lemmas.List.{append-nil}
-use Rattle.cal_grammar.specs.Program.{Outcome, Gave, Refused, TooHigh, Spent, ahead, give, fail, ask, invoke, jump}
-use Rattle.cal_grammar.proofs.Meets.{IsFar}
+use Rattle.cal_grammar.specs.Program.{Outcome, Gave, Refused, TooHigh, Spent, give, fail, ask, invoke, jump}
 use Rattle.cal_ast.specs.Tree.{Tree, present}
 use Rattle.cal_ast.specs.Places.{begins}
 use Rattle.cal_lexer.specs.Lexeme.{Lexeme, Placed, placed}
-use Rattle.cal_grammar.specs.Token.{here, names, same_word}
 use Rattle.cal_grammar.specs.Operators.{height}
 use Rattle.cal_grammar.specs.Rules.{at_end}
 use Rattle.cal_grammar.specs.Spells.{Spells, any, comma, an_expr, a_param, a_port, a_tag, a_type}
-use Rattle.fnl_frames.specs.Net.{Net, Decl, a_decl, Parameter, a_parameter, Instance, an_instance, Size, Connection, a_connection}
+use Rattle.fnl_frames.specs.Net.{Net, Decl, a_decl, Parameter, a_parameter, Instance, an_instance, Size, Connection}
 use Rattle.nl_grammar.specs.Headings.{is_called, network_word, entities_word, structure_word}
 use Rattle.nl_grammar.specs.Spells.{Repeated, the_none, the_next, IsVariable, the_variable, AreVariables, the_no_variables, the_variables, IsParameter, the_parameter, SomeParameters, the_first, the_more, AreParameters, the_no_parameters, the_parameters, IsEntity, the_entity, End, an_end, IsEnd, the_own_port, the_port_of, asked, AreAttributes, the_no_attributes, the_next_attribute, InBraces, the_no_braces, the_braces, IsConnection, the_connection, IsClosed, the_end, the_named_end, IsNetwork, the_network, IsText, the_text, the_packaged_text, class_text}
-use Rattle.nl_grammar.specs.Rules.{Found, a_tree, tree_in, a_variable, one_parameter, one_instance, a_net, nothing, Own, Rule, Step, part, on, expect, own, variable, variables, declared, parameter, more_parameters, parameters, entity, entities, end_of, attribute, attributes, in_braces, connection, connections, closing, ports, heading, network, packaged, whole, variable_in, decls_in, parameter_in, parameters_in, instance_in, instances_in, end_in, sizes_in, connection_in, connections_in, net_in, with_ports, with_heading, with_body, connected, instance_of, port_of, place_of, value_body, headed_body, body, size}
+use Rattle.nl_grammar.specs.Rules.{Found, a_tree, tree_in, a_variable, one_parameter, one_instance, a_net, nothing, Own, Step, part, on, expect, own, variable, variables, declared, parameter, more_parameters, parameters, entity, entities, end_of, attribute, attributes, in_braces, connection, connections, closing, ports, heading, network, packaged, whole, variable_in, decls_in, parameter_in, parameters_in, instance_in, instances_in, end_in, sizes_in, connection_in, connections_in, net_in, with_ports, with_heading, with_body, instance_of, port_of, place_of, value_body, headed_body, body, size}
 use Rattle.nl_grammar.proofs.Called.{called_is}
-use Rattle.nl_grammar.proofs.Meets.{IsRead, Meets, UpTo, up_to, Behind, IsUnheaded, Begun, begun_none, begun_some, IsEndOf, IsValue, the_value, IsClosing, ArePorts, the_ports, IsHeading, the_heading, IsPackaged, the_no_package, the_package, MeetsWhole, Keeps, Shows, gives, fails, asks, jumps, word_or, name_or, called_or, expects, names_next, reads_part, reads_own, with_part, with_own}
+use Rattle.nl_grammar.proofs.Meets.{Meets, UpTo, up_to, Behind, IsUnheaded, Begun, begun_none, begun_some, IsEndOf, IsValue, the_value, IsClosing, ArePorts, the_ports, IsHeading, the_heading, IsPackaged, the_no_package, the_package, MeetsWhole, Keeps, Shows, gives, fails, asks, jumps, word_or, name_or, called_or, expects, names_next, reads_part, reads_own, with_part, with_own}
 
 -- the facts of a rule at ts
 abbrev Kept : ℕ → Own → List Placed → Type 0

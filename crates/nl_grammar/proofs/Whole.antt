@@ -1,19 +1,17 @@
 -- A whole text: what its reading says.
 use Rattle.std.proofs.Common.{◌≡◌, ℕ, max, ◌+◌, ◌≤◌, List, [], ◌∷◌, ◌++◌, length, length-append, refl, sym, subst, ap, ◌∙◌, arith}
-use Rattle.rvc_base.specs.Rules.{spells_no_file, too_high}
 use Rattle.rvc_base.specs.declared.refusal.Rule.{Rule}
 use Rattle.cal_lexer.specs.Lexeme.{Placed}
-use Rattle.cal_lexer.specs.NetLexes.{lexes_net, faults_net}
 use Rattle.cal_lexer.proofs.NetOnce as lexed
 use Rattle.cal_grammar.specs.Operators.{max_height}
-use Rattle.cal_grammar.specs.Program.{Outcome, Gave, Refused, TooHigh, Spent, ahead}
+use Rattle.cal_grammar.specs.Program.{Outcome, Gave, Refused, TooHigh}
 use Rattle.cal_grammar.specs.Reading.{IsRefused, IsTooHigh}
 use Rattle.cal_grammar.proofs.Frames.{Framed, IsFramed}
 use Rattle.cal_grammar.proofs.Looser.{IsKept}
 use Rattle.cal_grammar.proofs.Meets.{IsFar}
 use Rattle.fnl_frames.specs.Net.{Net}
 use Rattle.nl_grammar.specs.Spells.{IsText, spells_nl}
-use Rattle.nl_grammar.specs.Laws.{Spelled, spells, high_of, IsTextNetwork, Breaks, breaks_off, grows_high, BreaksText, in_a_token, in_the_grammar}
+use Rattle.nl_grammar.specs.Laws.{spells, high_of, IsTextNetwork, Breaks, breaks_off, grows_high, BreaksText, in_a_token, in_the_grammar}
 use Rattle.nl_grammar.specs.Rules.{Found, a_net, net_in, whole, read}
 use Rattle.nl_grammar.proofs.Meets.{IsRead, MeetsWhole}
 use Rattle.nl_grammar.proofs.Reading.{read_keeps, read_framed, read_kept}

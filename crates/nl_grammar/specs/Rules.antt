@@ -14,7 +14,7 @@ use Rattle.cal_ast.specs.Places.{begins}
 use Rattle.cal_lexer.specs.Lexeme.{Lexeme, Placed}
 use Rattle.fnl_frames.specs.Net.{Net, Decl, a_decl, Parameter, a_parameter, Instance, an_instance, Size, Connection, a_connection, empty_net}
 use Rattle.nl_grammar.specs.Headings.{is_called, network_word, entities_word, structure_word}
-use Rattle.nl_grammar.specs.Spells.{End, an_end, asked, class_text, is_sign, net_ports, param_decls}
+use Rattle.nl_grammar.specs.Spells.{End, an_end, asked, class_text, net_ports, param_decls}
 
 -- what is found
 pub data Found : Type 0 where
