@@ -40,7 +40,7 @@ const NETWORKS: &str = r"
 # network T() ==> : var entities structure end
 = T@0
 # network T() ==> : entities a = p.q.A(K = if true then 1 else 2 end, L = f(1)); structure end
-= T@0 a@27=p.q.A@31(K@37=(if true@44 1@54 2@61)@41;L@68=(f 1@74)@72;)
+= T@0 a@27=p.q.A@31(K@37=(if true@44 1@54 2@61)@41;L@68=(call f 1@74)@72;)
 # network T() int In ==> int Out : entities a = C(); structure In --> a.In; a.Out --> Out { }; end
 = T@0 in int(0) In@12 out int(0) Out@23 a@42=C@46() .In>a.In@61[] a.Out>.Out@74[]
 # network T() ==> : entities structure a.b --> c.d { color = f(1); bufferSize = 4; buffersize = 0; bufferSize = 9; }; end
@@ -107,7 +107,7 @@ const REFUSALS: &str = r#"
 # network T() ==> : entities structure !{ end
 = L1 at 37
 # network T() ==> : entities a = A(K = 1.5); structure end
-= L4 at 38
+= L4 at 37
 # network T() ==> : entities aaaaaaaaaaaaaaaaaaaaaaaaaaaaaaaaaaaaaaaaaaaaaaaaaaaaaaaaaaaaaaaaaaaaaaaaaaaaaaaaaaaaaaaaaaaaaaaaaaaaaaaaaaaaaaaaaaaaaaaaaaaaaaaaaaaaaaaaaaaaaaaaaaaaaaaaaaaaaaaaaaaaaaaaaaaaaaaaaaaaaaaaaaaaaaaaaaaaaaaaaaaaaaaaaaaaaaaaaaaaaaaaaaaaaaaaaaaaaaaaaaaa = A(); structure end
 = Z11 at 27
 "#;
