@@ -44,14 +44,13 @@ const NETWORKS: &str = r"
 # network T() int In ==> int Out : entities a = C(); structure In --> a.In; a.Out --> Out { }; end
 = T@0 in int(0) In@12 out int(0) Out@23 a@42=C@46() .In>a.In@61[] a.Out>.Out@74[]
 # network T() ==> : entities structure a.b --> c.d { color = f(1); bufferSize = 4; buffersize = 0; bufferSize = 9; }; end
-= T@0 a.b>c.d@37[@66=4@79;@98=9@111;]
+= T@0 a.b>c.d@37[@65=4@78;@97=9@110;]
 # network T() ==> : entities structure structure.entities --> network; end
 = T@0 structure.entities>.network@37[]
 # network entities(int structure = 1) ==> : entities entities = A(); structure = B(); structure end
 = entities@0 param int(0) structure@17=1@33 entities@51=A@62() structure@67=B@79()
 # network T() ==> : var List(type:entities, size=1) a = 1; entities structure end
-= T@0 var List(2) a@22=1@54
-";
+= T@0 var List(2) a@22=1@54";
 
 #[test]
 fn refusals(rt: HostRuntime) {
@@ -108,9 +107,8 @@ const REFUSALS: &str = r#"
 = L1 at 37
 # network T() ==> : entities a = A(K = 1.5); structure end
 = L4 at 37
-# network T() ==> : entities aaaaaaaaaaaaaaaaaaaaaaaaaaaaaaaaaaaaaaaaaaaaaaaaaaaaaaaaaaaaaaaaaaaaaaaaaaaaaaaaaaaaaaaaaaaaaaaaaaaaaaaaaaaaaaaaaaaaaaaaaaaaaaaaaaaaaaaaaaaaaaaaaaaaaaaaaaaaaaaaaaaaaaaaaaaaaaaaaaaaaaaaaaaaaaaaaaaaaaaaaaaaaaaaaaaaaaaaaaaaaaaaaaaaaaaaaaaaaaaaaaaa = A(); structure end
-= Z11 at 27
-"#;
+# network T() ==> : entities aaaaaaaaaaaaaaaaaaaaaaaaaaaaaaaaaaaaaaaaaaaaaaaaaaaaaaaaaaaaaaaaaaaaaaaaaaaaaaaaaaaaaaaaaaaaaaaaaaaaaaaaaaaaaaaaaaaaaaaaaaaaaaaaaaaaaaaaaaaaaaaaaaaaaaaaaaaaaaaaaaaaaaaaaaaaaaaaaaaaaaaaaaaaaaaaaaaaaaaaaaaaaaaaaaaaaaaaaaaaaaaaaaaaaaaaaaaaaaaaaaaaaaaaaaaaaaaa = A(); structure end
+= Z11 at 27"#;
 
 #[test]
 fn canonical_texts(rt: HostRuntime) {
