@@ -4,3 +4,4 @@ pub mod Fits
 pub mod Cells
 pub mod Outside
 pub mod Runs
+pub mod Meeting

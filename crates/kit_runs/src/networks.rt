@@ -41,6 +41,8 @@ pub enum Net {
     Fork,
     /// Five actors in a row that add one.
     Five,
+    /// Three actors in a row that copy.
+    Three,
     /// An input that feeds two actors, with an output each: the lower one divides, the higher one does, or both do.
     LowTraps,
     HighTraps,
@@ -142,6 +144,13 @@ const FIVE: &[Row] = &[
     ((4, 0), (NET, 0), 512, BYTE),
 ];
 
+const THREE: &[Row] = &[
+    ((NET, 0), (0, 0), 512, BYTE),
+    ((0, 0), (1, 0), 512, BYTE),
+    ((1, 0), (2, 0), 512, BYTE),
+    ((2, 0), (NET, 0), 512, BYTE),
+];
+
 const ITSELF: &[Row] = &[((0, 0), (0, 0), 512, BYTE)];
 
 fn rows(named: Net) -> &'static [Row] {
@@ -158,6 +167,7 @@ fn rows(named: Net) -> &'static [Row] {
         Net::Blocks => BLOCKS,
         Net::Fork | Net::LowTraps | Net::HighTraps | Net::BothTrap => FORK,
         Net::Five => FIVE,
+        Net::Three => THREE,
         Net::Itself => ITSELF,
         Net::Empty => &[],
     }
@@ -184,6 +194,7 @@ fn names(named: Net) -> &'static [Sample] {
             Sample::Inc,
             Sample::Inc,
         ],
+        Net::Three => &[Sample::Copy, Sample::Copy, Sample::Copy],
         Net::LowTraps => &[Sample::Div, Sample::Copy],
         Net::HighTraps => &[Sample::Copy, Sample::Div],
         Net::BothTrap => &[Sample::Div, Sample::Div],
