@@ -1,4 +1,4 @@
 mod Drawing
-mod Arriving
+pub mod Arriving
 mod Closing
 mod Making

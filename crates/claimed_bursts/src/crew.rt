@@ -13,7 +13,7 @@ pub struct Crew {
 
 impl Crew {
     /// The lower and the higher half of the workers.
-    pub(crate) fn halves(self) -> (Crew, Crew)
+    pub fn halves(self) -> (Crew, Crew)
         requires some { 2 ≤ self.count }
         requires numbers { self.first + self.count < 2 ^ 32 }
         ensures low { result.0.count < self.count }

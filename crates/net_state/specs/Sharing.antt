@@ -9,7 +9,6 @@ use Rattle.net_model.specs.Cell.{AreRooms, Bursts, Cell, FitsQueues}
 use Rattle.net_model.specs.Limits.{max_instances}
 use Rattle.net_model.specs.Paced.{count_picked}
 use Rattle.net_state.specs.declared.made.Bursts.{Bursts as Made}
-use Rattle.net_state.specs.declared.sharing.Crew.{Crew}
 use Rattle.net_state.specs.declared.sharing.Part.{Part}
 use Rattle.net_state.specs.declared.sharing.Shares.{Shares}
 use Rattle.net_state.specs.Held.{Held}
@@ -37,10 +36,6 @@ pub record AreShares (shares : Shares) : Type 0 where
   pub most : shares.burst ≤ 65536
   pub enough : shares.picks ≤ shares.left
   pub few : shares.picks ≤ max_instances
-
--- each worker of a crew has arrived at the gate in its round
-abbrev pub HaveArrived : (arrived : ℕ → ℕ → Type 0) → Crew → Type 0
-HaveArrived arrived crew = (k : ℕ) → k < crew.count → arrived crew.round (crew.first + k)
 
 -- Parts of the cells.
 

@@ -3,12 +3,13 @@
 ghost use Rattle.std.specs.Prelude.{◌≡◌, ◌*◌, ◌+◌, ◌≤◌, ◌<◌, ◌^◌, [], length, map, vec_capacity, vec_items, vec_len, IfNone, IfSome};
 ghost use Rattle.std.specs.List.{All};
 ghost use Rattle.net_model.specs.Paced.{count_picked};
-ghost use Rattle.net_state.specs.Sharing.{AreShares, EachBursts, HaveArrived, IsPart, share_of};
+ghost use Rattle.claimed_bursts.specs.Crews.{HaveArrived};
+ghost use Rattle.net_state.specs.Sharing.{AreShares, EachBursts, IsPart, share_of};
 ghost use Rattle.net_state.specs.Claiming.{IsTaken, Nexts, back, made_all, made_with, merged, rest_of, tasks_of, whole};
 
 use crate::made::{Bursts, joined, made_by, none_made};
-use crate::sharing::{Crew, Part, Shares, burst_alone, burst_part};
-use claimed_bursts::{BurstTask, Crew as Claimers, burst_tasks};
+use crate::sharing::{Part, Shares, burst_alone, burst_part};
+use claimed_bursts::{BurstTask, Crew, burst_tasks};
 use net_model::Firing;
 use round_plan::split_budget;
 use rvc_base::InstId;
@@ -245,12 +246,7 @@ fn burst_claimed<R: Threads + Sync, A: Firing + Send, G: Gate>(
         return None
     };
     let (tasks, rest) = take_out(shares, cells, rooms, marks, tasks, rest);
-    let claimers = Claimers {
-        round: crew.round,
-        first: crew.first,
-        count: crew.count,
-    };
-    match burst_tasks(rt, gate, alloc, claimers, threads, tasks) {
+    match burst_tasks(rt, gate, alloc, crew, threads, tasks) {
         Ok(done) => {
             let made = made_of(&done);
             put_back(cells, marks, done, rest);

@@ -21,9 +21,10 @@ mod taking_back;
 mod waiting;
 mod working;
 
+pub use claimed_bursts::Crew;
 pub use filling::Filled;
 pub use laws::ready_networks_can_work;
 pub use made::{Bursts, Lacking, Trapped, joined, made_by};
 pub use network::NetState;
 pub use outlook::Outlook;
-pub use sharing::{Crew, Shares};
+pub use sharing::Shares;

@@ -4,25 +4,18 @@ ghost use Rattle.std.specs.Prelude.{◌≡◌, ◌*◌, ◌+◌, ◌≤◌, ◌<
 ghost use Rattle.std.specs.Thread.{IsSend, IsSync};
 ghost use Rattle.net_model.specs.Paced.{count_picked};
 ghost use Rattle.net_state.specs.Made.{joined as both_made};
-ghost use Rattle.net_state.specs.Sharing.{AreShares, EachBursts, HaveArrived, IsPart, MakesAt, share_of};
+ghost use Rattle.claimed_bursts.specs.Crews.{HaveArrived};
+ghost use Rattle.net_state.specs.Sharing.{AreShares, EachBursts, IsPart, MakesAt, share_of};
 ghost use Rattle.net_state.specs.Working.{HasRoomRow, MayBurst};
 
 use crate::made::{Bursts, joined, made_by, none_made};
 use crate::working::burst_at;
+use claimed_bursts::Crew;
 use net_model::Firing;
 use round_plan::split_budget;
 use rvc_base::InstId;
 use rvc_io::Gate;
 use std::thread::{Threads, join_mut};
-
-/// The workers that share the cells of a round: so many, whose numbers go on from `first`.
-#[derive(Clone, Copy, Debug, PartialEq, Eq)]
-pub struct Crew {
-    /// The number of the round, counted from 1.
-    pub round: u64,
-    pub first: u32,
-    pub count: u32,
-}
 
 /// How the firings that are left are shared by the marked cells of a round.
 #[derive(Clone, Copy, Debug, PartialEq, Eq)]
@@ -98,7 +91,7 @@ fn burst_halves<R: Threads + Sync, A: Firing + Send, G: Gate>(
     ensures few { result.1.fired + result.0.fired ≤ 65536 * count_picked marks.now }
     ensures arrived { HaveArrived (G.arrived gate.now) crew }
 {
-    let (low_crew, high_crew) = crew_halves(crew);
+    let (low_crew, high_crew) = crew.halves();
     let picks = picks_of(part.picks, low_crew.count, crew.count);
     let cut = place_behind(marks, picks);
     let (low_part, high_part) = part_halves(shares, part, picks, cut, cells, rooms, marks);
@@ -180,31 +173,6 @@ fn burst_both<R: Threads + Sync, A: Firing + Send, G: Gate>(
             )
         },
     )
-}
-
-/// The lower and the higher half of some workers.
-fn crew_halves(crew: Crew) -> (Crew, Crew)
-    requires some { 2 ≤ crew.count }
-    requires numbers { crew.first + crew.count < 2 ^ 32 }
-    ensures low { result.0.count < crew.count }
-    ensures high { result.1.count < crew.count }
-    ensures some { 1 ≤ result.0.count }
-    ensures some_high { 1 ≤ result.1.count }
-    ensures all { result.0.count + result.1.count ≡ crew.count }
-    ensures low_numbers { result.0.first + result.0.count < 2 ^ 32 }
-    ensures high_numbers { result.1.first + result.1.count < 2 ^ 32 }
-    ensures low_begins { result.0.first ≡ crew.first }
-    ensures high_begins { result.1.first ≡ crew.first + result.0.count }
-    ensures rounds { (result.0.round ≡ crew.round) × (result.1.round ≡ crew.round) }
-{
-    let count = crew.count / 2;
-    let low = Crew { count, ..crew };
-    let high = Crew {
-        first: crew.first + count,
-        count: crew.count - count,
-        ..crew
-    };
-    (low, high)
 }
 
 /// A part of the cells cut at a place, before which `picks` of them are marked.

@@ -3,7 +3,7 @@
 use Rattle.std.specs.Prelude.{◌≡◌, ◌⊎◌, ℕ, suc, ◌+◌, ◌-◌, ◌<◌, ◌≤◌, ◌==◌, Bool, length}
 use Rattle.rvc_base.specs.declared.round_kind.RoundKind.{RoundKind}
 use Rattle.net_model.specs.Paced.{count_picked}
-use Rattle.net_state.specs.Sharing.{HaveArrived}
+use Rattle.claimed_bursts.specs.Crews.{HaveArrived}
 use Rattle.round_runner.specs.declared.outcome.RoundEnd.{RoundEnd}
 use Rattle.round_runner.specs.declared.outcome.RoundEnd.TheVariants as round
 use Rattle.round_runner.specs.declared.outcome.RunEnd.TheVariants as end

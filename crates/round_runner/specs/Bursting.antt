@@ -15,7 +15,7 @@ use Rattle.net_state.specs.Working.{AreFed, HasAction, IsAtRest, LooksFed, journ
 use Rattle.net_state.specs.declared.made.Bursts.{Bursts}
 use Rattle.net_state.specs.declared.made.Lacking.{Lacking}
 use Rattle.net_state.specs.declared.made.Trapped.{Trapped}
-use Rattle.net_state.specs.declared.sharing.Crew.{Crew}
+use Rattle.claimed_bursts.specs.declared.crew.Crew.{Crew}
 use Rattle.net_model.specs.declared.firing.Look.TheVariants as look
 use Rattle.net_state.specs.Surveyed.{AreUntrapped, LacksFirst}
 

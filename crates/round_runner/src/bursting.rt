@@ -3,7 +3,8 @@
 ghost use Rattle.std.specs.Prelude.{◌≡◌, ◌≤◌, ◌<◌, ◌+◌, ◌^◌, length, map};
 ghost use Rattle.net_model.specs.Paced.{count_picked};
 ghost use Rattle.net_state.specs.Made.{first_of, lacking_by, trapped_by};
-ghost use Rattle.net_state.specs.Sharing.{AreFresh, AreShares, HaveArrived};
+ghost use Rattle.claimed_bursts.specs.Crews.{HaveArrived};
+ghost use Rattle.net_state.specs.Sharing.{AreFresh, AreShares};
 ghost use Rattle.round_runner.specs.Bursting.{BurstedBy, IdleBy, at_work};
 
 use crate::choosing::count_marks;

@@ -1,7 +1,7 @@
 use Rattle.std.proofs.Common.{rules, ◌*◌, ◌+◌, ◌≤◌, map, take, drop, vec_items, sym, ap, ◌∙◌}
 use Rattle.net_model.specs.Paced.{count_picked}
 use Rattle.net_state.specs.Sharing.{EachBursts, share_of}
-use Rattle.net_state.proofs.Arriving.{arrived_both}
+use Rattle.claimed_bursts.proofs.Arriving.{arrived_both}
 use Rattle.net_state.proofs.Shared.{both_few, both_halves}
 use Rattle.net_state.proofs.sharing.+shared.Goals as goal
 
@@ -23,5 +23,5 @@ burst_halves-returns-clause-few g t c =
 
 pub burst_halves-returns-clause-arrived : goal.burst_halves-returns-clause-arrived
 burst_halves-returns-clause-arrived g t c =
-    arrived_both (g.G.Gate.arrived c.args.gate.now) c.args.crew c.crew_halves.result.0 c.crew_halves.result.1 c.crew_halves.ensures.low_begins c.crew_halves.ensures.high_begins
-    c.crew_halves.ensures.rounds c.crew_halves.ensures.all c.burst_both.ensures.low_arrived c.burst_both.ensures.high_arrived
+    arrived_both (g.G.Gate.arrived c.args.gate.now) c.args.crew c.halves.result.0 c.halves.result.1 c.halves.ensures.low_begins c.halves.ensures.high_begins
+    c.halves.ensures.rounds c.halves.ensures.all c.burst_both.ensures.low_arrived c.burst_both.ensures.high_arrived

@@ -6,7 +6,7 @@ use Rattle.rvc_base.specs.Picks.{picks}
 use Rattle.net_model.specs.Paced.{count_picked, none_of}
 use Rattle.net_state.specs.Held.{seen}
 use Rattle.net_state.proofs.Coming.{by_bool}
-use Rattle.net_state.specs.Sharing.{HaveArrived}
+use Rattle.claimed_bursts.specs.Crews.{HaveArrived}
 use Rattle.round_runner.specs.Bursting.{Idle, at_work}
 use Rattle.round_runner.specs.Choosing.{marked}
 use Rattle.network_runner.specs.Closing.{GrowsBy}
