@@ -19,3 +19,4 @@ pub mod AllowedRoutines
 pub mod AllowedEntries
 pub mod Sizes
 pub mod Ready
+pub mod TakenBack

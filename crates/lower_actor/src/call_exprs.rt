@@ -38,7 +38,8 @@ fn add_call(
     args: &[Expr],
     at: u32,
 ) -> Result<(), AllocError>
-    ensures { AddsCalls result (tree.call name.now (exprs_tree args.now) at) b.now calls.old calls.new }
+    ensures { AddsCalls result (tree.call name.now (exprs_tree args.now) at) b.now
+        calls.old calls.new }
 {
     calls.add_function(b, name)?;
     add_exprs(b, calls, args)
@@ -47,7 +48,8 @@ fn add_call(
 /// Adds what is called in two expressions.
 #[cycle(calls_of)]
 fn add_two(b: &Bound, calls: &mut Calls, first: &Expr, second: &Expr) -> Result<(), AllocError>
-    ensures { AddsBy result (with_both (expr_tree first.now) (expr_tree second.now)) b.now calls.old calls.new }
+    ensures { AddsBy result (with_both (expr_tree first.now) (expr_tree second.now))
+        b.now calls.old calls.new }
 {
     add_expr(b, calls, first)?;
     add_expr(b, calls, second)
@@ -73,7 +75,8 @@ fn add_three(
 /// Adds what is called in a comprehension.
 #[cycle(calls_of)]
 fn add_comp(b: &Bound, calls: &mut Calls, item: &Expr, gens: &[Gen]) -> Result<(), AllocError>
-    ensures { AddsBy result (with_both (expr_tree item.now) (gens_tree gens.now)) b.now calls.old calls.new }
+    ensures { AddsBy result (with_both (expr_tree item.now) (gens_tree gens.now))
+        b.now calls.old calls.new }
 {
     add_expr(b, calls, item)?;
     add_gens(b, calls, gens)

@@ -39,7 +39,8 @@ fn add_assign(
     value: &Expr,
     at: u32,
 ) -> Result<(), AllocError>
-    ensures { AddsCalls result (assign_tree name.now places.now value.now at) b.now calls.old calls.new }
+    ensures { AddsCalls result (assign_tree name.now places.now value.now at)
+        b.now calls.old calls.new }
 {
     add_exprs(b, calls, places)?;
     add_expr(b, calls, value)

@@ -148,7 +148,8 @@ fn add_starts(b: &Bound, calls: &mut Calls, locals: &[BoundLocal]) -> Result<(),
 
 /// Adds what a start calls, which may be missing.
 fn add_start(b: &Bound, calls: &mut Calls, start: &Option<Expr>) -> Result<(), AllocError>
-    ensures { OnOk result (calls.new ≡ with_start b.now (option_map expr_tree start.now) calls.old) }
+    ensures { OnOk result
+        (calls.new ≡ with_start b.now (option_map expr_tree start.now) calls.old) }
 {
     match start {
         Some(e) => add_expr(b, calls, e),

@@ -1,9 +1,8 @@
 //! The firing of an action as code, with cells that are cleared before it if that is needed.
 
-ghost use Rattle.std.specs.Prelude.{◌≡◌, ◌<◌, ◌≤◌, IfErr, IfOk, None, OnOk, length, true};
+ghost use Rattle.std.specs.Prelude.{◌≡◌, ◌<◌, IfErr, IfOk, None, OnOk, length, take, true};
 ghost use Rattle.cal_model.specs.Sound.{IsSound};
 ghost use Rattle.cal_model.specs.View.{actor_of};
-ghost use Rattle.lower_base.specs.declared.fault.LowerFault.TheVariants.{Memory};
 ghost use Rattle.lower_base.specs.Callees.{functions_view};
 ghost use Rattle.lower_stmt.specs.Procedures.{routines_of};
 ghost use Rattle.action_lower.specs.FiringWords.{IsFiringFaultAt, left_out_of};
@@ -49,11 +48,27 @@ pub(crate) fn put_firing(
     if clear {
         return put_cleared(alloc, b, callees, procedures, kept, action, draft);
     }
-    let fills = may_fill(alloc, b, callees, procedures, kept, action, draft)?;
-    if fills {
+    if routines_fill(draft, kept) {
         return put_cleared(alloc, b, callees, procedures, kept, action, draft);
     }
-    put_plain(alloc, b, callees, procedures, action, draft)
+    let from = draft.instrs.len();
+    let cells = draft.cells;
+    let firing = put_plain(alloc, b, callees, procedures, action, draft)?;
+    if !fills_from(draft, from, kept) {
+        return Ok(firing);
+    }
+    take_back(draft, from, cells);
+    put_cleared(alloc, b, callees, procedures, kept, action, draft)
+}
+
+/// Takes the instructions from a place on away again, with their cells.
+fn take_back(draft: &mut Draft, from: usize, cells: u32)
+    ensures instrs { draft.new.instrs.items ≡ take from draft.old.instrs.items }
+    ensures routines { draft.new.routines.items ≡ draft.old.routines.items }
+    ensures cells { draft.new.cells ≡ cells }
+{
+    draft.instrs.truncate(from);
+    draft.cells = cells;
 }
 
 /// Appends it as it is.
@@ -112,42 +127,10 @@ fn put_cleared(
     })
 }
 
-/// Whether the firing of an action, or a routine, may fill a list item by item in cells behind the state cells.
-fn may_fill(
-    alloc: Global,
-    b: &Bound,
-    callees: &[Callee],
-    procedures: &[ProcCallee],
-    kept: u32,
-    action: u16,
-    draft: &Draft,
-) -> Result<bool, LowerFault>
-    requires sound { IsSound (actor_of b.now) }
-    requires action { action < length b.now.actions.items }
-    requires cells { state_cells (actor_of b.now) ≤ draft.now.cells }
-    ensures memory { IfErr result (λ fault. fault ≡ Memory) }
-{
-    if routines_fill(draft, kept) {
-        return Ok(true);
-    }
-    let mut trial = Draft {
-        instrs: Vec::new(alloc),
-        routines: Vec::new(alloc),
-        cells: draft.cells,
-    };
-    match lower_firing(alloc, b, action, callees, procedures, &mut trial) {
-        Ok(_firing) => Ok(fill(&trial.instrs, kept)),
-        Err(LowerFault::Memory) => Err(LowerFault::Memory),
-        Err(LowerFault::TooLong) => Ok(false),
-        Err(LowerFault::TooManyCells) => Ok(false),
-        Err(LowerFault::NotLowered { at: _ }) => Ok(false),
-    }
-}
-
-/// Whether one of these instructions fills cells behind the state cells item by item.
-fn fill(instrs: &[Instr], kept: u32) -> bool {
-    for instr in instrs {
-        if fills(instr, kept) {
+/// Whether one of the instructions from a place on fills cells behind the state cells item by item.
+fn fills_from(draft: &Draft, from: usize, kept: u32) -> bool {
+    for place in from..draft.instrs.len() {
+        if fills(&draft.instrs[place], kept) {
             return true;
         }
     }

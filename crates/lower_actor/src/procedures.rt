@@ -73,7 +73,8 @@ fn lower_these(
     requires sound { IsSound (actor_of b.now) }
     requires names { names_view names.now ≡ globals_of (actor_of b.now) }
     requires have { HaveRoutines b.now callees.now }
-    requires so_far { MadeProcedures b.now callees.now procedures.old.items made.old.items draft.old }
+    requires so_far { MadeProcedures b.now callees.now procedures.old.items made.old.items
+        draft.old }
     ensures so_far { OnOk result
         (MadeProcedures b.now callees.now procedures.new.items made.new.items draft.new) }
     ensures fault { IfErr result OnlyMemory }
@@ -100,7 +101,8 @@ fn lower_ready(
     requires sound { IsSound (actor_of b.now) }
     requires names { names_view names.now ≡ globals_of (actor_of b.now) }
     requires have { HaveRoutines b.now callees.now }
-    requires so_far { MadeProcedures b.now callees.now procedures.old.items made.old.items draft.old }
+    requires so_far { MadeProcedures b.now callees.now procedures.old.items made.old.items
+        draft.old }
     ensures so_far { OnOk result
         (MadeProcedures b.now callees.now procedures.new.items made.new.items draft.new) }
     ensures fault { IfErr result OnlyMemory }
@@ -126,7 +128,8 @@ fn lower_left(
     requires sound { IsSound (actor_of b.now) }
     requires names { names_view names.now ≡ globals_of (actor_of b.now) }
     requires have { HaveRoutines b.now callees.now }
-    requires so_far { MadeProcedures b.now callees.now procedures.old.items made.old.items draft.old }
+    requires so_far { MadeProcedures b.now callees.now procedures.old.items made.old.items
+        draft.old }
     ensures so_far { OnOk result
         (MadeProcedures b.now callees.now procedures.new.items made.new.items draft.new) }
     ensures none { OnOk result (NoProcedureLeft b.now made.new.items) }
@@ -216,7 +219,8 @@ fn lower_at(
     requires sound { IsSound (actor_of b.now) }
     requires names { names_view names.now ≡ globals_of (actor_of b.now) }
     requires have { HaveRoutines b.now callees.now }
-    requires so_far { MadeProcedures b.now callees.now procedures.old.items made.old.items draft.old }
+    requires so_far { MadeProcedures b.now callees.now procedures.old.items made.old.items
+        draft.old }
     requires ready { IsReadyProc b.now callees.now procedures.old.items made.old.items k }
     ensures so_far { OnOk result
         (MadeProcedures b.now callees.now procedures.new.items made.new.items draft.new) }
